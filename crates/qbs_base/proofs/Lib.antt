@@ -1,0 +1,6 @@
+pub mod Lawful
+pub mod Mapped
+pub mod Moves
+pub mod Order
+pub mod Scalars
+pub mod Then

@@ -1,0 +1,12 @@
+pub mod Folded
+pub mod Held
+pub mod Laws
+pub mod Memory
+pub mod Named
+pub mod Outside
+pub mod Room
+pub mod Scalar
+pub mod Sort
+pub mod Status
+pub mod Tables
+pub mod Values
