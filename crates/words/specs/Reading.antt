@@ -1,0 +1,179 @@
+-- Reading words from left to right.
+use Rattle.std.specs.Prelude.{◌≡◌, ◌↔◌, ℕ, nat_le, List, [], ◌∷◌, true, codes, ◌&&◌, if◌then◌else◌, length, take, drop}
+use Rattle.std.proofs.Common.{Bor}
+use Rattle.std.specs.Fmt.{decimal}
+use Rattle.std.specs.Str.{bytes_eq}
+use Rattle.std.specs.Str.Parse.{digits_value}
+use Rattle.std.specs.declared.option.Option.{Option}
+use Rattle.std.specs.declared.option.Option.TheVariants.{Some, None}
+use Rattle.words.specs.declared.command.Command.{Command}
+use Rattle.words.specs.declared.command.Command.TheVariants as commands
+use Rattle.words.specs.declared.command.Key.{Key}
+use Rattle.words.specs.declared.command.Key.TheVariants.{Size, Candidates, Turns, Rewritten, Store}
+use Rattle.words.specs.declared.command.Options.{Options}
+use Rattle.words.specs.declared.command.Verb.{Verb}
+use Rattle.words.specs.declared.command.Verb.TheVariants.{Rewrite, Prove, Check, Run, Sql, Make, Unnest, Inline, Gather}
+use Rattle.words.specs.declared.read.Spelling.{Spelling}
+use Rattle.words.specs.declared.read.Spelling.TheVariants as spellings
+use Rattle.words.specs.Options.{takes, unset}
+use Rattle.words.specs.Plain.{all_bare, HasWords}
+
+-- the command of a word
+abbrev pub verb_of : List ℕ → Option Verb
+verb_of w =
+    if bytes_eq w (codes "rewrite") then Some Rewrite
+    else (if bytes_eq w (codes "prove") then Some Prove
+    else (if bytes_eq w (codes "check") then Some Check
+    else (if bytes_eq w (codes "run") then Some Run
+    else (if bytes_eq w (codes "sql") then Some Sql
+    else (if bytes_eq w (codes "make") then Some Make
+    else (if bytes_eq w (codes "unnest") then Some Unnest
+    else (if bytes_eq w (codes "inline") then Some Inline
+    else (if bytes_eq w (codes "gather") then Some Gather
+    else None))))))))
+
+-- what stands behind a prefix
+abbrev pub behind : List ℕ → List ℕ → Option (List ℕ)
+behind prefix w = if bytes_eq (take (length prefix) w) prefix then Some (drop (length prefix) w) else None
+
+-- how a word spells an option
+pub data Spelled : Type 0 where
+  Flag : Spelled
+  Next : Key → Spelled
+  Same : Key → List ℕ → Spelled
+  Other : Spelled
+
+abbrev pub value_or : Key → Option (List ℕ) → Spelled → Spelled
+value_or k (Some v) rest = Same k v
+value_or k None rest = rest
+
+-- with the value behind `=`
+abbrev pub spelled_within : List ℕ → Spelled
+spelled_within w =
+    value_or Size (behind (codes "--size=") w)
+    (value_or Candidates (behind (codes "--candidates=") w)
+    (value_or Turns (behind (codes "--turns=") w)
+    (value_or Store (behind (codes "--store=") w) Other)))
+
+abbrev pub spelled : List ℕ → Spelled
+spelled w =
+    if bytes_eq w (codes "--rewritten") then Flag
+    else (if bytes_eq w (codes "--size") then Next Size
+    else (if bytes_eq w (codes "--candidates") then Next Candidates
+    else (if bytes_eq w (codes "--turns") then Next Turns
+    else (if bytes_eq w (codes "--store") then Next Store
+    else spelled_within w))))
+
+-- what the code's spelling is
+abbrev pub spelling : Spelling → Spelled
+spelling spellings.Flag = Flag
+spelling (spellings.Next k) = Next k
+spelling (spellings.Same k v) = Same k v.now
+spelling spellings.Other = Other
+
+-- the number that a word is the decimal digits of, within a range
+abbrev pub within : ℕ → ℕ → ℕ → List ℕ → Option ℕ
+within n low high w = if nat_le low n && nat_le n high && bytes_eq w (decimal n) then Some n else None
+
+abbrev pub number_within : ℕ → ℕ → List ℕ → Option ℕ
+number_within low high w = within (digits_value 10 w) low high w
+
+abbrev pub set_number : Option ℕ → Option ℕ → (ℕ → Options) → Option Options
+set_number None (Some n) make = Some (make n)
+set_number None None make = None
+set_number (Some held) n make = None
+
+abbrev pub set_text : Option (List ℕ) → Options → Option Options
+set_text None o = Some o
+set_text (Some held) o = None
+
+-- the options with one more, where it isn't set yet and its value is one
+abbrev pub set : Key → List ℕ → Options → Option Options
+set Size v o = set_number o.size (number_within 0 8 v) (λ n. record o { size = Some n })
+set Candidates v o = set_number o.candidates (number_within 1 1000000 v) (λ n. record o { candidates = Some n })
+set Turns v o = set_number o.turns (number_within 1 100000000 v) (λ n. record o { turns = Some n })
+set Rewritten [] o = if o.rewritten then None else Some (record o { rewritten = true })
+set Rewritten (b ∷ bs) o = None
+set Store v o = set_text o.store (record o { store = Some v })
+
+abbrev pub set_for : Verb → Key → List ℕ → Options → Option Options
+set_for verb k v o = if takes verb k then set k v o else None
+
+-- goes on with the options, where there are any
+abbrev pub with : {A B : Type 0} → Option A → (A → Option B) → Option B
+with None f = None
+with (Some x) f = f x
+
+-- the options at the front, and the words after them
+unfoldable mutual
+  pub options_of : Verb → List (List ℕ) → Options → Option (Options × List (List ℕ))
+  options_of verb [] o = Some (o, [])
+  options_of verb (w ∷ ws) o =
+      elim (spelled w) [
+        | Flag ↦ with (set_for verb Rewritten [] o) (λ p. options_of verb ws p)
+        | Next k ↦ value_then verb k ws o
+        | Same k v ↦ with (set_for verb k v o) (λ p. options_of verb ws p)
+        | Other ↦ Some (o, w ∷ ws)
+      ]
+
+  -- the value of an option in the next word
+  pub value_then : Verb → Key → List (List ℕ) → Options → Option (Options × List (List ℕ))
+  value_then verb k [] o = None
+  value_then verb k (v ∷ vs) o = with (set_for verb k v o) (λ p. options_of verb vs p)
+
+-- what the code's options and words are
+abbrev pub seen : Option (Options × Bor (List (List ℕ))) → Option (Options × List (List ℕ))
+seen None = None
+seen (Some r) = Some (r.0, r.1.now)
+
+-- the other words
+abbrev pub others_of : List (List ℕ) → Option (List (List ℕ))
+others_of [] = Some []
+others_of (w ∷ ws) = if bytes_eq w (codes "--") then Some ws else (if all_bare (w ∷ ws) then Some (w ∷ ws) else None)
+
+abbrev pub made : Option ℕ → Option Command
+made None = None
+made (Some n) = Some (commands.Make n)
+
+abbrev pub two_names : List (List ℕ) → (List ℕ → List ℕ → Command) → Option Command
+two_names (s ∷ p ∷ []) make = Some (make s p)
+two_names _ make = None
+
+abbrev pub three_names : List (List ℕ) → (List ℕ → List ℕ → List ℕ → Command) → Option Command
+three_names (s ∷ p ∷ b ∷ []) make = Some (make s p b)
+three_names _ make = None
+
+abbrev pub run_names : List (List ℕ) → Options → Option Command
+run_names (s ∷ p ∷ d ∷ m ∷ args) o = Some (commands.Run o s p d m args)
+run_names _ o = None
+
+abbrev pub make_names : List (List ℕ) → Option Command
+make_names (w ∷ []) = made (number_within 1 100000 w)
+make_names _ = None
+
+-- the command with its names
+abbrev pub command_of : Verb → Options → List (List ℕ) → Option Command
+command_of Rewrite o names = two_names names (commands.Rewrite o)
+command_of Prove o names = two_names names (commands.Prove o)
+command_of Check o names = three_names names commands.Check
+command_of Run o names = run_names names o
+command_of Sql o names = three_names names commands.Sql
+command_of Make o names = make_names names
+command_of Unnest o names = two_names names (commands.Unnest o)
+command_of Inline o names = two_names names commands.Inline
+command_of Gather o names = two_names names (commands.Gather o)
+
+-- the command of a verb with the words after it
+abbrev pub command_with : Verb → List (List ℕ) → Option Command
+command_with verb ws =
+    with (options_of verb ws unset) (λ r.
+    with (others_of r.1) (λ names. command_of verb r.0 names))
+
+-- the command of plain words
+abbrev pub plain : List (List ℕ) → Option Command
+plain [] = None
+plain (w ∷ ws) = with (verb_of w) (λ verb. command_with verb ws)
+
+-- reading finds exactly the command of plain words
+abbrev pub ReadsPlainWords : Type 0
+ReadsPlainWords = (ws : List (List ℕ)) (c : Command) → (plain ws ≡ Some c ↔ HasWords ws c)

@@ -1,0 +1,92 @@
+// Commands, and what their options set.
+use qbs_base::{Text, Words};
+
+/// The word that a command begins with.
+#[derive(Clone, Copy, Debug, PartialEq, Eq)]
+pub enum Verb {
+    Rewrite,
+    Prove,
+    Check,
+    Run,
+    Sql,
+    Make,
+    Unnest,
+    Inline,
+    Gather,
+}
+
+/// An option.
+#[derive(Clone, Copy, Debug, PartialEq, Eq)]
+pub enum Key {
+    /// `--size N`, from 0 to 8.
+    Size,
+    /// `--candidates N`, from 1 to 1000000.
+    Candidates,
+    /// `--turns N`, from 1 to 100000000.
+    Turns,
+    /// `--rewritten`, which has no value.
+    Rewritten,
+    /// `--store FILE`.
+    Store,
+}
+
+/// What the options set. Each is set once at most.
+#[derive(Clone, Debug, Drop)]
+pub struct Options {
+    pub size: Option<u64>,
+    pub candidates: Option<u64>,
+    pub turns: Option<u64>,
+    pub rewritten: bool,
+    pub store: Option<Text>,
+}
+
+/// A command and what it names. Texts are names of files and folders as they were given.
+#[derive(Debug, Drop)]
+pub enum Command {
+    Rewrite {
+        options: Options,
+        schema: Text,
+        source: Text,
+    },
+    Prove {
+        options: Options,
+        schema: Text,
+        source: Text,
+    },
+    Check {
+        schema: Text,
+        source: Text,
+        bundle: Text,
+    },
+    Run {
+        options: Options,
+        schema: Text,
+        source: Text,
+        folder: Text,
+        method: Text,
+        arguments: Words,
+    },
+    Sql {
+        schema: Text,
+        folder: Text,
+        query: Text,
+    },
+    /// From 1 to 100000.
+    Make {
+        count: u64,
+    },
+    Unnest {
+        options: Options,
+        schema: Text,
+        source: Text,
+    },
+    Inline {
+        schema: Text,
+        source: Text,
+    },
+    Gather {
+        options: Options,
+        schema: Text,
+        source: Text,
+    },
+}

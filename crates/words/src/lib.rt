@@ -1,0 +1,11 @@
+//! The words of a command line.
+#![tactic(auto)]
+
+mod command;
+mod read;
+
+pub use command::{Command, Key, Options, Verb};
+pub use read::read_words;
+
+#[cfg(test)]
+mod tests;
