@@ -1,6 +1,6 @@
 -- The lists inside a tree are the lists of its vectors.
 use Rattle.std.specs.Prelude.{Vec}
-use Rattle.std.proofs.Common.{◌≡◌, List, [], ◌∷◌, refl, ap, ◌∙◌}
+use Rattle.std.proofs.Common.{◌≡◌, refl, ap, ◌∙◌}
 use Rattle.std.specs.declared.alloc.Global.{Global}
 use Rattle.java_ast.specs.declared.tree.Expr.{Expr}
 use Rattle.java_ast.specs.declared.tree.ExprNode.{Row_of-Expr, end_of-Expr, more_of-Expr, items-the_row-Expr, items_hidden-the_row-Expr-0}
@@ -24,3 +24,5 @@ statements_row (more_of-Stmt at node rest) = ap (Then (node_statement node at)) 
 
 pub statements_hidden : (v : Vec Stmt Global) → row_statements (hidden-the_row-Stmt-0 v) ≡ statements v.items
 statements_hidden v = statements_row (hidden-the_row-Stmt-0 v) ∙ ap statements (items_hidden-the_row-Stmt-0 v)
+
+pub ruleset rows = (expressions_hidden, statements_hidden)

@@ -1,2 +1,3 @@
+pub mod Canonical
 pub mod Reading
 pub mod Tree

@@ -1,6 +1,5 @@
 -- The plain tree of each tree of the code.
-use Rattle.std.specs.Prelude.{ℕ, List, [], ◌∷◌, map}
-use Rattle.std.specs.declared.option.Option.{Option}
+use Rattle.std.specs.Prelude.{List, [], ◌∷◌, map}
 use Rattle.std.specs.Option.{option_map}
 use Rattle.qbs_base.specs.declared.span.Span.{Span}
 use Rattle.java_ast.specs.declared.tree.JTy.{JTy}

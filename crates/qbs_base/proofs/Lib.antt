@@ -1,3 +1,4 @@
+pub mod Escapes
 pub mod Lawful
 pub mod Mapped
 pub mod Moves

@@ -1,9 +1,11 @@
 pub mod Folded
 pub mod Held
 pub mod Laws
+pub mod Literal
 pub mod Memory
 pub mod Named
 pub mod Outside
+pub mod Printed
 pub mod Room
 pub mod Scalar
 pub mod Sort

@@ -5,10 +5,11 @@ ghost use Rattle.qbs_base.specs.Named.{at_name};
 ghost use Rattle.qbs_base.specs.Tables.{NamedRows, with_row};
 
 use crate::named::find_name;
-use crate::{NoMemory, Row, Rows, Text};
+use crate::{Name, NoMemory, Row, Rows, Text};
 use std::alloc::Global;
 use std::marker::Model;
 
+/// A database: its tables by number, each with its name and its rows.
 #[derive(Drop)]
 pub struct Db {
     alloc: Global,
@@ -22,6 +23,7 @@ impl Model for Db {
 }
 
 impl Db {
+    /// No tables. It takes no memory.
     pub fn new(alloc: Global) -> Db
         ensures { result ≡ [] }
     {
@@ -31,7 +33,8 @@ impl Db {
         }
     }
 
-    pub fn add_table(&mut self, name: Text) -> Result<u32, NoMemory>
+    /// Adds an empty table, and answers its number.
+    pub fn add_table(&mut self, name: Name) -> Result<u32, NoMemory>
         requires fresh { at_name self.old name ≡ None }
         requires few { length self.old < 2 ^ 32 - 1 }
         ensures number { IfOk result (λ n. n ≡ length self.old) }
@@ -43,6 +46,7 @@ impl Db {
         Ok(number)
     }
 
+    /// Appends a row to the table with that number.
     pub fn put_row(&mut self, table: u32, row: Row) -> Result<(), NoMemory>
         requires { table < length self.old }
         ensures ok { OnOk result (self.new ≡ with_row self.old table row) }
@@ -53,17 +57,29 @@ impl Db {
         Ok(())
     }
 
-    pub fn table(&self, name: &Text) -> Option<&Rows>
+    /// The rows of the table with that name. It takes no memory.
+    pub fn table(&self, name: &Name) -> Option<&Rows>
         ensures { option_copied result ≡ at_name self.now name.now }
     {
         find_name(&self.tables, name)
     }
 
+    /// The rows of the table with that number. It takes no memory.
     pub fn rows(&self, table: u32) -> Option<&Rows>
         ensures { option_copied result ≡ option_map (λ t. t.1) (slice_get self.now table) }
     {
         match self.tables.get(table as usize) {
             Some(place) => Some(&place.1),
+            None => None,
+        }
+    }
+
+    /// The name of the table with that number. It takes no memory.
+    pub fn name(&self, table: u32) -> Option<&Name>
+        ensures { option_copied result ≡ option_map (λ t. t.0) (slice_get self.now table) }
+    {
+        match self.tables.get(table as usize) {
+            Some(place) => Some(&place.0),
             None => None,
         }
     }

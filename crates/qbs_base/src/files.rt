@@ -148,6 +148,14 @@ impl CleanFiles {
             files: Vec::new(alloc),
         }
     }
+
+    /// Holds these bytes under that name, in place of those that it held there.
+    pub fn put(&mut self, name: Text, bytes: Bytes) -> Result<(), NoMemory>
+        ensures ok { OnOk result (self.new ≡ with_name self.old name bytes) }
+        ensures err { OnErr result (self.new ≡ self.old) }
+    {
+        put_entry(&mut self.files, name, bytes)
+    }
 }
 
 impl Files for CleanFiles {

@@ -1,2 +1,17 @@
+pub mod Answers
+pub mod Canonical
+pub mod Grammar
+pub mod Grouped
+pub mod Keys
+pub mod Lexer
+pub mod Meaning
+pub mod Names
+pub mod Reader
 pub mod Reading
+pub mod Texts
+pub mod Tokens
 pub mod Tree
+pub mod Typing
+pub mod Valid
+pub mod Worked
+pub mod Written

@@ -1,0 +1,13 @@
+pub mod Ascii
+pub mod Bodies
+pub mod Cut
+pub mod Ended
+pub mod Lengths
+pub mod Local
+pub mod Numerals
+pub mod Pieced
+pub mod Replaced
+pub mod Rows
+pub mod Spanned
+pub mod Steps
+pub mod Utf8

@@ -1,0 +1,9 @@
+pub mod Bytes
+pub mod Places
+pub mod Pieces
+pub mod Fits
+pub mod Seen
+pub mod Lexing
+pub mod Kept
+pub mod Cutting
+pub mod Spans

@@ -1,0 +1,160 @@
+// Kinds of bytes, and how far they go.
+ghost use Rattle.std.specs.Prelude.{◌≡◌, ◌≤◌, length, take, true};
+ghost use Rattle.std.specs.List.{prefix_len};
+ghost use Rattle.std.specs.Str.{IsAscii, all_ascii_digits};
+ghost use Rattle.java_lex.specs.Bytes.{is_white as is_white_byte, is_digit as is_digit_byte, is_name_start as is_name_start_byte, is_name_part as is_name_part_byte, is_in_line as is_in_line_byte, ends_line as ends_line_byte, is_plain as is_plain_byte, is_sign as is_sign_byte, is_long_sign as is_long_sign_byte, escape_of as escape_of_byte, begins_with as begins_with_byte};
+ghost use Rattle.java_lex.specs.Pieces.{digits_len as digits_len_of, sign_len as sign_len_of};
+
+pub fn is_white(byte: u8) -> bool
+    ensures { result ≡ is_white_byte byte }
+{
+    byte == b' ' || byte == b'\t' || byte == b'\r' || byte == b'\n'
+}
+
+pub fn is_digit(byte: u8) -> bool
+    ensures { result ≡ is_digit_byte byte }
+{
+    b'0' <= byte && byte <= b'9'
+}
+
+pub fn is_name_start(byte: u8) -> bool
+    ensures { result ≡ is_name_start_byte byte }
+{
+    (b'A' <= byte && byte <= b'Z') || (b'a' <= byte && byte <= b'z') || byte == b'_'
+}
+
+fn is_name_part(byte: u8) -> bool
+    ensures { result ≡ is_name_part_byte byte }
+{
+    is_name_start(byte) || is_digit(byte)
+}
+
+fn is_in_line(byte: u8) -> bool
+    ensures { result ≡ is_in_line_byte byte }
+{
+    byte != b'\n'
+}
+
+pub fn ends_line(byte: u8) -> bool
+    ensures { result ≡ ends_line_byte byte }
+{
+    byte == b'\n' || byte == b'\r'
+}
+
+fn is_plain(byte: u8) -> bool
+    ensures { result ≡ is_plain_byte byte }
+{
+    !(byte == b'"' || ends_line(byte) || byte == b'\\')
+}
+
+/// What a backslash and this byte stand for.
+pub fn escape_of(byte: u8) -> Option<u8>
+    ensures { result ≡ escape_of_byte byte }
+{
+    match byte {
+        b'"' => Some(b'"'),
+        b'\\' => Some(b'\\'),
+        b'\'' => Some(b'\''),
+        b'n' => Some(b'\n'),
+        b'r' => Some(b'\r'),
+        b't' => Some(b'\t'),
+        _ => None,
+    }
+}
+
+pub fn begins_with(byte: u8, bytes: &[u8]) -> bool
+    ensures { result ≡ begins_with_byte byte bytes.now }
+{
+    match bytes {
+        [] => false,
+        [first, ..] => *first == byte,
+    }
+}
+
+#[tactic(auto, using(crate::proofs::Ascii::name_is_ascii))]
+pub fn name_len(bytes: &[u8]) -> usize
+    ensures value { result ≡ prefix_len is_name_part_byte bytes.now }
+    ensures within { result ≤ length bytes.now }
+    ensures ascii { IsAscii (take result bytes.now) }
+{
+    bytes.iter().take_while(|b| is_name_part(**b)).count()
+}
+
+fn digit_run_len(bytes: &[u8]) -> usize
+    ensures { result ≡ prefix_len is_digit_byte bytes.now }
+{
+    bytes.iter().take_while(|b| is_digit(**b)).count()
+}
+
+/// How many bytes of digits an integer begins with: a zero stands alone.
+#[tactic(auto, using(crate::proofs::Numerals::digits_front, crate::proofs::Numerals::digits_ascii, crate::proofs::Numerals::digits_len_le))]
+pub fn digits_len(bytes: &[u8]) -> usize
+    ensures value { result ≡ digits_len_of bytes.now }
+    ensures within { result ≤ length bytes.now }
+    ensures ascii { IsAscii (take result bytes.now) }
+    ensures digits { all_ascii_digits (take result bytes.now) ≡ true }
+{
+    if begins_with(b'0', bytes) {
+        1
+    } else {
+        digit_run_len(bytes)
+    }
+}
+
+pub fn line_len(bytes: &[u8]) -> usize
+    ensures value { result ≡ prefix_len is_in_line_byte bytes.now }
+    ensures within { result ≤ length bytes.now }
+{
+    bytes.iter().take_while(|b| is_in_line(**b)).count()
+}
+
+pub fn plain_len(bytes: &[u8]) -> usize
+    ensures value { result ≡ prefix_len is_plain_byte bytes.now }
+    ensures within { result ≤ length bytes.now }
+{
+    bytes.iter().take_while(|b| is_plain(**b)).count()
+}
+
+fn is_sign(byte: u8) -> bool
+    ensures { result ≡ is_sign_byte byte }
+{
+    byte == b'{'
+        || byte == b'}'
+        || byte == b'('
+        || byte == b')'
+        || byte == b';'
+        || byte == b','
+        || byte == b'.'
+        || byte == b'<'
+        || byte == b'>'
+        || byte == b'='
+        || byte == b'+'
+        || byte == b'-'
+        || byte == b'*'
+        || byte == b'!'
+        || byte == b':'
+}
+
+fn is_long_sign(first: u8, second: u8) -> bool
+    ensures { result ≡ is_long_sign_byte first second }
+{
+    (first == b'-' && second == b'>')
+        || (first == b'+' && (second == b'+' || second == b'='))
+        || ((first == b'=' || first == b'!' || first == b'<' || first == b'>') && second == b'=')
+        || (first == b'&' && second == b'&')
+        || (first == b'|' && second == b'|')
+}
+
+/// How many bytes the longest sign at the front has, 0 where there is none.
+#[tactic(auto, using(crate::proofs::Ascii::sign_is_ascii, crate::proofs::Lengths::sign_len_le))]
+pub fn sign_len(bytes: &[u8]) -> usize
+    ensures value { result ≡ sign_len_of bytes.now }
+    ensures within { result ≤ length bytes.now }
+    ensures ascii { IsAscii (take result bytes.now) }
+{
+    match bytes {
+        [first, second, ..] if is_long_sign(*first, *second) => 2,
+        [first, ..] if is_sign(*first) => 1,
+        _ => 0,
+    }
+}

@@ -1,0 +1,16 @@
+pub mod Alike
+pub mod Answered
+pub mod Collected
+pub mod First
+pub mod Further
+pub mod Kept
+pub mod Members
+pub mod Numbered
+pub mod Puts
+pub mod Replaced
+pub mod Selected
+pub mod Shown
+pub mod Simulates
+pub mod TextReader
+pub mod TypedRuns
+pub mod TypedValues

@@ -1,0 +1,15 @@
+pub mod Asked
+pub mod Asks
+pub mod Endings
+pub mod Expression
+pub mod FirstForm
+pub mod Keeps
+pub mod Outcome
+pub mod Queries
+pub mod Refines
+pub mod Statement
+pub mod Store
+pub mod Types
+pub mod Typing
+pub mod Worked
+pub mod World

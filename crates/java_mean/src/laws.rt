@@ -1,0 +1,73 @@
+//! Laws of what programs do, for the crates above. They do nothing.
+ghost use Rattle.std.specs.Prelude.{◌≡◌, ◌≢◌, ℕ, ℤ, ◌+◌, List, ◌∷◌, ◌++◌, Option};
+ghost use Rattle.qbs_base.specs.declared.span.Span.{Span};
+ghost use Rattle.qbs_base.specs.declared.scalar.Scalar.{Scalar};
+ghost use Rattle.qbs_base.specs.declared.scalar.Value.{Value};
+ghost use Rattle.qbs_base.specs.Values.{Schema, Database, IsDatabaseOf};
+ghost use Rattle.java_ast.specs.Tree.{PlainMethod, PlainProgram, Statements};
+ghost use Rattle.sql_ast.specs.Tree.{PlainQuery};
+ghost use Rattle.java_mean.specs.Asks.{frame_of};
+ghost use Rattle.java_mean.specs.declared.ending.RunFault.{RunFault};
+ghost use Rattle.java_mean.specs.World.{World};
+ghost use Rattle.java_mean.specs.Outcome.{Outcome, Done, Faulted, Stuck, outcome, world_with};
+ghost use Rattle.java_mean.specs.Types.{Types, types_of_params, AreArguments};
+ghost use Rattle.java_mean.specs.Typing.{Frame, IsWorld, TypedStatements};
+ghost use Rattle.java_mean.specs.Refines.{Hole, fill, MayReplace, IsResult};
+ghost use Rattle.java_mean.specs.Queries.{HasQuery, Reader};
+ghost use Rattle.java_mean.specs.Keeps.{Keeps, IsDoneAlike, with_body, with_methods};
+ghost use Rattle.java_mean.specs.FirstForm.{FormPlaces, QueryPlaces, HasLongColumn, collecting, selecting, selection};
+
+/// More turns change nothing of a method that is done or faulted.
+#[tactic(auto, using(crate::proofs::Further::done_with_more, crate::proofs::Further::faulted_with_more))]
+pub fn more_turns_change_nothing()
+    ensures done { (w : World) (m : PlainMethod) (args : List Scalar) (n k : ℕ) (lines : List (List ℕ)) (value : Option Value) → outcome w m args n ≡ Done lines value → outcome w m args (n + k) ≡ Done lines value }
+    ensures faulted { (w : World) (m : PlainMethod) (args : List Scalar) (n k : ℕ) (fault : RunFault) (at : Span) → outcome w m args n ≡ Faulted fault at → outcome w m args (n + k) ≡ Faulted fault at }
+{}
+
+/// A method has one outcome with a number of turns, and where it is done it is done with the same
+/// whatever the turns.
+#[tactic(auto, using(crate::proofs::Further::done_with_same))]
+pub fn outcome_is_one()
+    ensures same_turns { (w : World) (m : PlainMethod) (args : List Scalar) (n : ℕ) (one other : Outcome) → outcome w m args n ≡ one → outcome w m args n ≡ other → one ≡ other }
+    ensures any_turns { (w : World) (m : PlainMethod) (args : List Scalar) (n k : ℕ) (lines other_lines : List (List ℕ)) (value other_value : Option Value) → outcome w m args n ≡ Done lines value → outcome w m args k ≡ Done other_lines other_value → Done lines value ≡ Done other_lines other_value }
+{}
+
+/// Under every schema there is a way to find the query that a text has, so that what is said for
+/// every such way is said of one.
+pub fn texts_have_a_reader()
+    ensures { (schema : Schema) → Reader schema }
+{}
+
+/// A program keeps itself, and what keeps a program that keeps a third one keeps the third.
+#[tactic(auto, using(crate::proofs::Kept::keeps_itself, crate::proofs::Kept::keeps_through))]
+pub fn keeping_is_a_preorder()
+    ensures itself { (schema : Schema) (p : PlainProgram) → Keeps p p schema }
+    ensures through { (schema : Schema) (p q r : PlainProgram) → Keeps p q schema → Keeps q r schema → Keeps p r schema }
+{}
+
+/// A method's body gives way to one that is done with the same wherever the first is done.
+pub fn replaced_bodies_keep()
+    ensures { (schema : Schema) (p : PlainProgram) (before after : List PlainMethod) (m : PlainMethod) (body : Statements) → IsDoneAlike schema m (with_body m body) → Keeps (with_methods p (before ++ m ∷ after)) (with_methods p (before ++ with_body m body ∷ after)) schema }
+{}
+
+/// The first form of a loop gives way to a query: the program keeps what it does under every schema
+/// that has the table with the column of type Long.
+pub fn first_form_gives_way()
+    ensures { (schema : Schema) (t o x f text : List ℕ) (d : ℤ) (at : FormPlaces) (to : QueryPlaces) (p : PlainProgram) (before after : List PlainMethod) (m : PlainMethod) (has : HasLongColumn schema t f) → x ≢ o → HasQuery schema text (selection t has.table f has.column d) → Keeps (with_methods p (before ++ with_body m (collecting at t o x f d) ∷ after)) (with_methods p (before ++ with_body m (selecting to t o text) ∷ after)) schema }
+{}
+
+/// What a program runs on answers query texts by their queries' types. There a well-typed method is
+/// never stuck, and what it returns is of its result's type.
+pub fn typed_methods_are_never_stuck()
+    ensures worlds { (schema : Schema) (read : List ℕ → Option PlainQuery) (db : Database) (m : PlainMethod) → IsDatabaseOf schema db → IsWorld (frame_of schema read m) (world_with schema read db) }
+    ensures never { (c : Frame) (m : PlainMethod) (z : Types) → TypedStatements c None (types_of_params c.schema m.params) m.body z → (w : World) → IsWorld c w → (args : List Scalar) → AreArguments c.schema m.params args → (turns : ℕ) → outcome w m args turns ≢ Stuck }
+    ensures result { (c : Frame) (m : PlainMethod) (z : Types) → TypedStatements c None (types_of_params c.schema m.params) m.body z → (w : World) → IsWorld c w → (args : List Scalar) → AreArguments c.schema m.params args → (turns : ℕ) (lines : List (List ℕ)) (v : Value) → outcome w m args turns ≡ Done lines (Some v) → IsResult c.schema c.result (Some v) }
+{}
+
+/// Statements of a well-typed method, at any depth, give way to well-typed ones that do the same from
+/// each typed state from which the old ones pass: the method is done with the same, and the program
+/// keeps what it does.
+pub fn replaced_statements_keep()
+    ensures outcomes { (c : Frame) (m : PlainMethod) (hole : Hole) (old new : Statements) → MayReplace c m hole old new → (w : World) → IsWorld c w → (args : List Scalar) → AreArguments c.schema m.params args → (turns : ℕ) (lines : List (List ℕ)) (v : Option Value) → outcome w (with_body m (fill hole old)) args turns ≡ Done lines v → outcome w (with_body m (fill hole new)) args turns ≡ Done lines v }
+    ensures programs { (schema : Schema) (p : PlainProgram) (before after : List PlainMethod) (m : PlainMethod) (hole : Hole) (old new : Statements) → ((reader : Reader schema) → MayReplace (frame_of schema reader.read m) m hole old new) → Keeps (with_methods p (before ++ with_body m (fill hole old) ∷ after)) (with_methods p (before ++ with_body m (fill hole new) ∷ after)) schema }
+{}

@@ -1,0 +1,7 @@
+pub mod Answered
+pub mod Causes
+pub mod Columns
+pub mod Forms
+pub mod Keeping
+pub mod Lexed
+pub mod Lined

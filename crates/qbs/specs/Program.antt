@@ -1,0 +1,118 @@
+-- The whole program: what is due for words and files.
+use Rattle.std.specs.Prelude.{ℕ, List, ◌++◌, Bool, true, false, ◌||◌, codes, Result, Ok, Err, slice_get, if◌then◌else◌}
+use Rattle.std.specs.declared.option.Option.{Option}
+use Rattle.std.specs.declared.option.Option.TheVariants.{Some, None}
+use Rattle.qbs_base.specs.declared.columns.Column.{Column}
+use Rattle.qbs_base.specs.declared.columns.Table.{Table}
+use Rattle.qbs_base.specs.declared.scalar.Ty.{Ty}
+use Rattle.qbs_base.specs.declared.scalar.Ty.TheVariants as tys
+use Rattle.qbs_base.specs.declared.span.Span.{Span}
+use Rattle.qbs_base.specs.declared.status.Status.{Status}
+use Rattle.java_ast.specs.Canonical.{canonical}
+use Rattle.java_lex.specs.declared.token.Token.{Token}
+use Rattle.java_lex.specs.declared.token.LexFault.{LexFault}
+use Rattle.java_lex.specs.declared.token.Tokens.{Tokens}
+use Rattle.java_lex.specs.Lexing.{lexed}
+use Rattle.java_mean.specs.Expression.{table_number, column_number, columns_at}
+use Rattle.schema.specs.declared.fault.SchemaFault.{SchemaFault}
+use Rattle.schema.specs.Schemas.{schema_of}
+use Rattle.words.specs.declared.command.Command.{Command}
+use Rattle.words.specs.declared.command.Command.TheVariants as commands
+use Rattle.words.specs.declared.command.Options.{Options}
+use Rattle.words.specs.Reading.{plain}
+use Rattle.qbs.specs.declared.form.FirstForm.{FirstForm}
+use Rattle.qbs.specs.declared.plan.Plan.{Plan}
+use Rattle.qbs.specs.Form.{with, nodes_of, first_form}
+use Rattle.qbs.specs.Lines.{schema_text, lex_text, found_text}
+use Rattle.qbs.specs.Made.{rewritten}
+use Rattle.qbs.specs.Plan.{Script, ends, reads, line, refusal, not_yet, bad_words}
+
+-- ---- One loop of the first form
+
+abbrev pub nowhere : Span
+nowhere = record { line = 0; column = 0; start = 0; end = 0 }
+
+abbrev pub place_of : Option Token → Span
+place_of (Some token) = token.span
+place_of None = nowhere
+
+-- where the `for` of the first form stands
+abbrev pub loop_place : List Token → Span
+loop_place tokens = place_of (slice_get tokens 24)
+
+abbrev pub is_long_type : Ty → Bool
+is_long_type tys.Long = true
+is_long_type tys.Bool = false
+is_long_type tys.Text = false
+
+abbrev pub is_long_column : Option Column → Bool
+is_long_column (Some column) = is_long_type column.ty
+is_long_column None = false
+
+-- whether a table's column is of type Long
+abbrev pub is_long_at : List Table → ℕ → ℕ → Bool
+is_long_at tables table column = is_long_column (slice_get (columns_at tables table) column)
+
+-- the numbers of the form's table and column in the schema, where there are these and the column is of type Long
+abbrev pub long_column : List Table → FirstForm → Option (ℕ × ℕ)
+long_column tables f =
+    with (table_number tables f.table) (λ table.
+    with (column_number (columns_at tables table) f.column) (λ column.
+    if is_long_at tables table column then Some (table, column) else None))
+
+-- the class with the query in place of the loop, and one line that the loop was found
+abbrev pub with_column : FirstForm → Span → Option (ℕ × ℕ) → Plan
+with_column f at None = not_yet
+with_column f at (Some place) =
+    record { status = Status.Ok; out = canonical (rewritten f at place.0 place.1); rep = line (found_text at) ++ line (codes "pruned 0") }
+
+abbrev pub with_form : List Table → Span → Option FirstForm → Plan
+with_form tables at None = not_yet
+with_form tables at (Some f) = with_column f at (long_column tables f)
+
+-- ---- The command `rewrite`
+
+abbrev pub with_tokens : List Table → Result Tokens LexFault → Plan
+with_tokens tables (Err fault) = refusal Status.Source (lex_text fault)
+with_tokens tables (Ok tokens) = with_form tables (loop_place tokens.list) (first_form (nodes_of tokens.list))
+
+abbrev pub with_schema : Result (List Table) SchemaFault → List ℕ → Plan
+with_schema (Err fault) source = refusal Status.Schema (schema_text fault)
+with_schema (Ok tables) source = with_tokens tables (lexed source)
+
+-- what is due for the bytes of a schema and of a source
+abbrev pub rewriting : List ℕ → List ℕ → Plan
+rewriting schema source = with_schema (schema_of schema) source
+
+-- the schema is read within 256 KiB, and then the source within 1 MiB
+abbrev pub rewrite : List ℕ → List ℕ → Script
+rewrite schema source =
+    reads schema 262144 (codes "schema") (λ tables. reads source 1048576 (codes "source") (λ bytes. ends (rewriting tables bytes)))
+
+-- ---- The whole
+
+abbrev pub is_set : {A : Type 0} → Option A → Bool
+is_set None = false
+is_set (Some x) = true
+
+-- an option that isn't built yet
+abbrev pub asks_more : Options → Bool
+asks_more o = is_set o.size || is_set o.candidates || is_set o.store
+
+abbrev pub rewrite_or_not_yet : Bool → List ℕ → List ℕ → Script
+rewrite_or_not_yet true schema source = ends not_yet
+rewrite_or_not_yet false schema source = rewrite schema source
+
+-- what is done for a command; the other commands aren't built yet
+abbrev pub script_of : Command → Script
+script_of (commands.Rewrite o schema source) = rewrite_or_not_yet (asks_more o) schema source
+script_of _ = ends not_yet
+
+-- what is done for plain words and for others
+abbrev pub script_for : Option Command → Script
+script_for (Some command) = script_of command
+script_for None = ends bad_words
+
+-- what the words ask for
+abbrev pub program : List (List ℕ) → Script
+program words = script_for (plain words)

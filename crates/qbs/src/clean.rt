@@ -1,0 +1,20 @@
+// The top call over files and sinks that never fail.
+ghost use Rattle.std.specs.Prelude.{◌≢◌};
+
+use crate::qbs_main;
+use qbs_base::{CleanFiles, CleanSink, Status, Words};
+use std::alloc::Global;
+
+/// Over files and sinks that never fail no read and no write is reported to have failed.
+pub fn qbs_main_over_clean_ends(
+    alloc: Global,
+    words: &Words,
+    files: &mut CleanFiles,
+    out: &mut CleanSink,
+    rep: &mut CleanSink,
+) -> Status
+    ensures read { result ≢ Status.ReadFault }
+    ensures write { result ≢ Status.WriteFault }
+{
+    qbs_main(alloc, words, files, out, rep)
+}

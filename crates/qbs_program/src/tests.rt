@@ -1,0 +1,420 @@
+// The top call over files and sinks in memory. A case: words, files, calls that are to fail (of the
+// files, of `out`, of `rep`), the room of `out`, and what comes of it.
+use qbs::{qbs_main, qbs_main_over_clean_ends};
+use qbs_base::{Bytes, CleanFiles, CleanSink, MemFiles, MemSink, Status, Text, Words};
+use std::alloc::{AllocError, Global};
+use std::test::Fail;
+
+struct Case {
+    words: &'static [&'static str],
+    files: &'static [(&'static str, &'static str)],
+    fails: [Option<u32>; 3],
+    room: u64,
+    code: u8,
+    out: &'static str,
+    rep: &'static str,
+}
+
+const SCHEMA: &str =
+    "CREATE TABLE User (id BIGINT, name TEXT, roleId BIGINT, age BIGINT, active BOOLEAN);\nCREATE TABLE Role (id BIGINT, label TEXT);\n";
+
+const STAFF: &str =
+    "class A {\n    List<User> staff() {\n        List<User> out = new ArrayList<>();\n        for (User u : db.fetch(User.class)) {\n            if (u.roleId == 2) {\n                out.add(u);\n            }\n        }\n        return out;\n    }\n}\n";
+
+const SPACED: &str =
+    "class\tA{/* c */List <User>\r\nstaff( ) // d\n{List<User>out=new ArrayList<>();for(User u:\r\n\tdb . fetch(User.class)){if(u.roleId==2){out.add(u);}}return out;}}";
+
+const UNEQUAL: &str =
+    "class A {\n    List<User> staff() {\n        List<User> out = new ArrayList<>();\n        for (User u : db.fetch(User.class)) {\n            if (u.roleId != 2) {\n                out.add(u);\n            }\n        }\n        return out;\n    }\n}\n";
+
+const BY_NAME: &str =
+    "class A{List<User>f(){List<User>o=new ArrayList<>();for(User u:db.fetch(User.class)){if(u.name==2){o.add(u);}}return o;}}";
+
+const BY_PAY: &str =
+    "class A{List<Pay>f(){List<Pay>o=new ArrayList<>();for(Pay u:db.fetch(Pay.class)){if(u.id==2){o.add(u);}}return o;}}";
+
+const SAME_NAMES: &str =
+    "class A{List<User>f(){List<User>u=new ArrayList<>();for(User u:db.fetch(User.class)){if(u.id==2){u.add(u);}}return u;}}";
+
+const REWRITTEN: &str =
+    "class A {\n    List<User> staff() {\n        List<User> out = db.query(User.class, \"SELECT t1.* FROM User t1 WHERE t1.roleId = 2 ORDER BY t1._pos\");\n        return out;\n    }\n}\n";
+
+const BOTH: &[(&str, &str)] = &[("s.sql", SCHEMA), ("A.java", STAFF)];
+
+const REWRITE: &[&str] = &["rewrite", "s.sql", "A.java"];
+
+const NONE: [Option<u32>; 3] = [None, None, None];
+
+const CASES: [Case; 30] = [
+    Case {
+        words: REWRITE,
+        files: BOTH,
+        fails: NONE,
+        room: 1000,
+        code: 0,
+        out: REWRITTEN,
+        rep: "loop 4:9 found 1\npruned 0\n",
+    },
+    Case {
+        words: &["rewrite", "--", "s.sql", "A.java"],
+        files: BOTH,
+        fails: NONE,
+        room: 1000,
+        code: 0,
+        out: REWRITTEN,
+        rep: "loop 4:9 found 1\npruned 0\n",
+    },
+    Case {
+        words: REWRITE,
+        files: &[("s.sql", SCHEMA), ("A.java", SPACED)],
+        fails: NONE,
+        room: 1000,
+        code: 0,
+        out: REWRITTEN,
+        rep: "loop 3:34 found 1\npruned 0\n",
+    },
+    Case {
+        words: REWRITE,
+        files: &[("s.sql", SCHEMA), ("A.java", UNEQUAL)],
+        fails: NONE,
+        room: 1000,
+        code: 14,
+        out: "",
+        rep: "qbs: not yet\n",
+    },
+    Case {
+        words: REWRITE,
+        files: &[("s.sql", SCHEMA), ("A.java", BY_NAME)],
+        fails: NONE,
+        room: 1000,
+        code: 14,
+        out: "",
+        rep: "qbs: not yet\n",
+    },
+    Case {
+        words: REWRITE,
+        files: &[("s.sql", SCHEMA), ("A.java", BY_PAY)],
+        fails: NONE,
+        room: 1000,
+        code: 14,
+        out: "",
+        rep: "qbs: not yet\n",
+    },
+    Case {
+        words: REWRITE,
+        files: &[("s.sql", SCHEMA), ("A.java", SAME_NAMES)],
+        fails: NONE,
+        room: 1000,
+        code: 14,
+        out: "",
+        rep: "qbs: not yet\n",
+    },
+    Case {
+        words: REWRITE,
+        files: &[("s.sql", SCHEMA), ("A.java", "")],
+        fails: NONE,
+        room: 1000,
+        code: 14,
+        out: "",
+        rep: "qbs: not yet\n",
+    },
+    Case {
+        words: REWRITE,
+        files: &[("s.sql", SCHEMA), ("A.java", "class A { } // end")],
+        fails: NONE,
+        room: 1000,
+        code: 14,
+        out: "",
+        rep: "qbs: not yet\n",
+    },
+    Case {
+        words: &["prove", "s.sql", "A.java"],
+        files: &[],
+        fails: NONE,
+        room: 1000,
+        code: 14,
+        out: "",
+        rep: "qbs: not yet\n",
+    },
+    Case {
+        words: &["rewrite", "--size", "4", "s.sql", "A.java"],
+        files: &[],
+        fails: NONE,
+        room: 1000,
+        code: 14,
+        out: "",
+        rep: "qbs: not yet\n",
+    },
+    Case {
+        words: &["rewrite", "--candidates=1", "s.sql", "A.java"],
+        files: &[],
+        fails: NONE,
+        room: 1000,
+        code: 14,
+        out: "",
+        rep: "qbs: not yet\n",
+    },
+    Case {
+        words: &["rewrite", "--store", "x", "s.sql", "A.java"],
+        files: &[],
+        fails: NONE,
+        room: 1000,
+        code: 14,
+        out: "",
+        rep: "qbs: not yet\n",
+    },
+    Case {
+        words: &[],
+        files: BOTH,
+        fails: NONE,
+        room: 1000,
+        code: 2,
+        out: "",
+        rep: "qbs: words\n",
+    },
+    Case {
+        words: &["rewrite", "s.sql"],
+        files: BOTH,
+        fails: NONE,
+        room: 1000,
+        code: 2,
+        out: "",
+        rep: "qbs: words\n",
+    },
+    Case {
+        words: &["rewrite", "--size=9", "s.sql", "A.java"],
+        files: BOTH,
+        fails: NONE,
+        room: 1000,
+        code: 2,
+        out: "",
+        rep: "qbs: words\n",
+    },
+    Case {
+        words: REWRITE,
+        files: BOTH,
+        fails: [Some(0), None, None],
+        room: 1000,
+        code: 3,
+        out: "",
+        rep: "qbs: read s.sql\n",
+    },
+    Case {
+        words: REWRITE,
+        files: BOTH,
+        fails: [Some(1), None, None],
+        room: 1000,
+        code: 3,
+        out: "",
+        rep: "qbs: read A.java\n",
+    },
+    Case {
+        words: REWRITE,
+        files: &[("A.java", STAFF)],
+        fails: NONE,
+        room: 1000,
+        code: 3,
+        out: "",
+        rep: "qbs: read s.sql\n",
+    },
+    Case {
+        words: REWRITE,
+        files: &[("s.sql", SCHEMA)],
+        fails: NONE,
+        room: 1000,
+        code: 3,
+        out: "",
+        rep: "qbs: read A.java\n",
+    },
+    Case {
+        words: REWRITE,
+        files: BOTH,
+        fails: [None, Some(0), None],
+        room: 1000,
+        code: 4,
+        out: "",
+        rep: "",
+    },
+    Case {
+        words: REWRITE,
+        files: BOTH,
+        fails: [None, None, Some(0)],
+        room: 1000,
+        code: 4,
+        out: REWRITTEN,
+        rep: "",
+    },
+    Case {
+        words: REWRITE,
+        files: BOTH,
+        fails: NONE,
+        room: 10,
+        code: 4,
+        out: "class A {\n",
+        rep: "",
+    },
+    Case {
+        words: &[],
+        files: BOTH,
+        fails: [None, None, Some(0)],
+        room: 1000,
+        code: 4,
+        out: "",
+        rep: "",
+    },
+    Case {
+        words: REWRITE,
+        files: &[("s.sql", "CREATE TABLE T (_x INT);"), ("A.java", STAFF)],
+        fails: NONE,
+        room: 1000,
+        code: 5,
+        out: "",
+        rep: "qbs: schema: 4 NameReserved at 1:17\n",
+    },
+    Case {
+        words: REWRITE,
+        files: &[("s.sql", "CREATE TABLE T (x INT)"), ("A.java", "\"")],
+        fails: NONE,
+        room: 1000,
+        code: 5,
+        out: "",
+        rep: "qbs: schema: 1 BadToken at 1:23\n",
+    },
+    Case {
+        words: REWRITE,
+        files: &[("s.sql", SCHEMA), ("A.java", "class A {\n  \"")],
+        fails: NONE,
+        room: 1000,
+        code: 6,
+        out: "",
+        rep: "qbs: source: lex 2 OpenText at 2:3\n",
+    },
+    Case {
+        words: REWRITE,
+        files: &[("s.sql", SCHEMA), ("A.java", "/* ")],
+        fails: NONE,
+        room: 1000,
+        code: 6,
+        out: "",
+        rep: "qbs: source: lex 3 OpenComment at 1:1\n",
+    },
+    Case {
+        words: REWRITE,
+        files: &[("s.sql", SCHEMA), ("A.java", "a # 9223372036854775808")],
+        fails: NONE,
+        room: 1000,
+        code: 6,
+        out: "",
+        rep: "qbs: source: lex 1 BadByte at 1:3\n",
+    },
+    Case {
+        words: REWRITE,
+        files: &[("s.sql", SCHEMA), ("A.java", "9223372036854775808")],
+        fails: NONE,
+        room: 1000,
+        code: 6,
+        out: "",
+        rep: "qbs: source: lex 4 LongTooLarge at 1:1\n",
+    },
+];
+
+fn words_of(alloc: Global, words: &[&str]) -> Result<Words, AllocError> {
+    let mut texts = Vec::new(alloc);
+    for word in words {
+        texts.push(Text::from_str(alloc, word)?)?;
+    }
+    Ok(Words::from_vec(texts))
+}
+
+fn files_of(alloc: Global, files: &[(&str, &str)]) -> Result<MemFiles, Fail> {
+    let mut held = MemFiles::new(alloc);
+    for (name, bytes) in files {
+        held.put(
+            Text::from_str(alloc, name)?,
+            Bytes::from_vec(bytes.as_bytes().to_vec(alloc)?),
+        )?;
+    }
+    Ok(held)
+}
+
+#[test]
+fn each_case_has_its_status_and_texts(rt: HostRuntime) -> Result<(), Fail> {
+    let alloc = rt.alloc();
+    for case in &CASES {
+        let words = words_of(alloc, case.words)?;
+        let mut files = files_of(alloc, case.files)?;
+        let mut out = MemSink::with_room(alloc, case.room)?;
+        let mut rep = MemSink::with_room(alloc, 100)?;
+        if let Some(call) = case.fails[0] {
+            files.fail_at(call)?;
+        }
+        if let Some(call) = case.fails[1] {
+            out.fail_at(call)?;
+        }
+        if let Some(call) = case.fails[2] {
+            rep.fail_at(call)?;
+        }
+        let status = qbs_main(alloc, &words, &mut files, &mut out, &mut rep);
+        assert_eq!(rt; status.code(), case.code);
+        assert_eq!(rt; out.bytes(), case.out.as_bytes());
+        assert_eq!(rt; rep.bytes(), case.rep.as_bytes());
+    }
+    Ok(())
+}
+
+#[test]
+fn clean_ends_carry_out_the_command(rt: HostRuntime) -> Result<(), Fail> {
+    let alloc = rt.alloc();
+    let words = words_of(alloc, REWRITE)?;
+    let mut files = CleanFiles::new(alloc);
+    for (name, bytes) in BOTH {
+        files.put(
+            Text::from_str(alloc, name)?,
+            Bytes::from_vec(bytes.as_bytes().to_vec(alloc)?),
+        )?;
+    }
+    let mut out = CleanSink::new();
+    let mut rep = CleanSink::new();
+    let status = qbs_main_over_clean_ends(alloc, &words, &mut files, &mut out, &mut rep);
+    assert_eq!(rt; status, Status::Ok);
+    Ok(())
+}
+
+// A file of this length, all of it blanks behind its text.
+fn blanks(alloc: Global, text: &str, length: usize) -> Result<Bytes, AllocError> {
+    let mut bytes = text.as_bytes().to_vec(alloc)?;
+    let mut left = length.saturating_sub(text.len());
+    while left > 0 {
+        bytes.push(b' ')?;
+        left -= 1;
+    }
+    Ok(Bytes::from_vec(bytes))
+}
+
+#[test]
+fn limits_are_kept_to_the_byte(rt: HostRuntime) -> Result<(), Fail> {
+    let alloc = rt.alloc();
+    let words = words_of(alloc, REWRITE)?;
+    for (schema, source, code, line) in [
+        (262144, 1048576, 0, "loop 4:9 found 1\npruned 0\n"),
+        (262145, 1048576, 13, "qbs: limit: schema\n"),
+        (262144, 1048577, 13, "qbs: limit: source\n"),
+        (262145, 1048577, 13, "qbs: limit: schema\n"),
+    ] {
+        let mut files = MemFiles::new(alloc);
+        files.put(
+            Text::from_str(alloc, "s.sql")?,
+            blanks(alloc, SCHEMA, schema)?,
+        )?;
+        files.put(
+            Text::from_str(alloc, "A.java")?,
+            blanks(alloc, STAFF, source)?,
+        )?;
+        let mut out = MemSink::with_room(alloc, 1000)?;
+        let mut rep = MemSink::with_room(alloc, 100)?;
+        let status = qbs_main(alloc, &words, &mut files, &mut out, &mut rep);
+        assert_eq!(rt; status.code(), code);
+        assert_eq!(rt; rep.bytes(), line.as_bytes());
+    }
+    Ok(())
+}

@@ -1,0 +1,21 @@
+//! Schemas and tables: DDL texts read as tables and columns, CSV texts read as rows of a table.
+#![tactic(auto)]
+
+mod fault;
+mod fields;
+mod keywords;
+mod lexing;
+mod loading;
+mod model;
+mod names;
+mod parsing;
+mod place;
+mod records;
+#[cfg(test)]
+mod tests;
+mod token;
+
+pub use fault::{DataFault, DataRule, SchemaFault, SchemaRule};
+pub use loading::load_table;
+pub use model::{Schema, parse_schema};
+pub use qbs_base::{Column, Table};
