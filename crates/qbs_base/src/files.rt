@@ -206,10 +206,13 @@ impl<R: Reaches> Files for RealFiles<'_, R> {
                 }
                 ReadAnswer::Ok(Bytes::from_vec(bytes))
             }
-            Err(_) => {
-                self.faults = self.faults.saturating_add(1);
-                ReadAnswer::Failed
-            }
+            Err(e) => match e.kind() {
+                io::ErrorKind::OutOfMemory => ReadAnswer::NoMemory,
+                _ => {
+                    self.faults = self.faults.saturating_add(1);
+                    ReadAnswer::Failed
+                }
+            },
         }
     }
 }
