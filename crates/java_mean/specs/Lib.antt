@@ -5,11 +5,15 @@ pub mod Expression
 pub mod FirstForm
 pub mod Keeps
 pub mod Outcome
+pub mod Places
 pub mod Queries
 pub mod Refines
+pub mod Rules
 pub mod Statement
 pub mod Store
 pub mod Types
 pub mod Typing
+pub mod Visible
+pub mod WellTyped
 pub mod Worked
 pub mod World

@@ -11,18 +11,12 @@ use Rattle.qbs_base.specs.declared.scalar.Value.TheVariants.{One, Whole, Many}
 use Rattle.qbs_base.specs.Named.{at_name}
 use Rattle.qbs_base.specs.Values.{Schema, HasTy, AreOf, IsRowOf}
 use Rattle.java_ast.specs.Tree.{Spelled, Int, Long, Boolean, String, BoxedInteger, BoxedLong, BoxedBoolean, Table, ListOf, SetOf, Statement, Declare, If, IfElse, ForEach, While, Statements, Nothing, Then, PlainParam, PlainMethod}
+pub use Rattle.java_mean.specs.declared.types.Single.{Single}
+pub use Rattle.java_mean.specs.declared.types.Single.TheVariants.{ScalarOf, RowOf}
+pub use Rattle.java_mean.specs.declared.types.JavaType.{JavaType}
+pub use Rattle.java_mean.specs.declared.types.JavaType.TheVariants.{Of, Listed, Distinct}
 use Rattle.java_mean.specs.Store.{Store, Variable}
 use Rattle.java_mean.specs.Expression.{table_number, columns_at, same_member}
-
--- what an element of a list or a variable may be: a scalar, or a row of the table with a number
-pub data Single : Type 0 where
-  ScalarOf : Ty → Single
-  RowOf : ℕ → Single
-
-pub data JavaType : Type 0 where
-  Of : Single → JavaType
-  Listed : Single → JavaType
-  Distinct : Single → JavaType
 
 -- ---- Spelled types
 

@@ -1,0 +1,48 @@
+// The rules that a program may break.
+use qbs_base::Span;
+use thiserror::Error;
+
+/// A type rule, in the order of their numbers from 1 to 11.
+#[derive(Clone, Copy, Debug, PartialEq, Eq, Error)]
+pub enum TypeRule {
+    /// A variable, a table or a column isn't known.
+    #[error("unknown name")]
+    Unknown,
+    /// An operand, a value or a condition isn't of the type that it is to have.
+    #[error("types do not fit")]
+    Mismatch,
+    /// A visible variable is declared again, a variable is called `db`, or two methods have one name.
+    #[error("name declared twice")]
+    DoubleName,
+    /// Two texts are compared by `==` or `!=`.
+    #[error("texts compared by identity")]
+    TextIdentity,
+    /// A variable of a list or a set is given the value of another variable.
+    #[error("two names for one list")]
+    ListAlias,
+    /// A list or a set is changed in a for-each that walks it.
+    #[error("list changed while it is walked")]
+    ModifiedInLoop,
+    /// A text has no query of the call's form and elements.
+    #[error("not such a query")]
+    BadQuery,
+    /// The query of a list has no order that is complete.
+    #[error("query without a complete order")]
+    UnorderedQuery,
+    /// A `return` isn't the last statement of its method, or a method with a result has none.
+    #[error("return at a wrong place")]
+    ReturnPlace,
+    /// A query has another number of arguments than its text has parameters.
+    #[error("wrong number of arguments")]
+    Arity,
+    /// A `break` stands in no loop, or isn't the last statement of its block.
+    #[error("break at a wrong place")]
+    BreakPlace,
+}
+
+/// A type rule that is broken, and the place where it is.
+#[derive(Clone, Copy, Debug, PartialEq, Eq)]
+pub struct TypeFault {
+    pub rule: TypeRule,
+    pub at: Span,
+}
