@@ -1,0 +1,12 @@
+pub mod Weight
+pub mod Finding
+pub mod Steps
+pub mod Sorted
+pub mod FirstOnes
+pub mod Groups
+pub mod Judged
+pub mod Numbers
+pub mod Meeting
+pub mod Values
+pub mod Inner
+pub mod Coming

@@ -1,0 +1,5 @@
+pub mod Reading
+pub mod Found
+pub mod Answered
+pub mod Firsts
+pub mod Early
