@@ -1,0 +1,5 @@
+pub mod Scalars
+pub mod Identical
+pub mod Evaluated
+pub mod Steps
+pub mod Shown

@@ -1,0 +1,9 @@
+pub mod Plain
+pub mod Truth
+pub mod Value
+pub mod Valid
+pub mod Worlds
+pub mod Fits
+pub mod Same
+pub mod Worked
+pub mod Evaluation

@@ -1,0 +1,129 @@
+// Numbers of elements.
+ghost use Rattle.std.specs.Prelude.{◌≡◌, not};
+ghost use Rattle.tor_terms.specs.Plain.{tree_of};
+ghost use Rattle.tor_terms.specs.Value as spec;
+ghost use Rattle.tor_terms.specs.Fits as fits;
+ghost use Rattle.tor_terms.specs.Evaluation as found;
+
+use crate::eval_found::Found;
+use crate::{Elem, Term, Way};
+use qbs_base::{Kind, Row, Scalar};
+
+// The number that an element is, where it is one.
+fn number_of(row: &Row) -> Option<i64>
+    ensures { result ≡ found.number_of row.now }
+{
+    match (row.kind, row.cells.as_slice()) {
+        (Kind::Plain, [Scalar::Long(n)]) => Some(*n),
+        _ => None,
+    }
+}
+
+// The sum of all, where all are numbers. It has more than 64 bits where they are many.
+fn sum_of(rows: &[Row]) -> Option<i128>
+    ensures { result ≡ found.sum_of rows.now }
+{
+    let mut sum: i128 = 0;
+    for row in rows {
+        match number_of(row) {
+            Some(n) => sum += n as i128,
+            None => return None,
+        }
+    }
+    Some(sum)
+}
+
+/// A number, where it has 64 bits.
+pub fn number(n: i128) -> Option<Found>
+    ensures { result ≡ found.number_found n }
+{
+    if n < i64::MIN as i128 || n > i64::MAX as i128 {
+        return None;
+    }
+    Some(Found::One(Scalar::Long(n as i64)))
+}
+
+/// The sum of elements, where all are numbers and none is a whole row.
+pub fn sum_where(whole: bool, rows: &[Row]) -> Option<Found>
+    ensures { result ≡ found.number_where (not whole) (found.sum_of rows.now) }
+{
+    if whole {
+        return None;
+    }
+    match sum_of(rows) {
+        Some(n) => number(n),
+        None => None,
+    }
+}
+
+/// The greater or lesser of two numbers.
+pub fn better(way: Way, m: i64, n: i64) -> i64
+    ensures { result ≡ spec.better way m n }
+{
+    match way {
+        Way::Max => { if m < n { n } else { m } }
+        Way::Min => { if n < m { n } else { m } }
+    }
+}
+
+// The greatest or least of a number and of all elements, where all are numbers.
+fn best_of(way: Way, start: i64, rows: &[Row]) -> Option<i64>
+    ensures { result ≡ found.best_of way start rows.now }
+{
+    let mut best = start;
+    for row in rows {
+        match number_of(row) {
+            Some(n) => best = better(way, best, n),
+            None => return None,
+        }
+    }
+    Some(best)
+}
+
+/// The greatest or least of a number and of all elements, where all are numbers and none is a
+/// whole row.
+pub fn best_where(way: Way, whole: bool, start: i64, rows: &[Row]) -> Option<Found>
+    ensures { result ≡ found.long_where (not whole) (found.best_of way start rows.now) }
+{
+    if whole {
+        return None;
+    }
+    match best_of(way, start, rows) {
+        Some(n) => Some(Found::One(Scalar::Long(n))),
+        None => None,
+    }
+}
+
+fn is_whole(e: Elem) -> bool
+    ensures { result ≡ fits.is_whole e }
+{
+    match e {
+        Elem::Whole(_) => true,
+        Elem::Field(_, _) => false,
+    }
+}
+
+/// Whether a whole row stands anywhere in a term.
+pub fn has_whole(t: &Term) -> bool
+    ensures { result ≡ fits.has_whole (tree_of t.now) }
+{
+    match t {
+        Term::Top(_, r) => has_whole(r),
+        Term::Unit(e) => is_whole(*e),
+        Term::Cat(r, s) => has_whole(r) || has_whole(s),
+        Term::Join(r, s) => has_whole(r) || has_whole(s),
+        Term::Sel(_, r) => has_whole(r),
+        Term::Proj(e, r) => is_whole(*e) || has_whole(r),
+        Term::Uniq(r) => has_whole(r),
+        Term::Insert(r, e) => has_whole(r) || is_whole(*e),
+        Term::Item(e) => is_whole(*e),
+        Term::Count(r) => has_whole(r),
+        Term::Sum(r) => has_whole(r),
+        Term::Any(r) => has_whole(r),
+        Term::Best(_, v, r) => has_whole(v) || has_whole(r),
+        Term::Pick(_, v, n) => has_whole(v) || has_whole(n),
+        Term::Add(a, b) => has_whole(a) || has_whole(b),
+        Term::Or(a, b) => has_whole(a) || has_whole(b),
+        _ => false,
+    }
+}

@@ -1,0 +1,100 @@
+// Whether the atoms of formulas are there, and their loops among given ones.
+ghost use Rattle.std.specs.Prelude.{◌≡◌};
+ghost use Rattle.std.specs.List.{list_all};
+ghost use Rattle.tor_terms.specs.Plain.{form_of, forms_of};
+ghost use Rattle.tor_terms.specs.Truth as spec;
+ghost use Rattle.tor_terms.specs.Fits as fits;
+
+use crate::{Atom, Formula, Operand};
+
+/// Whether a loop is among these.
+pub fn has_loop(loops: &[u32], j: u32) -> bool
+    ensures { result ≡ spec.has_loop loops.now j }
+{
+    for k in loops {
+        if *k == j {
+            return true;
+        }
+    }
+    false
+}
+
+fn has_loops(loops: &[u32], own: &[u32]) -> bool
+    ensures { result ≡ spec.has_loops loops.now own.now }
+{
+    for j in own {
+        if !has_loop(loops, *j) {
+            return false;
+        }
+    }
+    true
+}
+
+fn operand_within(loops: &[u32], a: &Operand) -> bool
+    ensures { result ≡ spec.operand_within loops.now a.now }
+{
+    match a {
+        Operand::Field(j, _) => has_loop(loops, *j),
+        Operand::Entry(_) => true,
+        Operand::Lit(_) => true,
+    }
+}
+
+fn atom_within(loops: &[u32], a: &Atom) -> bool
+    ensures { result ≡ spec.atom_within loops.now a.now }
+{
+    match a {
+        Atom::Less(x, y) => operand_within(loops, x) && operand_within(loops, y),
+        Atom::Same(x, y) => operand_within(loops, x) && operand_within(loops, y),
+        Atom::Truth(x) => operand_within(loops, x),
+        Atom::Member(x, _) => operand_within(loops, x),
+        Atom::Flag(_, own) => has_loops(loops, own.as_slice()),
+    }
+}
+
+fn form_within(atoms: &[Atom], loops: &[u32], f: &Formula) -> bool
+    ensures { result ≡ spec.form_within atoms.now loops.now (form_of f.now) }
+{
+    match f {
+        Formula::Is(k, _) => match atoms.get(*k as usize) {
+            Some(a) => atom_within(loops, a),
+            None => false,
+        },
+        Formula::Both(g, h) => form_within(atoms, loops, g) && form_within(atoms, loops, h),
+        Formula::Either(g, h) => form_within(atoms, loops, g) && form_within(atoms, loops, h),
+    }
+}
+
+/// Whether the atoms of formulas are there, and all their loops among these.
+pub fn forms_within(atoms: &[Atom], loops: &[u32], fs: &[Formula]) -> bool
+    ensures { result ≡ list_all (spec.form_within atoms.now loops.now) (forms_of fs.now) }
+{
+    for f in fs {
+        if !form_within(atoms, loops, f) {
+            return false;
+        }
+    }
+    true
+}
+
+fn form_there(atoms: &[Atom], f: &Formula) -> bool
+    ensures { result ≡ fits.form_there atoms.now (form_of f.now) }
+{
+    match f {
+        Formula::Is(k, _) => (*k as usize) < atoms.len(),
+        Formula::Both(g, h) => form_there(atoms, g) && form_there(atoms, h),
+        Formula::Either(g, h) => form_there(atoms, g) && form_there(atoms, h),
+    }
+}
+
+/// Whether the atoms of formulas are there.
+pub fn forms_there(atoms: &[Atom], fs: &[Formula]) -> bool
+    ensures { result ≡ list_all (fits.form_there atoms.now) (forms_of fs.now) }
+{
+    for f in fs {
+        if !form_there(atoms, f) {
+            return false;
+        }
+    }
+    true
+}
