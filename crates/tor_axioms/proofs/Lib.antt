@@ -1,0 +1,10 @@
+pub mod LeftOut
+pub mod Numbered
+pub mod Ready
+pub mod Decided
+pub mod Algebra
+pub mod Tuples
+pub mod Places
+pub mod Sound
+pub mod Kept
+pub mod Lower

@@ -1,0 +1,24 @@
+//! The rewriting rules of terms, what recorded facts decide, and derivations.
+#![tactic(auto)]
+
+mod derivation;
+mod elements;
+mod facts;
+mod head;
+mod judged;
+pub mod laws;
+mod lists;
+mod make;
+mod numbers;
+mod paths;
+mod select;
+mod selections;
+mod truths;
+
+pub use derivation::{Derivation, Derivations, Step, Steps, Vc, Vcs};
+pub use facts::{Facts, Known, Literal, Literals, WithAnswer};
+pub use judged::{decide, decide_formula};
+pub use paths::apply;
+
+#[cfg(test)]
+mod tests;
