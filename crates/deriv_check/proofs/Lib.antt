@@ -1,0 +1,10 @@
+pub mod Loops
+pub mod Shallow
+pub mod Exact
+pub mod Numbers
+pub mod Steps
+pub mod Derivations
+pub mod Bundled
+pub mod Whole
+pub mod Added
+pub mod Validity

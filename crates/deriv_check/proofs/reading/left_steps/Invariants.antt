@@ -1,0 +1,9 @@
+use Rattle.std.proofs.Common.{◌≡◌, ◌-◌, length}
+use Rattle.readers.specs.Reading.{up_to}
+use Rattle.deriv_check.specs.Reading.{is_slash, left_at, lefts_at}
+use Rattle.deriv_check.proofs.Loops.{with_front}
+use Rattle.deriv_check.proofs.reading.left_steps.Given as goal
+
+-- what was read and what is read of the rest is what is read of all
+abbrev pub invariant-loop : goal.invariant-loop
+invariant-loop l = with_front l.steps.items (up_to is_slash left_at (length l.bytes - l.counter) l.rest) ≡ lefts_at l.bytes

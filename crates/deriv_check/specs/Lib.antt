@@ -1,0 +1,6 @@
+pub mod Bundles
+pub mod Texts
+pub mod Grammar
+pub mod Reading
+pub mod Answers
+pub mod Soundness

@@ -1,0 +1,21 @@
+//! The checker of derivations, and the text of derivations and bundles.
+#![tactic(auto)]
+
+mod accept;
+mod bundle;
+mod bytes;
+mod entries;
+mod fault;
+pub mod laws;
+mod parse;
+mod print;
+mod reading;
+
+pub use accept::accepts;
+pub use bundle::{Bundle, BundleEntry};
+pub use fault::BundleFault;
+pub use parse::{parse_bundle, parse_derivation};
+pub use print::{print_bundle, print_derivation};
+
+#[cfg(test)]
+mod tests;
