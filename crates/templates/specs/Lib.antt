@@ -1,0 +1,2 @@
+pub mod Binomial
+pub mod Numbered

@@ -1,0 +1,10 @@
+//! The enumeration of candidates, without a list of them.
+#![tactic(auto)]
+
+pub mod laws;
+mod numbered;
+
+pub use numbered::{MAX_POOL, MAX_SIZE, count_of, nth_of};
+
+#[cfg(test)]
+mod tests;
