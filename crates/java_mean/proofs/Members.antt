@@ -9,10 +9,10 @@ use Rattle.std.specs.Cmp.Lexicographic.{slice_cmp, nat_list_cmp_total}
 use Rattle.qbs_base.specs.declared.scalar.Scalar.{Scalar}
 use Rattle.qbs_base.specs.declared.scalar.Scalar.TheVariants as scalars
 use Rattle.qbs_base.specs.declared.scalar.Row.{Row}
-use Rattle.qbs_base.specs.Scalar.{scalar_same}
+use Rattle.qbs_base.specs.Scalar.{scalar_same, same_cells}
 use Rattle.qbs_base.specs.Sort.{put_in, stable_sort}
 use Rattle.sql_ast.specs.Grouped.{firsts}
-use Rattle.java_mean.specs.Expression.{same_cells, same_member, is_among}
+use Rattle.java_mean.specs.Expression.{same_member, is_among}
 use Rattle.java_mean.specs.Statement.{added}
 use Rattle.java_mean.specs.Types.{AreDistinct}
 

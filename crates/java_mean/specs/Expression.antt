@@ -12,7 +12,7 @@ use Rattle.qbs_base.specs.declared.scalar.Value.TheVariants.{One, Whole, Many}
 use Rattle.qbs_base.specs.declared.columns.Column.{Column}
 use Rattle.qbs_base.specs.declared.columns.Table.{Table}
 use Rattle.qbs_base.specs.Named.{at_name}
-use Rattle.qbs_base.specs.Scalar.{scalar_less, scalar_same}
+use Rattle.qbs_base.specs.Scalar.{scalar_less, scalar_same, same_cells}
 use Rattle.qbs_base.specs.Values.{Schema, fits_long}
 use Rattle.sql_ast.specs.Grouped.{firsts}
 use Rattle.java_ast.specs.declared.tree.Op.{Op}
@@ -103,11 +103,6 @@ element_in _ _ row = Whole row
 -- a member of a list as a value
 abbrev pub element : Row → Value
 element row = element_in row.kind row.cells row
-
-abbrev pub same_cells : List Scalar → List Scalar → Bool
-same_cells [] [] = true
-same_cells (x ∷ xs) (y ∷ ys) = scalar_same x y && same_cells xs ys
-same_cells _ _ = false
 
 abbrev pub same_member : Row → Row → Bool
 same_member a b = same_cells a.cells b.cells

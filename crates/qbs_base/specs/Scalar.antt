@@ -1,5 +1,5 @@
 -- The order of scalars, and comparisons of scalars that may be missing.
-use Rattle.std.specs.Prelude.{Bool, true, false}
+use Rattle.std.specs.Prelude.{Bool, true, false, ◌&&◌, List, [], ◌∷◌}
 use Rattle.std.specs.Ordering.{nat_cmp, int_cmp, bool_cmp, is_lt, is_eq}
 use Rattle.std.specs.Cmp.Lexicographic.{slice_cmp}
 use Rattle.std.specs.declared.cmp.Ordering.{Ordering}
@@ -36,6 +36,12 @@ scalar_same (Long x) (Long y) = is_eq (int_cmp x y)
 scalar_same (Truth x) (Truth y) = is_eq (bool_cmp x y)
 scalar_same (Text x) (Text y) = is_eq (slice_cmp nat_cmp x y)
 scalar_same _ _ = false
+
+-- both are lists of the same scalars
+abbrev pub same_cells : List Scalar → List Scalar → Bool
+same_cells [] [] = true
+same_cells (x ∷ xs) (y ∷ ys) = scalar_same x y && same_cells xs ys
+same_cells _ _ = false
 
 -- a test of two scalars, false where one is missing
 abbrev pub compared : (Scalar → Scalar → Bool) → Option Scalar → Option Scalar → Bool

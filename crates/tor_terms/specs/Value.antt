@@ -9,7 +9,7 @@ use Rattle.qbs_base.specs.declared.scalar.Kind.TheVariants as kinds
 use Rattle.qbs_base.specs.declared.scalar.Row.{Row}
 use Rattle.qbs_base.specs.declared.scalar.Scalar.{Scalar}
 use Rattle.qbs_base.specs.declared.scalar.Scalar.TheVariants as scalars
-use Rattle.qbs_base.specs.Scalar.{scalar_same}
+use Rattle.qbs_base.specs.Scalar.{scalar_same, same_cells}
 use Rattle.tor_terms.specs.declared.term.Atom.{Atom}
 use Rattle.tor_terms.specs.declared.term.Elem.{Elem}
 use Rattle.tor_terms.specs.declared.term.Elem.TheVariants as elems
@@ -83,11 +83,6 @@ abbrev pub same_kind : Kind → Kind → Bool
 same_kind kinds.Plain kinds.Plain = true
 same_kind (kinds.Table m) (kinds.Table n) = nat_eq m n
 same_kind _ _ = false
-
-abbrev pub same_cells : List Scalar → List Scalar → Bool
-same_cells [] [] = true
-same_cells (x ∷ xs) (y ∷ ys) = scalar_same x y && same_cells xs ys
-same_cells _ _ = false
 
 abbrev pub same_row : Row → Row → Bool
 same_row r s = same_kind r.kind s.kind && same_cells r.cells s.cells

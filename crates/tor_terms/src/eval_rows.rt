@@ -1,7 +1,7 @@
 // Rows and columns at a tuple, and whether rows are the same.
 ghost use Rattle.std.specs.Prelude.{◌≡◌, IfOk, unwrap_or, option_copied, slice_get, Some, None};
 ghost use Rattle.std.specs.List.{list_any};
-ghost use Rattle.qbs_base.specs.Scalar.{scalar_same};
+ghost use Rattle.qbs_base.specs.Scalar.{scalar_same, same_cells as same_cells_of};
 ghost use Rattle.tor_terms.specs.Truth as truths;
 ghost use Rattle.tor_terms.specs.Value as spec;
 ghost use Rattle.tor_terms.specs.Worlds.{world_of};
@@ -45,8 +45,8 @@ pub fn has_column(env: &Env, tuple: &[(u32, Row)], e: Elem) -> bool
     }
 }
 
-// The loop of an element.
-fn elem_loop(e: Elem) -> u32
+/// The loop of an element.
+pub fn elem_loop(e: Elem) -> u32
     ensures { result ≡ valid.elem_loop e }
 {
     match e {
@@ -113,7 +113,7 @@ pub fn same_cell(x: &Scalar, y: &Scalar) -> bool
 }
 
 fn same_cells(xs: &[Scalar], ys: &[Scalar]) -> bool
-    ensures { result ≡ spec.same_cells xs.now ys.now }
+    ensures { result ≡ same_cells_of xs.now ys.now }
 {
     let mut rest = ys;
     for x in xs {

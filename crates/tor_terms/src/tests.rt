@@ -1,6 +1,7 @@
-// Copies are identical to what they are copies of, and terms of two kinds aren't identical.
-use crate::{Elem, Formula, Formulas, Index, Term, Way, copy_term, same_term};
-use qbs_base::{Items, NoMemory, Scalar};
+// Copies are identical to what they are copies of, terms of two kinds aren't identical, and values
+// are those of whole numbers.
+use crate::{Elem, Env, Formula, Formulas, Index, Term, Way, copy_term, eval, same_term};
+use qbs_base::{Items, NoMemory, Scalar, Value};
 use std::alloc::Global;
 use std::test::Fail;
 
@@ -79,5 +80,41 @@ fn copies_are_identical(rt: HostRuntime) -> Result<(), Fail> {
             assert!(rt; same == (kind == other), "{kind} {other}");
         }
     }
+    Ok(())
+}
+
+// An environment that holds one number, and nothing else.
+fn holding(alloc: Global, number: i64) -> Result<Env, NoMemory> {
+    let mut holds = Items::new(alloc);
+    holds.push(Value::One(Scalar::Long(number)))?;
+    Ok(Env {
+        lists: Items::new(alloc),
+        at: Items::new(alloc),
+        cur: Items::new(alloc),
+        entries: Items::new(alloc),
+        known: Items::new(alloc),
+        holds,
+        flags: Items::new(alloc),
+    })
+}
+
+// The number held, here the greatest, and another one more.
+fn sum_with(alloc: Global, other: i64) -> Result<Option<i64>, NoMemory> {
+    let env = holding(alloc, i64::MAX)?;
+    let held = Box::new(alloc, Term::Hold(0))?;
+    let more = Box::new(alloc, Term::Lit(Scalar::Long(other)))?;
+    let value = eval(alloc, &Term::Add(held, more), &Items::new(alloc), &env)?;
+    Ok(match value {
+        Some(Value::One(Scalar::Long(sum))) => Some(sum),
+        _ => None,
+    })
+}
+
+#[test]
+fn sums_are_numbers_of_64_bits(rt: HostRuntime) -> Result<(), Fail> {
+    let alloc = rt.alloc();
+    assert!(rt; sum_with(alloc, -7)? == Some(9223372036854775800));
+    assert!(rt; sum_with(alloc, 0)? == Some(9223372036854775807));
+    assert!(rt; sum_with(alloc, 1)? == None);
     Ok(())
 }

@@ -1,5 +1,5 @@
 use Rattle.std.proofs.Common.{◌≡◌, drop}
-use Rattle.tor_terms.specs.Value as spec
+use Rattle.qbs_base.specs.Scalar as spec
 use Rattle.tor_terms.proofs.eval_rows.same_cells.Given as goal
 
 abbrev pub invariant-loop-x : goal.invariant-loop-x
