@@ -1,3 +1,4 @@
 pub mod Canonical
+pub mod Path
 pub mod Reading
 pub mod Tree
