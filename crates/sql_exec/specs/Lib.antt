@@ -3,3 +3,4 @@ pub mod Found
 pub mod Answered
 pub mod Firsts
 pub mod Early
+pub mod Worked
