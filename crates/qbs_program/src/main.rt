@@ -1,6 +1,9 @@
 //! The program: the real files and streams, handed to the top call.
 #![tactic(auto)]
 
+ghost use Rattle.qbs_base.specs.Outside.{Rose};
+ghost use Rattle.qbs_program.specs.Refused.{Refuses};
+
 use qbs::qbs_main;
 use qbs_base::{RealFiles, RealSink, Sink, Status, Text, Words, WriteAnswer};
 use std::alloc::Global;
@@ -18,7 +21,9 @@ fn words_of<R: Env + AllocGlobal>(rt: &R) -> io::Result<Words> {
 }
 
 // What is answered where memory runs out before the words are read.
-fn refuse_for_memory<E: Sink>(rep: &mut E) -> Status {
+fn refuse_for_memory<E: Sink>(rep: &mut E) -> Status
+    ensures { Refuses (E.told rep.old) (E.told rep.new) (Rose (E.faults rep.old) (E.faults rep.new)) result }
+{
     match rep.write_all(b"qbs: memory\n") {
         WriteAnswer::Ok => Status::NoMemory,
         WriteAnswer::Failed => Status::WriteFault,
