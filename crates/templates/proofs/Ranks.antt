@@ -7,7 +7,8 @@ use Rattle.std.specs.Option.{option_map}
 use Rattle.std.proofs.lemmas.List.{length-map, length-append, append-nil}
 use Rattle.std.proofs.lemmas.Option.{slice_get-map, slice_get_within}
 use Rattle.templates.specs.Binomial.{binomial}
-use Rattle.templates.specs.Numbered.{increasing, candidates, RisesWithin, IsCandidate}
+use Rattle.kernel_lang.specs.Pools.{RisesWithin}
+use Rattle.templates.specs.Numbered.{increasing, candidates, IsCandidate}
 use Rattle.templates.proofs.Lists.{slice_get-append_left, slice_get-append_right}
 use Rattle.templates.proofs.Pascal.{binomial-none, binomial-empty, binomial-pascal, binomial_small}
 

@@ -1,2 +1,3 @@
 pub mod Binomial
 pub mod Numbered
+pub mod Worked

@@ -1,5 +1,7 @@
 -- The candidates over a pool, as one plain list: the increasing lists of numbers of its formulas.
-use Rattle.std.specs.Prelude.{ℕ, zero, suc, ◌<◌, ◌≤◌, List, [], ◌∷◌, ◌++◌, map}
+use Rattle.std.specs.Prelude.{ℕ, zero, suc, List, [], ◌∷◌, ◌++◌, length, map}
+use Rattle.kernel_lang.specs.Plain.{Fragment}
+use Rattle.kernel_lang.specs.Pools.{RisesWithin, combined_pool}
 
 -- the increasing lists of n of the `left` numbers that begin with `first`, in lexicographic order
 unfoldable pub increasing : ℕ → ℕ → ℕ → List (List ℕ)
@@ -12,10 +14,9 @@ unfoldable pub candidates : ℕ → ℕ → List (List ℕ)
 candidates pool zero = increasing 0 pool 0
 candidates pool (suc size) = candidates pool size ++ increasing 0 pool (suc size)
 
--- strictly increasing numbers from `first` on, below `end`
-abbrev pub RisesWithin : ℕ → ℕ → List ℕ → Type 0
-RisesWithin first end [] = Unit {0}
-RisesWithin first end (n ∷ ns) = (first ≤ n) × (n < end) × RisesWithin (suc n) end ns
+-- those of a fragment, over its combined pool
+abbrev pub candidates_of : Fragment → ℕ → List (List ℕ)
+candidates_of f size = candidates (length (combined_pool f)) size
 
 -- a candidate over a pool of this size: strictly increasing numbers below it
 abbrev pub IsCandidate : ℕ → List ℕ → Type 0

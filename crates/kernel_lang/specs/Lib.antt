@@ -1,0 +1,14 @@
+pub mod Plain
+pub mod Paths
+pub mod Validity
+pub mod Sentences
+pub mod Parts
+pub mod Whole
+pub mod Given
+pub mod Running
+pub mod Fitting
+pub mod Pools
+pub mod Postcondition
+pub mod Typed
+pub mod Worked
+pub mod Broken

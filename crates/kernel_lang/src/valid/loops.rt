@@ -1,0 +1,164 @@
+// Chains, and what is read of their loops.
+ghost use Rattle.std.specs.Prelude.{◌≡◌, ◌+◌, ◌<◌, ◌≤◌, IsTrue, ◌^◌, length, map, slice_get, take};
+ghost use Rattle.std.specs.List.{list_all};
+ghost use Rattle.kernel_lang.specs.Parts.{parts_of};
+ghost use Rattle.kernel_lang.specs.Plain.{accumulator, guard_of};
+ghost use Rattle.kernel_lang.specs.Validity as spec;
+ghost use Rattle.tor_terms.specs.Plain.{form_of, forms_of};
+ghost use Rattle.tor_terms.specs.Truth as truth;
+
+use super::names::element_of;
+use crate::parts::{Acc, Parts};
+use tor_terms::{Atom, Elem, Formula, Operand};
+
+fn rises_after(first: u32, rest: &[u32]) -> bool
+    ensures { result ≡ spec.rises_after first rest.now }
+{
+    match rest.split_first() {
+        None => true,
+        Some((next, others)) => first < *next && rises_after(*next, others),
+    }
+}
+
+fn rises(loops: &[u32]) -> bool
+    ensures { result ≡ spec.rises loops.now }
+{
+    match loops.split_first() {
+        None => true,
+        Some((first, rest)) => rises_after(*first, rest),
+    }
+}
+
+/// Whether a chain is short and rises, its base is below its length, and each loop has a guard.
+#[tactic(auto, unfolding(crate::specs::Validity::chain_is_valid))]
+pub fn chain_is_valid(a: &Acc) -> bool
+    ensures valid { result ≡ spec.chain_is_valid (accumulator a.now) }
+    ensures short { IsTrue result → length a.now.guards ≤ 3 }
+{
+    let count = a.chain.len();
+    count <= 3 && rises(a.chain.as_slice()) && (a.base as usize) < count && a.guards.len() == count
+}
+
+fn has_loop(loops: &[u32], j: u32) -> bool
+    ensures { result ≡ truth.has_loop loops.now j }
+{
+    loops.iter().any(|k| *k == j)
+}
+
+fn has_loops(loops: &[u32], own: &[u32]) -> bool
+    ensures { result ≡ truth.has_loops loops.now own.now }
+{
+    own.iter().all(|j| has_loop(loops, *j))
+}
+
+fn operand_within(loops: &[u32], operand: &Operand) -> bool
+    ensures { result ≡ truth.operand_within loops.now operand.now }
+{
+    match operand {
+        Operand::Field(j, _) => has_loop(loops, *j),
+        Operand::Entry(_) => true,
+        Operand::Lit(_) => true,
+    }
+}
+
+fn atom_within(loops: &[u32], atom: &Atom) -> bool
+    ensures { result ≡ truth.atom_within loops.now atom.now }
+{
+    match atom {
+        Atom::Less(a, b) => operand_within(loops, a) && operand_within(loops, b),
+        Atom::Same(a, b) => operand_within(loops, a) && operand_within(loops, b),
+        Atom::Truth(a) => operand_within(loops, a),
+        Atom::Member(a, _) => operand_within(loops, a),
+        Atom::Flag(_, own) => has_loops(loops, own.as_slice()),
+    }
+}
+
+fn known_within(atoms: &[Atom], loops: &[u32], k: u32) -> bool
+    ensures { result ≡ truth.known_within loops.now (slice_get atoms.now k) }
+{
+    match atoms.get(k as usize) {
+        None => false,
+        Some(atom) => atom_within(loops, atom),
+    }
+}
+
+/// Whether the atoms of a formula are there, and all their loops among these.
+pub fn formula_within(atoms: &[Atom], loops: &[u32], f: &Formula) -> bool
+    ensures { result ≡ truth.form_within atoms.now loops.now (form_of f.now) }
+{
+    match f {
+        Formula::Is(k, _) => known_within(atoms, loops, *k),
+        Formula::Both(f, g) => {
+            formula_within(atoms, loops, f) && formula_within(atoms, loops, g)
+        }
+        Formula::Either(f, g) => {
+            formula_within(atoms, loops, f) && formula_within(atoms, loops, g)
+        }
+    }
+}
+
+fn guard_within(atoms: &[Atom], loops: &[u32], guard: &Option<Formula>) -> bool
+    ensures { result ≡ spec.guard_all (truth.form_within atoms.now loops.now) (guard_of guard.now) }
+{
+    match guard {
+        None => true,
+        Some(f) => formula_within(atoms, loops, f),
+    }
+}
+
+/// The first loops of a chain.
+pub fn first_loops(loops: &[u32], count: usize) -> &[u32]
+    ensures { result.now ≡ take count loops.now }
+{
+    if count < loops.len() {
+        &loops[..count]
+    } else {
+        loops
+    }
+}
+
+fn guards_within(atoms: &[Atom], chain: &[u32], level: usize, guards: &[Option<Formula>]) -> bool
+    requires { level + length guards.now < 2 ^ 64 }
+    ensures { result ≡ spec.guards_within atoms.now chain.now level (map guard_of guards.now) }
+{
+    match guards.split_first() {
+        None => true,
+        Some((g, rest)) => {
+            guard_within(atoms, first_loops(chain, level), g)
+                && guards_within(atoms, chain, level + 1, rest)
+        }
+    }
+}
+
+fn pool_within(atoms: &[Atom], chain: &[u32], pool: &[Formula]) -> bool
+    ensures { result ≡ list_all (truth.form_within atoms.now chain.now) (forms_of pool.now) }
+{
+    match pool.split_first() {
+        None => true,
+        Some((f, rest)) => { formula_within(atoms, chain, f) && pool_within(atoms, chain, rest) }
+    }
+}
+
+fn element_within(chain: &[u32], element: Option<Elem>) -> bool
+    ensures { result ≡ spec.element_within chain.now element }
+{
+    match element {
+        None => true,
+        Some(Elem::Whole(j)) => has_loop(chain, j),
+        Some(Elem::Field(j, _)) => has_loop(chain, j),
+    }
+}
+
+/// Whether the guards read loops of the chain up to their level, and pool and element loops of the
+/// chain.
+#[tactic(auto, unfolding(crate::specs::Validity::reads_its_chain))]
+pub fn reads_its_chain(p: &Parts, a: &Acc) -> bool
+    requires { length a.now.guards < 2 ^ 63 }
+    ensures { result ≡ spec.reads_its_chain p.now.atoms (accumulator a.now) }
+{
+    let atoms = p.atoms.as_slice();
+    let chain = a.chain.as_slice();
+    guards_within(atoms, chain, 1, a.guards.as_slice())
+        && pool_within(atoms, chain, a.pool.as_slice())
+        && element_within(chain, element_of(a.update))
+}
