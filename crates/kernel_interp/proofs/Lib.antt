@@ -1,0 +1,12 @@
+pub mod Flagged
+pub mod Levels
+pub mod Ready
+pub mod Ordered
+pub mod Steps
+pub mod Ended
+pub mod Mapped
+pub mod Starting
+pub mod Lists
+pub mod Numbers
+pub mod Marked
+pub mod Summed

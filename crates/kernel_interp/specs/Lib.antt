@@ -1,0 +1,5 @@
+pub mod Stops
+pub mod Reading
+pub mod Marking
+pub mod Ends
+pub mod Sums
