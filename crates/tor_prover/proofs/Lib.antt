@@ -1,0 +1,12 @@
+pub mod Added
+pub mod Positions
+pub mod Stuck
+pub mod OpenAtom
+pub mod First
+pub mod Good
+pub mod Unfold
+pub mod Ended
+pub mod Made
+pub mod Accepted
+pub mod Nested
+pub mod Derived

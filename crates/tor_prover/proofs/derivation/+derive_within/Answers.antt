@@ -1,0 +1,19 @@
+use Rattle.std.proofs.Common.{◌≡◌, IfOk, ap, sym, ◌∙◌, subst, arith, option_map}
+use Rattle.tor_terms.specs.Plain.{tree_of}
+use Rattle.tor_axioms.specs.Accepts.{proof_of}
+use Rattle.tor_prover.specs.Seen.{judgement_of}
+use Rattle.tor_prover.proofs.Derived.{split-derived, split-fails}
+use Rattle.tor_prover.proofs.derivation.+derive_within.Goals as goal
+
+pub derive_within-returns-in-None : goal.derive_within-returns-in-None
+derive_within-returns-in-None t c =
+    let j = sym (ap judgement_of c.in-Splits.is) ∙ c.in_ok-left.ensures in
+    let a = sym (ap (option_map proof_of) c.in-None.is) ∙ c.in_ok-derive_with-in-Splits.ensures in
+    split-fails c.args.vc.now.atoms c.args.depth c.args.facts.now (tree_of c.args.vc.now.left) (tree_of c.args.vc.now.right) c.in-Splits.k (omega arith) j a
+
+pub derive_within-returns-in_ok-no-in-Some : goal.derive_within-returns-in_ok-no-in-Some
+derive_within-returns-in_ok-no-in-Some t c =
+    let j = sym (ap judgement_of c.in-Splits.is) ∙ c.in_ok-left.ensures in
+    let a = sym (ap (option_map proof_of) c.in-Some.is) ∙ c.in_ok-derive_with-in-Splits.ensures in
+    let q = split-derived c.args.vc.now.atoms c.args.depth c.args.facts.now (tree_of c.args.vc.now.left) (tree_of c.args.vc.now.right) c.in-Splits.k _ _ (omega arith) j a c.in_ok-no-in-Some.ensures in
+    subst (λ x. IfOk c.split_at.result (λ o. option_map proof_of o ≡ x)) q c.split_at.ensures

@@ -1,0 +1,6 @@
+pub mod Normal
+pub mod Derive
+pub mod Ends
+pub mod Shape
+pub mod Seen
+pub mod Worked

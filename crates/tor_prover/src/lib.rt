@@ -1,0 +1,15 @@
+//! Normal forms of terms, and the derivations of conditions.
+#![tactic(auto)]
+
+mod derivation;
+mod facts;
+pub mod laws;
+mod normal;
+mod open;
+mod outcome;
+mod parts;
+
+pub use derivation::derive;
+
+#[cfg(test)]
+mod tests;

@@ -1,0 +1,191 @@
+// Normal forms of terms.
+ghost use Rattle.std.specs.Prelude.{◌≡◌, [], ◌∷◌, ◌++◌, IfOk, OnOk, option_map};
+ghost use Rattle.tor_terms.specs.Plain.{tree_of};
+ghost use Rattle.tor_axioms.specs.Rules.{at_head as at_head_of};
+ghost use Rattle.tor_prover.specs.Normal as spec;
+ghost use Rattle.tor_prover.specs.Seen.{around_one, around_two, outcome_of, parts_of};
+
+use crate::open::met;
+use crate::outcome::Outcome;
+use crate::parts::{OneHead, Parts, TwoHead, make_one, make_two, take_apart};
+use qbs_base::{Items, NoMemory};
+use std::alloc::Global;
+use tor_axioms::{Facts, Step, Steps, apply};
+use tor_terms::{Atoms, Term};
+
+const LAST_RULE: u32 = 44;
+
+/// What a rule gives at the head.
+fn at_head(
+    alloc: Global,
+    rule: u32,
+    t: &Term,
+    atoms: &Atoms,
+    facts: &Facts,
+) -> Result<Option<Term>, NoMemory>
+    ensures { IfOk result (λ o. option_map tree_of o ≡ at_head_of atoms.now facts.now rule (tree_of t.now)) }
+{
+    apply(alloc, rule, &Items::new(alloc), t, atoms, facts)
+}
+
+/// The first rule that matches at the head, and what it gives.
+fn first_rule(
+    alloc: Global,
+    atoms: &Atoms,
+    facts: &Facts,
+    t: &Term,
+) -> Result<Option<(u32, Term)>, NoMemory>
+    ensures { IfOk result (λ o. option_map (λ p. (p.0, tree_of p.1)) o ≡ spec.first_rule atoms.now facts.now (tree_of t.now)) }
+{
+    for rule in 1..LAST_RULE + 1 {
+        if let Some(u) = at_head(alloc, rule, t, atoms, facts)? {
+            return Ok(Some((rule, u)));
+        }
+    }
+    Ok(None)
+}
+
+/// A step in the child of a number, as a step in the whole term.
+fn in_place(alloc: Global, child: u32, step: &Step) -> Result<Step, NoMemory>
+    ensures { IfOk result (λ whole. whole ≡ spec.in_place child step.now) }
+{
+    let mut path = vec![in alloc; child]?;
+    path.extend_from_slice(step.path.as_slice())?;
+    Ok(Step {
+        rule: step.rule,
+        path: Items::from_vec(path),
+    })
+}
+
+/// Appends the steps in the child of a number.
+fn push_below(steps: &mut Steps, alloc: Global, child: u32, more: &[Step]) -> Result<(), NoMemory>
+    ensures { OnOk result (steps.new ≡ steps.old ++ spec.below child more.now) }
+{
+    for step in more {
+        let whole = in_place(alloc, child, step)?;
+        steps.push(whole)?;
+    }
+    Ok(())
+}
+
+/// These steps, and then what follows.
+fn after_steps(steps: Steps, rest: Outcome) -> Result<Outcome, NoMemory>
+    ensures { IfOk result (λ o. outcome_of o ≡ spec.after_steps steps (outcome_of rest)) }
+{
+    match rest {
+        Outcome::Meets(k) => Ok(Outcome::Meets(k)),
+        Outcome::Normal(t, more) => {
+            let mut all = steps.into_vec();
+            let mut rest = more.into_vec();
+            all.append(&mut rest)?;
+            Ok(Outcome::Normal(t, Items::from_vec(all)))
+        }
+    }
+}
+
+/// A rule at the head, and then what follows.
+fn after_rule(alloc: Global, rule: u32, rest: Outcome) -> Result<Outcome, NoMemory>
+    ensures { IfOk result (λ o. outcome_of o ≡ spec.after_steps (spec.step_at_head rule) (outcome_of rest)) }
+{
+    let mut steps = Items::new(alloc);
+    let path = Items::new(alloc);
+    steps.push(Step { rule, path })?;
+    after_steps(steps, rest)
+}
+
+/// The term with this child, where the child has a normal form.
+fn with_child(alloc: Global, head: OneHead, child: Outcome) -> Result<Outcome, NoMemory>
+    ensures { IfOk result (λ o. outcome_of o ≡ spec.with_child (around_one head) (outcome_of child)) }
+{
+    match child {
+        Outcome::Meets(k) => Ok(Outcome::Meets(k)),
+        Outcome::Normal(u, more) => {
+            let mut steps = Items::new(alloc);
+            push_below(&mut steps, alloc, 0, more.as_slice())?;
+            Ok(Outcome::Normal(make_one(alloc, head, u)?, steps))
+        }
+    }
+}
+
+/// The term with these children, where both have normal forms.
+fn with_children(
+    alloc: Global,
+    head: TwoHead,
+    first: Outcome,
+    second: Outcome,
+) -> Result<Outcome, NoMemory>
+    ensures { IfOk result (λ o. outcome_of o ≡ spec.with_children (around_two head) (outcome_of first) (outcome_of second)) }
+{
+    match first {
+        Outcome::Meets(k) => Ok(Outcome::Meets(k)),
+        Outcome::Normal(u, before) => match second {
+            Outcome::Meets(k) => Ok(Outcome::Meets(k)),
+            Outcome::Normal(v, after) => {
+                let mut steps = Items::new(alloc);
+                push_below(&mut steps, alloc, 0, before.as_slice())?;
+                push_below(&mut steps, alloc, 1, after.as_slice())?;
+                Ok(Outcome::Normal(make_two(alloc, head, u, v)?, steps))
+            }
+        },
+    }
+}
+
+/// The normal form of a term, or the open atom that it meets: its children are brought to normal
+/// form from left to right, and then the first rule by number that matches at the head is applied
+/// and what it gives is brought to normal form in turn.
+#[cycle(normalise)]
+pub fn normalise(alloc: Global, atoms: &Atoms, facts: &Facts, t: Term) -> Result<Outcome, NoMemory>
+    ensures { IfOk result (λ o. outcome_of o ≡ spec.normal_form atoms.now facts.now (tree_of t)) }
+{
+    match normal_children(alloc, atoms, facts, take_apart(t))? {
+        Outcome::Meets(k) => Ok(Outcome::Meets(k)),
+        Outcome::Normal(u, steps) => {
+            let rest = finish(alloc, atoms, facts, u)?;
+            after_steps(steps, rest)
+        }
+    }
+}
+
+/// The term whose children are brought to normal form.
+#[cycle(normalise)]
+fn normal_children(
+    alloc: Global,
+    atoms: &Atoms,
+    facts: &Facts,
+    parts: Parts,
+) -> Result<Outcome, NoMemory>
+    ensures { IfOk result (λ o. outcome_of o ≡ spec.normal_parts (spec.normal_form atoms.now facts.now) (parts_of parts)) }
+{
+    match parts {
+        Parts::NoChild(t) => Ok(Outcome::Normal(t, Items::new(alloc))),
+        Parts::OneChild(head, r) => {
+            let child = normalise(alloc, atoms, facts, r)?;
+            with_child(alloc, head, child)
+        }
+        Parts::TwoChildren(head, r, s) => {
+            let first = normalise(alloc, atoms, facts, r)?;
+            if let Outcome::Meets(k) = first {
+                return Ok(Outcome::Meets(k));
+            }
+            let second = normalise(alloc, atoms, facts, s)?;
+            with_children(alloc, head, first, second)
+        }
+    }
+}
+
+/// The normal form of a term whose children are in normal form.
+#[cycle(normalise)]
+fn finish(alloc: Global, atoms: &Atoms, facts: &Facts, t: Term) -> Result<Outcome, NoMemory>
+    ensures { IfOk result (λ o. outcome_of o ≡ spec.at_head atoms.now facts.now (spec.normal_form atoms.now facts.now) (tree_of t)) }
+{
+    if let Some(k) = met(atoms, facts, &t) {
+        return Ok(Outcome::Meets(k));
+    }
+    match first_rule(alloc, atoms, facts, &t)? {
+        None => Ok(Outcome::Normal(t, Items::new(alloc))),
+        Some((rule, u)) => {
+            let rest = normalise(alloc, atoms, facts, u)?;
+            after_rule(alloc, rule, rest)
+        }
+    }
+}
