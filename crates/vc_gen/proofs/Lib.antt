@@ -1,0 +1,17 @@
+pub mod Alike
+pub mod Decide
+pub mod Scope
+pub mod Frame
+pub mod Whole
+pub mod Levels
+pub mod Flags
+pub mod Tables
+pub mod Fit
+pub mod Guards
+pub mod Reading
+pub mod Members
+pub mod Few
+pub mod Accepted
+pub mod Short
+pub mod Joined
+pub mod Unguarded

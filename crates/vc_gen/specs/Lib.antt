@@ -1,0 +1,5 @@
+pub mod Conditions
+pub mod Levels
+pub mod Short
+pub mod Soundness
+pub mod Worked

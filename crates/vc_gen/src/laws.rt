@@ -1,0 +1,32 @@
+//! Laws of conditions. These functions do nothing.
+ghost use Rattle.std.specs.Prelude.{◌≡◌, ℕ, List, [], ◌∷◌, None};
+ghost use Rattle.tor_axioms.specs.Accepts.{Proof, Claim};
+ghost use Rattle.kernel_lang.specs.Plain.{Fragment};
+ghost use Rattle.kernel_lang.specs.Validity.{broken};
+ghost use Rattle.kernel_lang.specs.Worked.{class_A, class_B, class_C, class_D, class_E, name_set};
+ghost use Rattle.vc_gen.specs.Conditions.{conditions};
+ghost use Rattle.vc_gen.specs.Soundness.{AllValid, AllSound, AllAccepted, EndsAsClaimed};
+ghost use Rattle.vc_gen.specs.Worked.{of_one_loop, of_a_nest, of_a_flag, of_the_greatest, of_a_sum, of_a_set};
+
+/// The conditions of worked candidates are those written out.
+pub fn worked_conditions()
+    ensures one_loop { conditions class_A (0 ∷ []) ≡ of_one_loop }
+    ensures nest { conditions class_B (0 ∷ []) ≡ of_a_nest }
+    ensures flag { conditions class_E (0 ∷ 2 ∷ []) ≡ of_a_flag }
+    ensures greatest { conditions class_C [] ≡ of_the_greatest }
+    ensures sum { conditions class_D [] ≡ of_a_sum }
+    ensures set { conditions name_set [] ≡ of_a_set }
+{}
+
+/// Conditions are valid where each is sound, as the checker of derivations says, and so where each
+/// has an accepted derivation.
+pub fn derived_conditions_are_valid()
+    ensures sound { (cs : List Claim) → AllSound cs → AllValid cs }
+    ensures accepted { (cs : List Claim) (ds : List Proof) → AllAccepted cs ds → AllValid cs }
+{}
+
+/// Where all conditions of a valid fragment and a candidate are valid, the fragment ends with what
+/// the postconditions say, wherever it ends.
+pub fn valid_conditions_give_postconditions()
+    ensures { (f : Fragment) (c : List ℕ) → broken f ≡ None → AllValid (conditions f c) → EndsAsClaimed f c }
+{}

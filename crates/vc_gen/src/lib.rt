@@ -1,0 +1,15 @@
+//! The conditions of a fragment and a candidate, and what they promise.
+#![tactic(auto)]
+
+mod all;
+mod atoms;
+pub mod laws;
+mod level;
+mod own;
+mod paths;
+mod terms;
+
+pub use all::conditions;
+
+#[cfg(test)]
+mod tests;

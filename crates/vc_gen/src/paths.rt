@@ -1,0 +1,134 @@
+// The ways to decide a formula by its atoms.
+ghost use Rattle.std.specs.Prelude.{◌≡◌, ◌++◌, ◌∷◌, [], map, IfOk};
+ghost use Rattle.tor_terms.specs.Plain.{form_of};
+ghost use Rattle.tor_terms.specs.Truth.{same_bool};
+ghost use Rattle.kernel_lang.specs.Paths as spec;
+ghost use Rattle.kernel_lang.specs.Plain.{guard_of};
+
+use qbs_base::{Items, NoMemory};
+use std::alloc::Global;
+use tor_terms::Formula;
+
+/// Atoms, by their numbers, each with its truth.
+pub type Path = Items<(u32, bool)>;
+
+pub type Paths = Items<Path>;
+
+fn same_truth(s: bool, want: bool) -> bool
+    ensures { result ≡ same_bool s want }
+{
+    s == want
+}
+
+/// A path followed by another.
+pub fn joined(alloc: Global, p: &[(u32, bool)], q: &[(u32, bool)]) -> Result<Path, NoMemory>
+    ensures { IfOk result (λ r. r ≡ p.now ++ q.now) }
+{
+    let mut all = p.to_vec(alloc)?;
+    all.extend_from_slice(q)?;
+    Ok(Items::from_vec(all))
+}
+
+fn add_each(alloc: Global, p: &Path, qs: &[Path], all: &mut Paths) -> Result<(), NoMemory>
+    ensures { IfOk result (λ _. all.new ≡ all.old ++ map (λ q. p.now ++ q) qs.now) }
+{
+    for q in qs {
+        let both = joined(alloc, p.as_slice(), q.as_slice())?;
+        all.push(both)?;
+    }
+    Ok(())
+}
+
+/// Each of `ps` followed by each of `qs`, the former varying slowest.
+pub fn each_with(alloc: Global, ps: &[Path], qs: &[Path]) -> Result<Paths, NoMemory>
+    ensures { IfOk result (λ r. r ≡ spec.each_with ps.now qs.now) }
+{
+    let mut all = Items::new(alloc);
+    for p in ps {
+        add_each(alloc, p, qs, &mut all)?;
+    }
+    Ok(all)
+}
+
+fn followed(ps: Paths, qs: Paths) -> Result<Paths, NoMemory>
+    ensures { IfOk result (λ r. r ≡ ps ++ qs) }
+{
+    let mut all = ps.into_vec();
+    let mut more = qs.into_vec();
+    all.append(&mut more)?;
+    Ok(Items::from_vec(all))
+}
+
+fn one_path(alloc: Global, atom: u32, holds: bool) -> Result<Paths, NoMemory>
+    ensures { IfOk result (λ r. r ≡ ((atom, holds) ∷ []) ∷ []) }
+{
+    let mut path = Items::new(alloc);
+    path.push((atom, holds))?;
+    let mut paths = Items::new(alloc);
+    paths.push(path)?;
+    Ok(paths)
+}
+
+/// The path that decides nothing.
+pub fn empty_path(alloc: Global) -> Result<Paths, NoMemory>
+    ensures { IfOk result (λ r. r ≡ [] ∷ []) }
+{
+    let mut paths = Items::new(alloc);
+    paths.push(Items::new(alloc))?;
+    Ok(paths)
+}
+
+/// The paths to a truth of a formula.
+pub fn paths(alloc: Global, f: &Formula, want: bool) -> Result<Paths, NoMemory>
+    ensures { IfOk result (λ r. r ≡ spec.paths (form_of f.now) want) }
+{
+    match f {
+        Formula::Is(k, s) => one_path(alloc, *k, same_truth(*s, want)),
+        Formula::Both(g, h) => {
+            if want {
+                let first = paths(alloc, g, true)?;
+                let second = paths(alloc, h, true)?;
+                each_with(alloc, first.as_slice(), second.as_slice())
+            } else {
+                let fails = paths(alloc, g, false)?;
+                let first = paths(alloc, g, true)?;
+                let others = paths(alloc, h, false)?;
+                followed(
+                    fails,
+                    each_with(alloc, first.as_slice(), others.as_slice())?,
+                )
+            }
+        }
+        Formula::Either(g, h) => {
+            if want {
+                let holds = paths(alloc, g, true)?;
+                let first = paths(alloc, g, false)?;
+                let second = paths(alloc, h, true)?;
+                followed(
+                    holds,
+                    each_with(alloc, first.as_slice(), second.as_slice())?,
+                )
+            } else {
+                let first = paths(alloc, g, false)?;
+                let second = paths(alloc, h, false)?;
+                each_with(alloc, first.as_slice(), second.as_slice())
+            }
+        }
+    }
+}
+
+/// The paths to a truth of a guard.
+pub fn guard_paths(alloc: Global, guard: &Option<Formula>, want: bool) -> Result<Paths, NoMemory>
+    ensures { IfOk result (λ r. r ≡ spec.guard_paths (guard_of guard.now) want) }
+{
+    match guard {
+        Some(f) => paths(alloc, f, want),
+        None => {
+            if want {
+                empty_path(alloc)
+            } else {
+                Ok(Items::new(alloc))
+            }
+        }
+    }
+}

@@ -1,0 +1,114 @@
+// The conditions of users with a role, by a flag that a loop over roles sets, and of a candidate that
+// chooses the flag and its test.
+use crate::conditions;
+use kernel_lang::{Acc, Guards, KFragment, ListDef, Parts, Update};
+use qbs_base::{Items, NoMemory, Scalar};
+use std::alloc::Global;
+use std::test::Fail;
+use tor_axioms::Vcs;
+use tor_terms::{Atom, Atoms, Elem, Formula, Formulas, Operand, Term, same_term};
+
+fn numbers(alloc: Global, list: &[u32]) -> Result<Items<u32>, NoMemory> {
+    Ok(Items::from_vec(list.to_vec(alloc)?))
+}
+
+fn all_of(alloc: Global, table: u32) -> ListDef {
+    ListDef {
+        table,
+        keys: Items::new(alloc),
+        limit: None,
+    }
+}
+
+fn tests(alloc: Global) -> Result<Atoms, NoMemory> {
+    let mut atoms = Items::new(alloc);
+    atoms.push(Atom::Same(Operand::Field(0, 2), Operand::Field(1, 0)))?;
+    let loops = numbers(alloc, &[0])?;
+    atoms.push(Atom::Flag(1, loops))?;
+    Ok(atoms)
+}
+
+// An atom and its opposite.
+fn pool(alloc: Global, atom: u32) -> Result<Formulas, NoMemory> {
+    let mut formulas = Items::new(alloc);
+    formulas.push(Formula::Is(atom, true))?;
+    formulas.push(Formula::Is(atom, false))?;
+    Ok(formulas)
+}
+
+fn users(alloc: Global) -> Result<Acc, NoMemory> {
+    let mut guards: Guards = Items::new(alloc);
+    guards.push(Some(Formula::Is(1, true)))?;
+    let chain = numbers(alloc, &[0])?;
+    let pool = pool(alloc, 1)?;
+    Ok(Acc {
+        chain,
+        base: 0,
+        guards,
+        update: Update::Push(Elem::Whole(0)),
+        start: None,
+        opposite: false,
+        pool,
+    })
+}
+
+fn flag(alloc: Global) -> Result<Acc, NoMemory> {
+    let mut guards: Guards = Items::new(alloc);
+    guards.push(None)?;
+    guards.push(Some(Formula::Is(0, true)))?;
+    let chain = numbers(alloc, &[0, 1])?;
+    let pool = pool(alloc, 0)?;
+    Ok(Acc {
+        chain,
+        base: 1,
+        guards,
+        update: Update::Mark,
+        start: Some(Scalar::Bool(false)),
+        opposite: false,
+        pool,
+    })
+}
+
+fn parts(alloc: Global) -> Result<Parts, NoMemory> {
+    let mut lists = Items::new(alloc);
+    lists.push(all_of(alloc, 0))?;
+    lists.push(all_of(alloc, 1))?;
+    let mut accs = Items::new(alloc);
+    accs.push(users(alloc)?)?;
+    accs.push(flag(alloc)?)?;
+    let atoms = tests(alloc)?;
+    Ok(Parts {
+        lists,
+        atoms,
+        accs,
+        entries: Items::new(alloc),
+        known: 0,
+    })
+}
+
+// How many facts each condition has, and whether its right side sets the flag.
+fn as_written(vcs: &Vcs, facts: &[usize; 8]) -> bool {
+    let set = Term::Lit(Scalar::Bool(true));
+    let mut k = 0;
+    for vc in vcs.as_slice() {
+        if k >= 8 || vc.facts.len() != facts[k] || same_term(&vc.right, &set) != (k == 5) {
+            return false;
+        }
+        k += 1;
+    }
+    k == 8
+}
+
+#[test]
+fn a_flag_has_conditions_of_its_own(rt: HostRuntime) -> Result<(), Fail> {
+    let alloc = rt.alloc();
+    match KFragment::from_parts(parts(alloc)?) {
+        Ok(frag) => {
+            let cand = numbers(alloc, &[0, 2])?;
+            let vcs = conditions(alloc, &frag, &cand)?;
+            assert!(rt; as_written(&vcs, &[0, 1, 1, 0, 0, 1, 1, 0]));
+        }
+        Err(_) => assert!(rt; false, "a sentence is broken"),
+    }
+    Ok(())
+}
