@@ -1,0 +1,4 @@
+//! Examples that several crates take part in, computed.
+#![tactic(auto)]
+
+pub mod laws;
