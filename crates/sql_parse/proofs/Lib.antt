@@ -1,0 +1,14 @@
+pub mod Ascii
+pub mod Each
+pub mod Exactly
+pub mod Froms
+pub mod Inside
+pub mod Items
+pub mod Lexed
+pub mod Loops
+pub mod Members
+pub mod Named
+pub mod Numbers
+pub mod Parameters
+pub mod RawViews
+pub mod Ruled

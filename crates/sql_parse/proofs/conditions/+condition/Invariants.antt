@@ -1,0 +1,45 @@
+use Rattle.std.proofs.Common.{◌≡◌, ◌+◌, ◌-◌, ◌*◌, codes, length}
+use Rattle.sql_ast.specs.Reader.{joined_from, negation_at, atom_at, conjunction_at, condition_at}
+use Rattle.sql_ast.specs.Written.{Both, Either}
+use Rattle.sql_parse.specs.Said.{condition_of}
+use Rattle.sql_parse.specs.Seen.{tokens_of}
+use Rattle.sql_parse.proofs.conditions.+condition.Given as goal
+
+-- a function calls those below it at the same room, and conditions at less
+abbrev pub decreases-conjunction : goal.decreases-conjunction
+decreases-conjunction l = l.room * 10 + 9
+
+abbrev pub decreases-negation : goal.decreases-negation
+decreases-negation l = l.room * 10 + 8
+
+abbrev pub decreases-atom : goal.decreases-atom
+decreases-atom l = l.room * 10 + 7
+
+abbrev pub decreases-atom_from : goal.decreases-atom_from
+decreases-atom_from l = l.room * 10 + 6
+
+abbrev pub decreases-within_from : goal.decreases-within_from
+decreases-within_from l = l.room * 10 + 5
+
+abbrev pub decreases-column : goal.decreases-column
+decreases-column l = l.room * 10 + 4
+
+abbrev pub decreases-one : goal.decreases-one
+decreases-one l = l.room * 10 + 3
+
+abbrev pub decreases-source : goal.decreases-source
+decreases-source l = l.room * 10 + 2
+
+abbrev pub decreases-filter : goal.decreases-filter
+decreases-filter l = l.room * 10 + 1
+
+abbrev pub decreases-condition : goal.decreases-condition
+decreases-condition l = l.room * 10
+
+abbrev pub invariant-conjunction-loop : goal.invariant-conjunction-loop
+invariant-conjunction-loop l =
+    joined_from (codes "AND") Both (negation_at (atom_at (condition_at l.room))) (length l.initial.rest - l.counter) (condition_of l.left) (tokens_of l.rest) ≡ conjunction_at (condition_at l.room) (tokens_of l.tokens)
+
+abbrev pub invariant-condition-loop : goal.invariant-condition-loop
+invariant-condition-loop l =
+    joined_from (codes "OR") Either (conjunction_at (condition_at l.room)) (length l.initial.rest - l.counter) (condition_of l.left) (tokens_of l.rest) ≡ condition_at l.fn.room (tokens_of l.tokens)

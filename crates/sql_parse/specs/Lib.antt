@@ -1,0 +1,9 @@
+pub mod Answers
+pub mod Calls
+pub mod Negations
+pub mod Operands
+pub mod Pieces
+pub mod Said
+pub mod Scopes
+pub mod Seen
+pub mod Types

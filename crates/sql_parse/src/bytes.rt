@@ -1,0 +1,66 @@
+// Kinds of bytes, and how far they go in a text.
+ghost use Rattle.std.specs.Prelude.{◌≡◌, ◌≤◌, length, option_map};
+ghost use Rattle.std.specs.Char.{is_ascii_digit};
+ghost use Rattle.std.specs.List.{prefix_len};
+ghost use Rattle.std.specs.Str.{IsCharBoundary};
+ghost use Rattle.sql_ast.specs.Tokens.{is_blank as is_blank_byte, is_name_start as is_name_start_byte, is_name_part as is_name_part_byte};
+ghost use Rattle.sql_parse.specs.Seen.{ascii_front};
+
+pub fn is_blank(byte: u8) -> bool
+    ensures { result ≡ is_blank_byte byte }
+{
+    byte == b' ' || byte == b'\t' || byte == b'\r' || byte == b'\n'
+}
+
+pub fn is_name_start(byte: u8) -> bool
+    ensures { result ≡ is_name_start_byte byte }
+{
+    byte.is_ascii_alphabetic() || byte == b'_'
+}
+
+fn is_name_part(byte: u8) -> bool
+    ensures { result ≡ is_name_part_byte byte }
+{
+    is_name_start(byte) || byte.is_ascii_digit()
+}
+
+/// The first byte and the text behind it, where the text begins with an ASCII character.
+pub fn split_ascii(text: &str) -> Option<(u8, &str)>
+    ensures { option_map (λ x. (x.0, x.1.now)) result ≡ ascii_front text.now }
+{
+    match text.as_bytes() {
+        [first, ..] if *first < 128 => {
+            let (_, rest) = text.split_at(1);
+            Some((*first, rest))
+        }
+        _ => None,
+    }
+}
+
+fn name_run(bytes: &[u8]) -> usize
+    ensures { result ≡ prefix_len is_name_part_byte bytes.now }
+{
+    bytes.iter().take_while(|b| is_name_part(**b)).count()
+}
+
+/// How many bytes at the front a name goes on with.
+pub fn name_len(text: &str) -> usize
+    ensures value { result ≡ prefix_len is_name_part_byte text.now }
+    ensures boundary { IsCharBoundary text.now result }
+{
+    name_run(text.as_bytes())
+}
+
+fn digits_run(bytes: &[u8]) -> usize
+    ensures { result ≡ prefix_len is_ascii_digit bytes.now }
+{
+    bytes.iter().take_while(|b| b.is_ascii_digit()).count()
+}
+
+/// How many digits stand at the front.
+pub fn digits_len(text: &str) -> usize
+    ensures value { result ≡ prefix_len is_ascii_digit text.now }
+    ensures boundary { IsCharBoundary text.now result }
+{
+    digits_run(text.as_bytes())
+}

@@ -1,0 +1,298 @@
+// The query that a text says, with its names looked up in a schema.
+ghost use Rattle.std.specs.Prelude.{◌≡◌, ◌≤◌, [], length, IfOk, OnOk, option_map};
+ghost use Rattle.std.specs.declared.option.Option.TheVariants.{Some};
+ghost use Rattle.sql_ast.specs.Names.{each_of, named_condition, named_filter, named_item as named_item_of, named_group as named_group_of, named_key as named_key_of, named_kind as named_kind_of, named_listing, named_number, named_truth, named_query as named_query_of, outermost};
+ghost use Rattle.sql_ast.specs.Reading.{condition as plain_condition, filter_of as plain_filter, listing as plain_listing, number as plain_number, truth as plain_truth, query as plain_query};
+ghost use Rattle.sql_ast.specs.Tree.{Both, Either, Not, Exists, Within, Everything, Where};
+ghost use Rattle.sql_parse.specs.Said.{col_of, condition_of, filter_of, item_of, key_of, keys_of, kind_of, listing_of, number_of, truth_of, query_of};
+ghost use Rattle.sql_parse.specs.Scopes.{knowns_of, scope_of};
+ghost use Rattle.sql_parse.specs.Seen.{Gives};
+
+use crate::fault::Stop;
+use crate::raw::{
+    RawCol, RawCond, RawItem, RawKey, RawKind, RawListing, RawNumber, RawQuery, RawTruth,
+};
+use crate::scope::{
+    Known, enter, from_items, item_named, known_parts, named_col, named_opnd, small,
+};
+use qbs_base::{NoMemory, Table, Tys};
+use sql_ast::{
+    Cond, FromItems, ListQuery, NumberKind, NumberQuery, Query, SqlCol, SqlItem, SqlKey, SqlKeys,
+    SqlOpnd, TruthQuery,
+};
+use std::alloc::Global;
+
+// ---- conditions made of others
+
+fn both(alloc: Global, a: Cond, b: Cond) -> Result<Cond, NoMemory>
+    ensures { IfOk result (λ c. plain_condition c ≡ Both (plain_condition a) (plain_condition b)) }
+{
+    Ok(Cond::Both(Box::new(alloc, a)?, Box::new(alloc, b)?))
+}
+
+fn either(alloc: Global, a: Cond, b: Cond) -> Result<Cond, NoMemory>
+    ensures { IfOk result (λ c. plain_condition c ≡ Either (plain_condition a) (plain_condition b)) }
+{
+    Ok(Cond::Either(Box::new(alloc, a)?, Box::new(alloc, b)?))
+}
+
+fn not(alloc: Global, a: Cond) -> Result<Cond, NoMemory>
+    ensures { IfOk result (λ c. plain_condition c ≡ Not (plain_condition a)) }
+{
+    Ok(Cond::Not(Box::new(alloc, a)?))
+}
+
+fn exists_all(from: FromItems) -> Cond
+    ensures { plain_condition result ≡ Exists from Everything }
+{
+    Cond::Exists { from, filter: None }
+}
+
+fn exists_where(alloc: Global, from: FromItems, a: Cond) -> Result<Cond, NoMemory>
+    ensures { IfOk result (λ c. plain_condition c ≡ Exists from (Where (plain_condition a))) }
+{
+    let filter = Some(Box::new(alloc, a)?);
+    Ok(Cond::Exists { from, filter })
+}
+
+fn within_all(opnd: SqlOpnd, negated: bool, col: SqlCol, from: FromItems) -> Cond
+    ensures { plain_condition result ≡ Within opnd negated col from Everything }
+{
+    let filter = None;
+    Cond::Within {
+        opnd,
+        negated,
+        col,
+        from,
+        filter,
+    }
+}
+
+fn within_where(
+    alloc: Global,
+    opnd: SqlOpnd,
+    negated: bool,
+    col: SqlCol,
+    from: FromItems,
+    a: Cond,
+) -> Result<Cond, NoMemory>
+    ensures { IfOk result (λ c. plain_condition c ≡ Within opnd negated col from (Where (plain_condition a))) }
+{
+    let filter = Some(Box::new(alloc, a)?);
+    Ok(Cond::Within {
+        opnd,
+        negated,
+        col,
+        from,
+        filter,
+    })
+}
+
+// ---- conditions, where the first `around` items in sight are of the SELECTs around
+
+/// Where it fails, items of inner SELECTs may be left in sight.
+fn condition<'a>(
+    alloc: Global,
+    schema: &'a [Table],
+    known: &mut Vec<Known<'a>>,
+    around: usize,
+    raw: &'a RawCond,
+) -> Result<Cond, Stop>
+    requires { around ≤ length known.old.items }
+    ensures value { Gives plain_condition result (named_condition schema.now (scope_of around (knowns_of known.old.items)) (condition_of raw.now)) }
+    ensures same { OnOk result (known.new.items ≡ known.old.items) }
+{
+    match raw {
+        RawCond::Both(a, b) => {
+            let a = condition(alloc, schema, known, around, a)?;
+            let b = condition(alloc, schema, known, around, b)?;
+            Ok(both(alloc, a, b)?)
+        }
+        RawCond::Either(a, b) => {
+            let a = condition(alloc, schema, known, around, a)?;
+            let b = condition(alloc, schema, known, around, b)?;
+            Ok(either(alloc, a, b)?)
+        }
+        RawCond::Not(a) => {
+            let a = condition(alloc, schema, known, around, a)?;
+            Ok(not(alloc, a)?)
+        }
+        RawCond::Compare(cmp, a, b) => {
+            let a = named_opnd(known, around, a)?;
+            let b = named_opnd(known, around, b)?;
+            Ok(Cond::Compare(*cmp, a, b))
+        }
+        RawCond::Bare(col) => Ok(Cond::Bare(named_col(known, around, col)?)),
+        RawCond::Exists { parts, filter } => {
+            let own = known_parts(alloc, schema, parts.as_slice())?;
+            let from = from_items(alloc, &own)?;
+            match filter {
+                None => Ok(exists_all(from)),
+                Some(a) => {
+                    let inner = known.len();
+                    enter(known, own)?;
+                    let a = condition(alloc, schema, known, inner, a)?;
+                    known.truncate(inner);
+                    Ok(exists_where(alloc, from, a)?)
+                }
+            }
+        }
+        RawCond::Within {
+            opnd,
+            negated,
+            col,
+            parts,
+            filter,
+        } => {
+            let opnd = named_opnd(known, around, opnd)?;
+            let own = known_parts(alloc, schema, parts.as_slice())?;
+            let from = from_items(alloc, &own)?;
+            let inner = known.len();
+            enter(known, own)?;
+            let col = named_col(known, inner, col)?;
+            match filter {
+                None => {
+                    known.truncate(inner);
+                    Ok(within_all(opnd, *negated, col, from))
+                }
+                Some(a) => {
+                    let a = condition(alloc, schema, known, inner, a)?;
+                    known.truncate(inner);
+                    Ok(within_where(alloc, opnd, *negated, col, from, a)?)
+                }
+            }
+        }
+    }
+}
+
+// ---- queries, whose own items are all that are in sight
+
+fn filter<'a>(
+    alloc: Global,
+    schema: &'a [Table],
+    known: &mut Vec<Known<'a>>,
+    raw: &'a Option<Box<RawCond>>,
+) -> Result<Option<Cond>, Stop>
+    ensures value { Gives plain_filter result (named_filter schema.now (scope_of 0 (knowns_of known.old.items)) (filter_of raw.now)) }
+    ensures same { OnOk result (known.new.items ≡ known.old.items) }
+{
+    match raw {
+        None => Ok(None),
+        Some(a) => Ok(Some(condition(alloc, schema, known, 0, a)?)),
+    }
+}
+
+fn item(known: &[Known<'_>], raw: &RawItem) -> Result<SqlItem, Stop>
+    ensures { Gives (λ x. x) result (named_item_of (scope_of 0 (knowns_of known.now)) (item_of raw.now)) }
+{
+    match raw {
+        RawItem::Whole(alias) => {
+            let Some((number, _)) = item_named(known, 0, alias) else {
+                return Err(Stop::Broken);
+            };
+            Ok(SqlItem::Whole(small(number)?))
+        }
+        RawItem::Column(col) => Ok(SqlItem::Column(named_col(known, 0, col)?)),
+    }
+}
+
+fn group(known: &[Known<'_>], raw: &Option<RawCol>) -> Result<Option<SqlCol>, Stop>
+    ensures { Gives (λ x. x) result (named_group_of (scope_of 0 (knowns_of known.now)) (option_map col_of raw.now)) }
+{
+    match raw {
+        None => Ok(None),
+        Some(col) => Ok(Some(named_col(known, 0, col)?)),
+    }
+}
+
+fn key(known: &[Known<'_>], raw: &RawKey) -> Result<SqlKey, Stop>
+    ensures { Gives (λ x. x) result (named_key_of (scope_of 0 (knowns_of known.now)) (key_of raw.now)) }
+{
+    let col = named_col(known, 0, &raw.col)?;
+    Ok(SqlKey {
+        least: raw.least,
+        col,
+        down: raw.down,
+    })
+}
+
+fn keys(alloc: Global, known: &[Known<'_>], raw: &[RawKey]) -> Result<SqlKeys, Stop>
+    ensures { Gives (λ x. x) result (each_of (named_key_of (scope_of 0 (knowns_of known.now))) (keys_of raw.now)) }
+{
+    let mut keys = SqlKeys::new(alloc);
+    for raw_key in raw {
+        keys.push(key(known, raw_key)?)?;
+    }
+    Ok(keys)
+}
+
+fn kind(known: &[Known<'_>], raw: &RawKind) -> Result<NumberKind, Stop>
+    ensures { Gives (λ x. x) result (named_kind_of (scope_of 0 (knowns_of known.now)) (kind_of raw.now)) }
+{
+    match raw {
+        RawKind::Count => Ok(NumberKind::Count),
+        RawKind::Sum(col, other) => Ok(NumberKind::Sum(named_col(known, 0, col)?, *other)),
+        RawKind::Max(col, other) => Ok(NumberKind::Max(named_col(known, 0, col)?, *other)),
+        RawKind::Min(col, other) => Ok(NumberKind::Min(named_col(known, 0, col)?, *other)),
+    }
+}
+
+fn listing(alloc: Global, schema: &[Table], raw: &RawListing) -> Result<ListQuery, Stop>
+    ensures { Gives plain_listing result (named_listing schema.now (listing_of raw.now)) }
+{
+    let mut known = known_parts(alloc, schema, raw.source.parts.as_slice())?;
+    let item = item(&known, &raw.item)?;
+    let from = from_items(alloc, &known)?;
+    let filter = filter(alloc, schema, &mut known, &raw.source.filter)?;
+    let group = group(&known, &raw.group)?;
+    let keys = keys(alloc, &known, raw.keys.as_slice())?;
+    Ok(ListQuery {
+        item,
+        from,
+        filter,
+        group,
+        keys,
+        limit: raw.limit,
+        params: Tys::new(alloc),
+    })
+}
+
+fn number(alloc: Global, schema: &[Table], raw: &RawNumber) -> Result<NumberQuery, Stop>
+    ensures { Gives plain_number result (named_number schema.now (number_of raw.now)) }
+{
+    let mut known = known_parts(alloc, schema, raw.source.parts.as_slice())?;
+    let kind = kind(&known, &raw.kind)?;
+    let from = from_items(alloc, &known)?;
+    let filter = filter(alloc, schema, &mut known, &raw.source.filter)?;
+    Ok(NumberQuery {
+        kind,
+        from,
+        filter,
+        params: Tys::new(alloc),
+    })
+}
+
+fn truth(alloc: Global, schema: &[Table], raw: &RawTruth) -> Result<TruthQuery, Stop>
+    ensures { Gives plain_truth result (named_truth schema.now (truth_of raw.now)) }
+{
+    let mut known = known_parts(alloc, schema, raw.source.parts.as_slice())?;
+    let from = from_items(alloc, &known)?;
+    let filter = filter(alloc, schema, &mut known, &raw.source.filter)?;
+    Ok(TruthQuery {
+        negated: raw.negated,
+        from,
+        filter,
+        params: Tys::new(alloc),
+    })
+}
+
+/// The query that is written, its parameters' types still to be found.
+pub fn named_query(alloc: Global, schema: &[Table], raw: &RawQuery) -> Result<Query, Stop>
+    ensures { Gives plain_query result (named_query_of schema.now (query_of raw.now)) }
+{
+    match raw {
+        RawQuery::Listing(raw) => Ok(Query::Listing(listing(alloc, schema, raw)?)),
+        RawQuery::Number(raw) => Ok(Query::Number(number(alloc, schema, raw)?)),
+        RawQuery::Truth(raw) => Ok(Query::Truth(truth(alloc, schema, raw)?)),
+    }
+}
