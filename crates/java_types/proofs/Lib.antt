@@ -1,0 +1,10 @@
+pub mod Columns
+pub mod Cut
+pub mod First
+pub mod Found
+pub mod Kept
+pub mod Lent
+pub mod Nodes
+pub mod Orders
+pub mod Passed
+pub mod Scoped

@@ -1,0 +1,74 @@
+// The check.
+ghost use Rattle.std.specs.Prelude.{◌≡◌, IfOk, IfErr, OnOk, None, map};
+ghost use Rattle.java_ast.specs.Reading.{program, method as plain_method};
+ghost use Rattle.java_mean.specs.WellTyped.{all_faults, faults_in_methods, IsWellTyped};
+ghost use Rattle.java_types.specs.Least.{least, IsRight};
+ghost use Rattle.java_types.specs.Texts.{read_by};
+
+use crate::scope::Scope;
+use crate::walk::walk_method;
+use java_ast::{Method, Program, copy_program};
+use java_mean::TypeFault;
+use qbs_base::{Fail, NoMemory};
+use schema::Schema;
+use std::alloc::Global;
+
+/// A program that was checked. What takes one with a schema requires `IsWellTyped` of the two.
+#[derive(Drop)]
+pub struct Typed {
+    program: Program,
+}
+
+impl Typed {
+    /// The program that was checked.
+    pub fn program(&self) -> &Program
+        ensures { result.now ≡ self.now.program }
+    {
+        &self.program
+    }
+}
+
+// The fault that is kept of some methods.
+#[tactic(auto, using(crate::proofs::Kept::parts))]
+fn walk_methods<'a>(
+    methods: &'a [Method],
+    alloc: Global,
+    schema: &Schema,
+    names: &mut Scope<'a>,
+    kept: &mut Option<TypeFault>,
+) -> Result<(), NoMemory>
+    ensures { OnOk result (kept.new ≡ least kept.old (faults_in_methods schema.now (read_by schema.now) names.old (map plain_method methods.now))) }
+{
+    for m in methods {
+        walk_method(m, names.has(&m.name), alloc, schema, kept)?;
+        names.declare(&m.name, None)?;
+    }
+    Ok(())
+}
+
+// The fault that is kept of a program.
+fn first_fault(alloc: Global, schema: &Schema, p: &Program) -> Result<Option<TypeFault>, NoMemory>
+    ensures { IfOk result (λ k. k ≡ least None (all_faults schema.now (read_by schema.now) (program p.now))) }
+{
+    let mut kept = None;
+    let mut names = Scope::new(alloc);
+    walk_methods(p.methods.as_slice(), alloc, schema, &mut names, &mut kept)?;
+    Ok(kept)
+}
+
+/// Takes a program that is well typed under the schema, with its spans. Otherwise it answers the first
+/// fault: that of the first place in the text, and there the one of the rule with the smallest number.
+#[tactic(auto, using(crate::proofs::First::kept_last))]
+pub fn check(alloc: Global, schema: &Schema, p: &Program) -> Result<Typed, Fail<TypeFault>>
+    ensures same { IfOk result (λ t. program t.program ≡ program p.now) }
+    ensures typed { IfOk result (λ t. IsWellTyped schema.now (read_by schema.now) (program t.program)) }
+    ensures exact { OnOk result (IsWellTyped schema.now (read_by schema.now) (program p.now)) }
+    ensures fault { IfErr result (IsRight (all_faults schema.now (read_by schema.now) (program p.now))) }
+{
+    match first_fault(alloc, schema, p)? {
+        None => Ok(Typed {
+            program: copy_program(alloc, p)?,
+        }),
+        Some(f) => Err(Fail::Fault(f)),
+    }
+}

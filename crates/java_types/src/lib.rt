@@ -1,0 +1,20 @@
+//! The type rules of programs, and a check that is exact.
+#![tactic(auto)]
+
+mod checking;
+mod keeping;
+pub mod laws;
+mod queries;
+mod scope;
+mod steps;
+#[cfg(test)]
+mod tests;
+mod types;
+mod values;
+mod walk;
+mod walked;
+mod words;
+pub mod worked;
+
+pub use checking::{Typed, check};
+pub use java_mean::{TypeFault, TypeRule};
