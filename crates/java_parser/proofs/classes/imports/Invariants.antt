@@ -1,0 +1,13 @@
+use Rattle.std.proofs.Common.{◌≡◌, ◌-◌, ◌∷◌, length, map}
+use Rattle.readers.specs.Reading.{up_to, made}
+use Rattle.std.proofs.Common.{true, codes}
+use Rattle.java_parser.specs.ReadingPrograms.{is_no_import, dotted_name_at, imports_at}
+use Rattle.java_parser.specs.Marks.{Tok, all_strict}
+use Rattle.java_parser.specs.Reading.{many_at}
+use Rattle.java_parser.proofs.Loops.{with_front}
+use Rattle.java_parser.proofs.classes.imports.Given as goal
+
+abbrev pub invariant-loop : goal.invariant-loop
+invariant-loop l =
+    with_front (l.names.items) (up_to (λ (t : Tok). is_no_import t.token.node) (dotted_name_at (codes "import") true) (length l.tokens - l.counter) (all_strict l.rest))
+    ≡ imports_at (all_strict l.tokens)

@@ -1,0 +1,23 @@
+// Why tokens are no program.
+use qbs_base::Span;
+use thiserror::Error;
+
+/// What is wrong with tokens. The rules are numbered from 1 in this order.
+#[derive(Clone, Copy, Debug, PartialEq, Eq, Error)]
+pub enum ParseRule {
+    /// No program goes on with this token, or none ends here.
+    #[error("no program goes on with this token")]
+    Unexpected,
+    /// More than 64 things are open at this token, or a chain has more than 64 operators.
+    #[error("nested too deeply")]
+    TooDeep,
+}
+
+/// The fault kept: its rule, its place, and the number of the token, counted from 0. At the end of
+/// the text the number is that of the tokens.
+#[derive(Clone, Copy, Debug, PartialEq, Eq)]
+pub struct ParseFault {
+    pub rule: ParseRule,
+    pub at: Span,
+    pub token: u64,
+}

@@ -1,0 +1,172 @@
+// The public readers: whole texts, and the faults that are kept.
+ghost use Rattle.std.specs.Prelude.{◌≡◌, ℕ, List, Ok, IfOk, IfErr, MatchResult};
+ghost use Rattle.readers.specs.Reading.{Gives, whole};
+ghost use Rattle.qbs_base.specs.Memory.{IsNoMemory};
+ghost use Rattle.java_ast.specs.Reading.{spelled, expression as expression_of, program as program_of};
+ghost use Rattle.java_ast.specs.Tree.{Spelled, Expression, PlainProgram};
+ghost use Rattle.java_parser.specs.Marks.{all_strict};
+ghost use Rattle.java_parser.specs.Types.{Spelling, Key};
+ghost use Rattle.java_parser.specs.Expressions.{HasExpression};
+ghost use Rattle.java_parser.specs.ReadingTypes.{spelling_at, key_at};
+ghost use Rattle.java_parser.specs.ReadingExpressions.{expression_at};
+ghost use Rattle.java_parser.specs.Grammar.{HasProgram, IsReadable};
+ghost use Rattle.java_parser.specs.ReadingPrograms.{program_at};
+ghost use Rattle.java_parser.specs.Kept.{fault_at, place_of, kept, IsKept};
+
+use crate::classes::{DEEPEST, program};
+use crate::expressions::expression;
+use crate::fault::{ParseFault, ParseRule};
+use crate::tokens::unexpected;
+use crate::types::{key, spelling};
+use java_ast::{Expr, JTy, Program};
+use java_lex::{Token, Tokens};
+use qbs_base::{Fail, Name, Span};
+use readers::{Fault, ReadError};
+use std::alloc::Global;
+
+/// The place of a token, or the end of the text.
+fn place(tokens: &Tokens, number: usize) -> Span
+    ensures { result ≡ place_of tokens.now number }
+{
+    match tokens.list.as_slice().get(number) {
+        Some(token) => token.span,
+        None => tokens.end,
+    }
+}
+
+/// A fault with so many tokens left.
+fn fault(tokens: &Tokens, rule: ParseRule, left: usize) -> ParseFault
+    ensures { result ≡ fault_at tokens.now rule left }
+{
+    let number = tokens.list.len().saturating_sub(left);
+    ParseFault {
+        rule,
+        at: place(tokens, number),
+        token: number as u64,
+    }
+}
+
+/// Why reading stopped, as a fault of these tokens.
+fn fail(tokens: &Tokens, error: ReadError) -> Fail<ParseFault>
+    ensures { result ≡ kept tokens.now error }
+{
+    match error {
+        ReadError::Memory => Fail::NoMemory,
+        ReadError::Fault(Fault::Unexpected(left)) => {
+            Fail::Fault(fault(tokens, ParseRule::Unexpected, left))
+        }
+        ReadError::Fault(Fault::TooDeep(left)) => {
+            Fail::Fault(fault(tokens, ParseRule::TooDeep, left))
+        }
+    }
+}
+
+fn whole_type(alloc: Global, tokens: &[Token]) -> Result<JTy, ReadError>
+    ensures { Gives (λ ty. spelled ty) result (whole spelling_at (all_strict tokens.now)) }
+{
+    let (ty, rest) = spelling(alloc, tokens)?;
+    if !rest.is_empty() {
+        return Err(unexpected(rest));
+    }
+    Ok(ty)
+}
+
+fn whole_key(tokens: &[Token]) -> Result<&Name, ReadError>
+    ensures { Gives (λ name. name.now) result (whole (key_at 64) (all_strict tokens.now)) }
+{
+    let (name, rest) = key(DEEPEST, tokens)?;
+    if !rest.is_empty() {
+        return Err(unexpected(rest));
+    }
+    Ok(name)
+}
+
+fn whole_expression(alloc: Global, tokens: &[Token]) -> Result<Expr, ReadError>
+    ensures { Gives (λ e. expression_of e) result (whole (expression_at 64) (all_strict tokens.now)) }
+{
+    let (expression, rest) = expression(alloc, DEEPEST, tokens)?;
+    if !rest.is_empty() {
+        return Err(unexpected(rest));
+    }
+    Ok(expression)
+}
+
+/// The type that the tokens are, all of them. A fault stands at the first token with which no type
+/// goes on, or at the end.
+pub fn parse_type(alloc: Global, tokens: &Tokens) -> Result<JTy, Fail<ParseFault>>
+    // What is read has these tokens.
+    ensures found { IfOk result (λ ty. Spelling (all_strict tokens.now.list) (spelled ty)) }
+    // What has these tokens is read, and nothing else has them.
+    ensures only { (s : Spelled) → Spelling (all_strict tokens.now.list) s → MatchResult result (λ ty. spelled ty ≡ s) IsNoMemory }
+    // A fault is the one that is kept.
+    ensures fault { IfErr result (IsKept Spelling tokens.now) }
+{
+    match whole_type(alloc, tokens.list.as_slice()) {
+        Ok(ty) => Ok(ty),
+        Err(error) => Err(fail(tokens, error)),
+    }
+}
+
+/// The column of the key of a sort that the tokens are, all of them. A fault stands at the first
+/// token with which no key goes on, or at the end.
+pub fn parse_key(tokens: &Tokens) -> Result<&Name, Fail<ParseFault>>
+    // What is read has these tokens.
+    ensures found { IfOk result (λ name. Key 64 (all_strict tokens.now.list) name.now) }
+    // What has these tokens is read, and nothing else has them.
+    ensures only { (column : List ℕ) → Key 64 (all_strict tokens.now.list) column → MatchResult result (λ name. name.now ≡ column) IsNoMemory }
+    // A fault is the one that is kept.
+    ensures fault { IfErr result (IsKept (Key 64) tokens.now) }
+{
+    match whole_key(tokens.list.as_slice()) {
+        Ok(name) => Ok(name),
+        Err(error) => Err(fail(tokens, error)),
+    }
+}
+
+/// The expression that the tokens are, all of them. At most 64 things are open at a token, and a
+/// chain of operators or of parts behind dots has at most 64.
+///
+/// The fault that is kept stands at the first token with which no expression goes on, or at the end:
+/// `TooDeep` where one would go on if the token's depth were left aside, else `Unexpected`.
+pub fn parse_expression(alloc: Global, tokens: &Tokens) -> Result<Expr, Fail<ParseFault>>
+    // What is read has these tokens.
+    ensures found { IfOk result (λ e. HasExpression 64 (all_strict tokens.now.list) (expression_of e)) }
+    // What has these tokens is read, and nothing else has them.
+    ensures only { (x : Expression) → HasExpression 64 (all_strict tokens.now.list) x → MatchResult result (λ e. expression_of e ≡ x) IsNoMemory }
+    // A fault is the one that is kept.
+    ensures fault { IfErr result (IsKept (HasExpression 64) tokens.now) }
+{
+    match whole_expression(alloc, tokens.list.as_slice()) {
+        Ok(expression) => Ok(expression),
+        Err(error) => Err(fail(tokens, error)),
+    }
+}
+
+fn whole_program(alloc: Global, tokens: &[Token]) -> Result<Program, ReadError>
+    ensures { Gives (λ p. program_of p) result (whole program_at (all_strict tokens.now)) }
+{
+    let (program, rest) = program(alloc, tokens)?;
+    if !rest.is_empty() {
+        return Err(unexpected(rest));
+    }
+    Ok(program)
+}
+
+/// The program that the tokens are, all of them, with its places. At most 64 things are open at a
+/// token, and a chain of operators or of parts behind dots has at most 64.
+///
+/// The fault that is kept stands at the first token with which no program goes on, or at the end:
+/// `TooDeep` where one would go on if the token's depth were left aside, else `Unexpected`.
+pub fn parse(alloc: Global, tokens: &Tokens) -> Result<Program, Fail<ParseFault>>
+    // What is read has these tokens.
+    ensures found { IfOk result (λ p. IsReadable tokens.now.list (program_of p)) }
+    // What has these tokens is read, and nothing else has them.
+    ensures only { (x : PlainProgram) → IsReadable tokens.now.list x → MatchResult result (λ p. program_of p ≡ x) IsNoMemory }
+    // A fault is the one that is kept.
+    ensures fault { IfErr result (IsKept HasProgram tokens.now) }
+{
+    match whole_program(alloc, tokens.list.as_slice()) {
+        Ok(program) => Ok(program),
+        Err(error) => Err(fail(tokens, error)),
+    }
+}
