@@ -16,12 +16,13 @@ use Rattle.schema.specs.declared.fault.SchemaFault.{SchemaFault}
 use Rattle.schema.specs.Answers.{Answers}
 use Rattle.schema.specs.Tokens.{tokens_of, kinds_of, end_of}
 use Rattle.schema.specs.Grammar.{HasSchema}
-use Rattle.schema.specs.Rules.{IsSchema}
+use Rattle.schema.specs.Rules.{IsSchema, AreNamed}
 use Rattle.schema.specs.Reading.{read_of}
 use Rattle.schema.specs.Naming.{declared, nothing_seen, first_broken}
 use Rattle.schema.specs.Schemas.{left_of, last_from, before, first_span, judged, schema_from, schema_of}
 use Rattle.schema.specs.Faults.{IsBadToken, IsBadName, IsRightFault}
 use Rattle.schema.proofs.Whole.{read_found, read_not_deep, read_again, read_fault}
+use Rattle.schema.proofs.Named.{are_named}
 use Rattle.schema.proofs.Soundness.{sound, unbroken}
 
 -- ---- tables
@@ -47,6 +48,9 @@ has_schema text tables e = read_found (kinds_of (tokens_of text)) tables (from_o
 pub is_schema : (text : List ℕ) (tables : List Table) → schema_of text ≡ Ok tables → IsSchema tables
 unfolding schema_of
 is_schema text tables e = sound (tokens_of text) tables (has_schema text tables e) (from_ok (end_of text) (tokens_of text) (read_of (kinds_of (tokens_of text))) tables e).1
+
+pub named : (text : List ℕ) (tables : List Table) → schema_of text ≡ Ok tables → AreNamed tables
+named text tables e = are_named text tables (has_schema text tables e)
 
 pub schema_is : (text : List ℕ) (tables : List Table) → HasSchema (kinds_of (tokens_of text)) tables → IsSchema tables → schema_of text ≡ Ok tables
 unfolding schema_of

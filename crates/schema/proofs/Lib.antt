@@ -7,6 +7,7 @@ pub mod Grammatical
 pub mod Judged
 pub mod Longs
 pub mod Loops
+pub mod Named
 pub mod Pieces
 pub mod Placed
 pub mod Recorded

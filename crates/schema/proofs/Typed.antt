@@ -70,6 +70,10 @@ cell_has tys.Long field x e = long_has field (long_of field) x refl e
 cell_has tys.Bool field x e = truth_has (bytes_eq field (codes "true")) (bytes_eq field (codes "false")) x e
 cell_has tys.Text field x e = text_has (text_of field) x e
 
+pub field_has : (ty : Ty) (field : List ℕ) (answer : Result Scalar (Fail DataRule)) → Answers answer (cell_of ty field) → IfOk answer (λ x. HasTy ty x)
+field_has ty field (Ok x) e = cell_has ty field x e
+field_has ty field (Err f) e = tt
+
 bind_ok : {A B E : Type 0} (r : Result A E) (f : A → Result B E) (y : B) → (r >>= f) ≡ Ok y → (x : A) × (r ≡ Ok x) × (f x ≡ Ok y)
 bind_ok (Ok x) f y e = (x, refl, e)
 bind_ok (Err d) f y e = absurd cc

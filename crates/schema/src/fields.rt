@@ -1,6 +1,7 @@
 // The cells that fields stand for.
 ghost use Rattle.std.specs.Prelude.{◌≡◌, Ok, IfOk, option_map, codes, Some, None, true, false};
 ghost use Rattle.std.specs.Str.{bytes_eq};
+ghost use Rattle.qbs_base.specs.Values.{HasTy};
 ghost use Rattle.schema.specs.Rows.{long_of, text_of, cell_of};
 ghost use Rattle.schema.specs.Answers.{Answers};
 
@@ -51,4 +52,15 @@ pub fn cell(alloc: Global, ty: Ty, field: &[u8]) -> Result<Scalar, Fail<DataRule
             None => Err(Fail::Fault(DataRule::BadUtf8)),
         },
     }
+}
+
+/// What a field of a type stands for, as in a table: a Long field is an optional sign and decimal digits in
+/// the range of 64 bits, a Bool field `true` or `false`, a Text field any UTF-8. Otherwise the fault is
+/// `BadLong`, `BadBool` or `BadUtf8`.
+#[tactic(auto, using(crate::proofs::Typed::field_has))]
+pub fn read_field(alloc: Global, ty: Ty, field: &[u8]) -> Result<Scalar, Fail<DataRule>>
+    ensures value { Answers result (cell_of ty field.now) }
+    ensures typed { IfOk result (λ x. HasTy ty x) }
+{
+    cell(alloc, ty, field)
 }

@@ -4,6 +4,7 @@
 mod fault;
 mod fields;
 mod keywords;
+pub mod laws;
 mod lexing;
 mod loading;
 mod model;
@@ -16,6 +17,7 @@ mod tests;
 mod token;
 
 pub use fault::{DataFault, DataRule, SchemaFault, SchemaRule};
+pub use fields::read_field;
 pub use loading::load_table;
 pub use model::{Schema, parse_schema};
 pub use qbs_base::{Column, Table};

@@ -6,7 +6,7 @@ ghost use Rattle.qbs_base.specs.declared.columns.Table.{Table as PlainTable};
 ghost use Rattle.schema.specs.Answers.{Answers};
 ghost use Rattle.schema.specs.Tokens.{tokens_of, kinds_of};
 ghost use Rattle.schema.specs.Grammar.{HasSchema};
-ghost use Rattle.schema.specs.Rules.{IsSchema};
+ghost use Rattle.schema.specs.Rules.{IsSchema, AreNamed};
 ghost use Rattle.schema.specs.Reading.{read_of};
 ghost use Rattle.schema.specs.Schemas.{left_of, first_span as first_span_of, schema_from, schema_of};
 ghost use Rattle.schema.specs.Faults.{IsRightFault};
@@ -30,13 +30,13 @@ pub struct Schema {
 impl Model for Schema {
     ghost use Rattle.std.specs.Prelude.{List};
     ghost use Rattle.qbs_base.specs.declared.columns.Table.{Table};
-    ghost use Rattle.schema.specs.Rules.{IsSchema};
+    ghost use Rattle.schema.specs.Rules.{IsSchema, AreNamed};
 
     ghost Value = { List Table };
 
     ghost view = { λ a. a.tables };
 
-    ghost invariant = { λ a. IsSchema a.tables };
+    ghost invariant = { λ a. IsSchema a.tables × AreNamed a.tables };
 }
 
 impl Schema {
@@ -44,6 +44,7 @@ impl Schema {
     pub fn tables(&self) -> &[Table]
         ensures value { result.now ≡ self.now }
         ensures sound { IsSchema self.now }
+        ensures named { AreNamed self.now }
     {
         self.tables.as_slice()
     }
@@ -146,6 +147,7 @@ pub fn parse_schema(alloc: Global, bytes: &[u8]) -> Result<Schema, Fail<SchemaFa
     // What is read is a schema by the grammar and the rules.
     ensures found { IfOk result (λ schema. HasSchema (kinds_of (tokens_of bytes.now)) schema) }
     ensures sound { IfOk result (λ schema. IsSchema schema) }
+    ensures named { IfOk result (λ schema. AreNamed schema) }
     // What is one is read.
     ensures only { (tables : List PlainTable) → HasSchema (kinds_of (tokens_of bytes.now)) tables → IsSchema tables → Answers result (Ok tables) }
     ensures fault { IfErr result (IsRightFault bytes.now) }
