@@ -13,7 +13,7 @@ use Rattle.sql_ast.specs.Written.{WrittenCol, WrittenPart, WrittenOpnd, WrittenC
 use Rattle.sql_ast.specs.Written as written
 use Rattle.sql_parse.specs.declared.fault.Stop.{Stop}
 use Rattle.sql_parse.specs.declared.fault.Stop.TheVariants as stops
-use Rattle.sql_parse.specs.declared.scope.Known.{Known}
+use Rattle.sql_parse.specs.declared.known.Known.{Known}
 use Rattle.sql_parse.specs.Scopes.{known_of, knowns_of, scope_of}
 use Rattle.sql_parse.specs.Seen.{Fails}
 

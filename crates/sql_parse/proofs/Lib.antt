@@ -1,7 +1,12 @@
 pub mod Ascii
+pub mod Climbing
+pub mod Depths
+pub mod Descents
+pub mod Distinct
 pub mod Each
 pub mod Exactly
 pub mod Froms
+pub mod Hiding
 pub mod Inside
 pub mod Items
 pub mod Lexed

@@ -1,9 +1,14 @@
 pub mod Answers
 pub mod Calls
+pub mod Chains
+pub mod InSight
 pub mod Negations
 pub mod Operands
 pub mod Pieces
+pub mod Places
 pub mod Said
 pub mod Scopes
 pub mod Seen
+pub mod Sights
+pub mod Steps
 pub mod Types

@@ -8,7 +8,7 @@ use Rattle.qbs_base.specs.declared.columns.Table.{Table}
 use Rattle.qbs_base.specs.Values.{Schema}
 use Rattle.sql_ast.specs.Names.{◌>>=◌, Scope, only_item}
 use Rattle.sql_ast.specs.Names as names
-use Rattle.sql_parse.specs.declared.scope.Known.{Known}
+use Rattle.sql_parse.specs.declared.known.Known.{Known}
 
 -- the first table of this name, with its number
 abbrev pub table_named : Schema → List ℕ → Option (ℕ × Table)
@@ -30,8 +30,3 @@ scope_of around ks = record { outer = take around ks; own = drop around ks }
 -- the only item of the SELECT, with its number
 unfoldable pub own_of : ℕ → List names.Known → Option (ℕ × names.Known)
 own_of around ks = only_item (suc (length (take around ks))) (drop around ks)
-
--- another item has the alias of the first
-abbrev pub is_repeated : List Known → Bool
-is_repeated [] = false
-is_repeated (k ∷ ks) = list_any (λ j. bytes_eq k.alias.now j.alias.now) ks

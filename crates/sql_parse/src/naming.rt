@@ -1,20 +1,23 @@
 // The query that a text says, with its names looked up in a schema.
-ghost use Rattle.std.specs.Prelude.{◌≡◌, ◌≤◌, [], length, IfOk, OnOk, option_map};
+ghost use Rattle.std.specs.Prelude.{◌≡◌, ◌≤◌, [], true, length, IfOk, OnOk, option_map};
 ghost use Rattle.std.specs.declared.option.Option.TheVariants.{Some};
-ghost use Rattle.sql_ast.specs.Names.{each_of, named_condition, named_filter, named_item as named_item_of, named_group as named_group_of, named_key as named_key_of, named_kind as named_kind_of, named_listing, named_number, named_truth, named_query as named_query_of, outermost};
+ghost use Rattle.sql_ast.specs.Names.{each_of, named_condition, named_filter, named_item as named_item_of, named_group as named_group_of, named_key as named_key_of, named_kind as named_kind_of, named_listing, named_number, named_truth, named_query as named_query_of};
 ghost use Rattle.sql_ast.specs.Reading.{condition as plain_condition, filter_of as plain_filter, listing as plain_listing, number as plain_number, truth as plain_truth, query as plain_query};
 ghost use Rattle.sql_ast.specs.Tree.{Both, Either, Not, Exists, Within, Everything, Where};
+ghost use Rattle.sql_parse.specs.InSight.{in_sight};
 ghost use Rattle.sql_parse.specs.Said.{col_of, condition_of, filter_of, item_of, key_of, keys_of, kind_of, listing_of, number_of, truth_of, query_of};
+ghost use Rattle.sql_parse.specs.Chains.{is_part};
 ghost use Rattle.sql_parse.specs.Scopes.{knowns_of, scope_of};
+ghost use Rattle.sql_parse.specs.Steps.{stepped, climbed};
 ghost use Rattle.sql_parse.specs.Seen.{Gives};
 
 use crate::fault::Stop;
+use crate::known::Known;
 use crate::raw::{
     RawCol, RawCond, RawItem, RawKey, RawKind, RawListing, RawNumber, RawQuery, RawTruth,
 };
-use crate::scope::{
-    Known, enter, from_items, item_named, known_parts, named_col, named_opnd, small,
-};
+use crate::scope::{from_items, item_named, known_parts, named_col, named_opnd, small};
+use crate::sight::Sight;
 use qbs_base::{NoMemory, Table, Tys};
 use sql_ast::{
     Cond, FromItems, ListQuery, NumberKind, NumberQuery, Query, SqlCol, SqlItem, SqlKey, SqlKeys,
@@ -88,35 +91,99 @@ fn within_where(
     })
 }
 
+// ---- chains, of which the first operand is named last
+
+/// What is made of a condition: with a second operand, or its opposite.
+#[derive(Drop)]
+pub enum Step {
+    And(Cond),
+    Or(Cond),
+    Not,
+}
+
+fn take_step(alloc: Global, step: Step, a: Cond) -> Result<Cond, NoMemory>
+    ensures { IfOk result (λ c. plain_condition c ≡ stepped step (plain_condition a)) }
+{
+    match step {
+        Step::And(b) => both(alloc, a, b),
+        Step::Or(b) => either(alloc, a, b),
+        Step::Not => not(alloc, a),
+    }
+}
+
+/// What the steps make of a condition, the last one first.
+fn climb(alloc: Global, steps: Vec<Step>, a: Cond) -> Result<Cond, NoMemory>
+    ensures { IfOk result (λ c. plain_condition c ≡ climbed steps.items (plain_condition a)) }
+{
+    let mut steps = steps;
+    let mut a = a;
+    while let Some(last) = steps.pop() {
+        a = take_step(alloc, last, a)?;
+    }
+    Ok(a)
+}
+
 // ---- conditions, where the first `around` items in sight are of the SELECTs around
 
-/// Where it fails, items of inner SELECTs may be left in sight.
+/// Where it fails, items of inner SELECTs may be left in sight. Chains of AND, OR and NOT are walked
+/// without recursion.
+#[cycle(condition)]
 fn condition<'a>(
     alloc: Global,
     schema: &'a [Table],
-    known: &mut Vec<Known<'a>>,
+    known: &mut Sight<'a>,
     around: usize,
     raw: &'a RawCond,
 ) -> Result<Cond, Stop>
-    requires { around ≤ length known.old.items }
-    ensures value { Gives plain_condition result (named_condition schema.now (scope_of around (knowns_of known.old.items)) (condition_of raw.now)) }
-    ensures same { OnOk result (known.new.items ≡ known.old.items) }
+    requires { around ≤ length (in_sight known.old) }
+    ensures value { Gives plain_condition result (named_condition schema.now (scope_of around (knowns_of (in_sight known.old))) (condition_of raw.now)) }
+    ensures same { OnOk result (in_sight known.new ≡ in_sight known.old) }
+{
+    let mut steps = Vec::new(alloc);
+    let mut rest = raw;
+    loop {
+        match rest {
+            RawCond::Both(a, b) => {
+                let b = condition(alloc, schema, known, around, b)?;
+                steps.push(Step::And(b))?;
+                rest = a;
+            }
+            RawCond::Either(a, b) => {
+                let b = condition(alloc, schema, known, around, b)?;
+                steps.push(Step::Or(b))?;
+                rest = a;
+            }
+            RawCond::Not(a) => {
+                steps.push(Step::Not)?;
+                rest = a;
+            }
+            RawCond::Compare(_, _, _)
+            | RawCond::Bare(_)
+            | RawCond::Exists { .. }
+            | RawCond::Within { .. } => {
+                let a = part(alloc, schema, known, around, rest)?;
+                return Ok(climb(alloc, steps, a)?);
+            }
+        }
+    }
+}
+
+/// A condition that is no AND, OR or NOT of others.
+#[cycle(condition)]
+fn part<'a>(
+    alloc: Global,
+    schema: &'a [Table],
+    known: &mut Sight<'a>,
+    around: usize,
+    raw: &'a RawCond,
+) -> Result<Cond, Stop>
+    requires room { around ≤ length (in_sight known.old) }
+    requires part { is_part (condition_of raw.now) ≡ true }
+    ensures value { Gives plain_condition result (named_condition schema.now (scope_of around (knowns_of (in_sight known.old))) (condition_of raw.now)) }
+    ensures same { OnOk result (in_sight known.new ≡ in_sight known.old) }
 {
     match raw {
-        RawCond::Both(a, b) => {
-            let a = condition(alloc, schema, known, around, a)?;
-            let b = condition(alloc, schema, known, around, b)?;
-            Ok(both(alloc, a, b)?)
-        }
-        RawCond::Either(a, b) => {
-            let a = condition(alloc, schema, known, around, a)?;
-            let b = condition(alloc, schema, known, around, b)?;
-            Ok(either(alloc, a, b)?)
-        }
-        RawCond::Not(a) => {
-            let a = condition(alloc, schema, known, around, a)?;
-            Ok(not(alloc, a)?)
-        }
+        RawCond::Both(_, _) | RawCond::Either(_, _) | RawCond::Not(_) => unreachable!(),
         RawCond::Compare(cmp, a, b) => {
             let a = named_opnd(known, around, a)?;
             let b = named_opnd(known, around, b)?;
@@ -130,9 +197,9 @@ fn condition<'a>(
                 None => Ok(exists_all(from)),
                 Some(a) => {
                     let inner = known.len();
-                    enter(known, own)?;
+                    known.enter(own)?;
                     let a = condition(alloc, schema, known, inner, a)?;
-                    known.truncate(inner);
+                    known.leave(inner)?;
                     Ok(exists_where(alloc, from, a)?)
                 }
             }
@@ -148,16 +215,16 @@ fn condition<'a>(
             let own = known_parts(alloc, schema, parts.as_slice())?;
             let from = from_items(alloc, &own)?;
             let inner = known.len();
-            enter(known, own)?;
+            known.enter(own)?;
             let col = named_col(known, inner, col)?;
             match filter {
                 None => {
-                    known.truncate(inner);
+                    known.leave(inner)?;
                     Ok(within_all(opnd, *negated, col, from))
                 }
                 Some(a) => {
                     let a = condition(alloc, schema, known, inner, a)?;
-                    known.truncate(inner);
+                    known.leave(inner)?;
                     Ok(within_where(alloc, opnd, *negated, col, from, a)?)
                 }
             }
@@ -167,14 +234,23 @@ fn condition<'a>(
 
 // ---- queries, whose own items are all that are in sight
 
+/// The items of a SELECT that has none around it are all that is in sight.
+fn outermost<'a>(alloc: Global, own: Vec<Known<'a>>) -> Result<Sight<'a>, NoMemory>
+    ensures { IfOk result (λ s. in_sight s ≡ own.entry.items) }
+{
+    let mut known = Sight::new(alloc);
+    known.enter(own)?;
+    Ok(known)
+}
+
 fn filter<'a>(
     alloc: Global,
     schema: &'a [Table],
-    known: &mut Vec<Known<'a>>,
+    known: &mut Sight<'a>,
     raw: &'a Option<Box<RawCond>>,
 ) -> Result<Option<Cond>, Stop>
-    ensures value { Gives plain_filter result (named_filter schema.now (scope_of 0 (knowns_of known.old.items)) (filter_of raw.now)) }
-    ensures same { OnOk result (known.new.items ≡ known.old.items) }
+    ensures value { Gives plain_filter result (named_filter schema.now (scope_of 0 (knowns_of (in_sight known.old))) (filter_of raw.now)) }
+    ensures same { OnOk result (in_sight known.new ≡ in_sight known.old) }
 {
     match raw {
         None => Ok(None),
@@ -182,8 +258,8 @@ fn filter<'a>(
     }
 }
 
-fn item(known: &[Known<'_>], raw: &RawItem) -> Result<SqlItem, Stop>
-    ensures { Gives (λ x. x) result (named_item_of (scope_of 0 (knowns_of known.now)) (item_of raw.now)) }
+fn item(known: &Sight<'_>, raw: &RawItem) -> Result<SqlItem, Stop>
+    ensures { Gives (λ x. x) result (named_item_of (scope_of 0 (knowns_of (in_sight known.now))) (item_of raw.now)) }
 {
     match raw {
         RawItem::Whole(alias) => {
@@ -196,8 +272,8 @@ fn item(known: &[Known<'_>], raw: &RawItem) -> Result<SqlItem, Stop>
     }
 }
 
-fn group(known: &[Known<'_>], raw: &Option<RawCol>) -> Result<Option<SqlCol>, Stop>
-    ensures { Gives (λ x. x) result (named_group_of (scope_of 0 (knowns_of known.now)) (option_map col_of raw.now)) }
+fn group(known: &Sight<'_>, raw: &Option<RawCol>) -> Result<Option<SqlCol>, Stop>
+    ensures { Gives (λ x. x) result (named_group_of (scope_of 0 (knowns_of (in_sight known.now))) (option_map col_of raw.now)) }
 {
     match raw {
         None => Ok(None),
@@ -205,8 +281,8 @@ fn group(known: &[Known<'_>], raw: &Option<RawCol>) -> Result<Option<SqlCol>, St
     }
 }
 
-fn key(known: &[Known<'_>], raw: &RawKey) -> Result<SqlKey, Stop>
-    ensures { Gives (λ x. x) result (named_key_of (scope_of 0 (knowns_of known.now)) (key_of raw.now)) }
+fn key(known: &Sight<'_>, raw: &RawKey) -> Result<SqlKey, Stop>
+    ensures { Gives (λ x. x) result (named_key_of (scope_of 0 (knowns_of (in_sight known.now))) (key_of raw.now)) }
 {
     let col = named_col(known, 0, &raw.col)?;
     Ok(SqlKey {
@@ -216,8 +292,8 @@ fn key(known: &[Known<'_>], raw: &RawKey) -> Result<SqlKey, Stop>
     })
 }
 
-fn keys(alloc: Global, known: &[Known<'_>], raw: &[RawKey]) -> Result<SqlKeys, Stop>
-    ensures { Gives (λ x. x) result (each_of (named_key_of (scope_of 0 (knowns_of known.now))) (keys_of raw.now)) }
+fn keys(alloc: Global, known: &Sight<'_>, raw: &[RawKey]) -> Result<SqlKeys, Stop>
+    ensures { Gives (λ x. x) result (each_of (named_key_of (scope_of 0 (knowns_of (in_sight known.now)))) (keys_of raw.now)) }
 {
     let mut keys = SqlKeys::new(alloc);
     for raw_key in raw {
@@ -226,8 +302,8 @@ fn keys(alloc: Global, known: &[Known<'_>], raw: &[RawKey]) -> Result<SqlKeys, S
     Ok(keys)
 }
 
-fn kind(known: &[Known<'_>], raw: &RawKind) -> Result<NumberKind, Stop>
-    ensures { Gives (λ x. x) result (named_kind_of (scope_of 0 (knowns_of known.now)) (kind_of raw.now)) }
+fn kind(known: &Sight<'_>, raw: &RawKind) -> Result<NumberKind, Stop>
+    ensures { Gives (λ x. x) result (named_kind_of (scope_of 0 (knowns_of (in_sight known.now))) (kind_of raw.now)) }
 {
     match raw {
         RawKind::Count => Ok(NumberKind::Count),
@@ -240,9 +316,10 @@ fn kind(known: &[Known<'_>], raw: &RawKind) -> Result<NumberKind, Stop>
 fn listing(alloc: Global, schema: &[Table], raw: &RawListing) -> Result<ListQuery, Stop>
     ensures { Gives plain_listing result (named_listing schema.now (listing_of raw.now)) }
 {
-    let mut known = known_parts(alloc, schema, raw.source.parts.as_slice())?;
+    let own = known_parts(alloc, schema, raw.source.parts.as_slice())?;
+    let from = from_items(alloc, &own)?;
+    let mut known = outermost(alloc, own)?;
     let item = item(&known, &raw.item)?;
-    let from = from_items(alloc, &known)?;
     let filter = filter(alloc, schema, &mut known, &raw.source.filter)?;
     let group = group(&known, &raw.group)?;
     let keys = keys(alloc, &known, raw.keys.as_slice())?;
@@ -260,9 +337,10 @@ fn listing(alloc: Global, schema: &[Table], raw: &RawListing) -> Result<ListQuer
 fn number(alloc: Global, schema: &[Table], raw: &RawNumber) -> Result<NumberQuery, Stop>
     ensures { Gives plain_number result (named_number schema.now (number_of raw.now)) }
 {
-    let mut known = known_parts(alloc, schema, raw.source.parts.as_slice())?;
+    let own = known_parts(alloc, schema, raw.source.parts.as_slice())?;
+    let from = from_items(alloc, &own)?;
+    let mut known = outermost(alloc, own)?;
     let kind = kind(&known, &raw.kind)?;
-    let from = from_items(alloc, &known)?;
     let filter = filter(alloc, schema, &mut known, &raw.source.filter)?;
     Ok(NumberQuery {
         kind,
@@ -275,8 +353,9 @@ fn number(alloc: Global, schema: &[Table], raw: &RawNumber) -> Result<NumberQuer
 fn truth(alloc: Global, schema: &[Table], raw: &RawTruth) -> Result<TruthQuery, Stop>
     ensures { Gives plain_truth result (named_truth schema.now (truth_of raw.now)) }
 {
-    let mut known = known_parts(alloc, schema, raw.source.parts.as_slice())?;
-    let from = from_items(alloc, &known)?;
+    let own = known_parts(alloc, schema, raw.source.parts.as_slice())?;
+    let from = from_items(alloc, &own)?;
+    let mut known = outermost(alloc, own)?;
     let filter = filter(alloc, schema, &mut known, &raw.source.filter)?;
     Ok(TruthQuery {
         negated: raw.negated,

@@ -28,30 +28,42 @@ fn opnd_param(opnd: &SqlOpnd) -> u32
     }
 }
 
-/// The greatest number of a parameter, 0 where there is none.
+/// The greatest number of a parameter, 0 where there is none. Chains of AND, OR and NOT are walked
+/// without recursion.
 fn last_param(cond: &Cond) -> u32
     ensures { result ≡ last_param_of (plain_condition cond.now) }
 {
-    match cond {
-        Cond::Both(a, b) => larger(last_param(a), last_param(b)),
-        Cond::Either(a, b) => larger(last_param(a), last_param(b)),
-        Cond::Not(a) => last_param(a),
-        Cond::Compare(_, a, b) => larger(opnd_param(a), opnd_param(b)),
-        Cond::Bare(_) => 0,
-        Cond::Exists { from: _, filter } => match filter {
-            None => 0,
-            Some(a) => last_param(a),
-        },
-        Cond::Within {
-            opnd,
-            negated: _,
-            col: _,
-            from: _,
-            filter,
-        } => match filter {
-            None => larger(opnd_param(opnd), 0),
-            Some(a) => larger(opnd_param(opnd), last_param(a)),
-        },
+    let mut last = 0;
+    let mut rest = cond;
+    loop {
+        match rest {
+            Cond::Both(a, b) | Cond::Either(a, b) => {
+                last = larger(last, last_param(b));
+                rest = a;
+            }
+            Cond::Not(a) => rest = a,
+            Cond::Compare(_, a, b) => {
+                return larger(last, larger(opnd_param(a), opnd_param(b)));
+            }
+            Cond::Bare(_) => return last,
+            Cond::Exists { from: _, filter } => match filter {
+                None => return last,
+                Some(a) => rest = a,
+            },
+            Cond::Within {
+                opnd,
+                negated: _,
+                col: _,
+                from: _,
+                filter,
+            } => {
+                last = larger(last, opnd_param(opnd));
+                match filter {
+                    None => return last,
+                    Some(a) => rest = a,
+                }
+            }
+        }
     }
 }
 

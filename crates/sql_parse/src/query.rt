@@ -57,7 +57,7 @@ fn find(alloc: Global, schema: &[Table], text: &Text) -> Result<Query, Fail<SqlF
 /// Reads the query that a text has under a schema. The fault is the smallest rule that the text
 /// breaks: `BadToken` where it isn't in the grammar, and of a text in the grammar `Unknown`,
 /// `Mismatch`, `BadGroup` or `BadParameter`, whichever comes first. The time that it takes grows
-/// with the text alone, save that aliases and names are looked for one after the other.
+/// with the text, times the logarithm of how many FROM items there are.
 pub fn parse_query(alloc: Global, schema: &Schema, text: &Text) -> Result<Query, Fail<SqlFault>>
     // It answers what reading the text from left to right gives.
     ensures exact { Answers plain_query result (query_of_text schema.now text.now) }

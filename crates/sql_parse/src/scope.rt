@@ -1,26 +1,21 @@
 // FROM items in sight, and what names mean among them.
-ghost use Rattle.std.specs.Prelude.{◌≡◌, ◌++◌, ◌≤◌, map, length, position, IfOk, OnOk, option_map};
-ghost use Rattle.std.specs.List.{list_any};
+ghost use Rattle.std.specs.Prelude.{◌≡◌, ◌≤◌, map, length, position, IfOk, option_map};
 ghost use Rattle.std.specs.Str.{bytes_eq};
 ghost use Rattle.std.specs.declared.option.Option.TheVariants.{Some};
-ghost use Rattle.sql_ast.specs.Names.{alias_of as alias_of_part, known_part as known_part_of, each_of, are_distinct as all_differ, known_parts as known_parts_of, innermost as innermost_item, only_item as only_item_of, item_named as item_named_of, column_named as column_named_of, named_col as named_col_of, named_opnd as named_opnd_of, froms_of};
+ghost use Rattle.sql_ast.specs.Names.{alias_of as alias_of_part, known_part as known_part_of, each_of, are_distinct as all_differ, known_parts as known_parts_of, item_named as item_named_of, column_named as column_named_of, named_col as named_col_of, named_opnd as named_opnd_of, froms_of};
+ghost use Rattle.sql_parse.specs.InSight.{in_sight};
 ghost use Rattle.sql_parse.specs.Said.{col_of, opnd_of, part_of, parts_of};
-ghost use Rattle.sql_parse.specs.Scopes.{known_of, knowns_of, own_of, scope_of, aliases_of, is_repeated as is_repeated_first, table_named as table_named_of};
+ghost use Rattle.sql_parse.specs.Scopes.{known_of, knowns_of, scope_of, aliases_of, table_named as table_named_of};
 ghost use Rattle.sql_parse.specs.Seen.{Gives};
 
 use crate::fault::Stop;
+use crate::known::Known;
+use crate::places::Places;
 use crate::raw::{RawCol, RawOpnd, RawPart};
+use crate::sight::Sight;
 use qbs_base::{Column, Columns, Name, NoMemory, Table};
 use sql_ast::{FromItem, FromItems, SqlCol, SqlColumn, SqlOpnd};
 use std::alloc::Global;
-
-/// A FROM item: its alias, the columns of its table, and what the query keeps of it.
-#[derive(Drop)]
-pub struct Known<'a> {
-    pub alias: &'a Name,
-    pub columns: &'a Columns,
-    pub from: FromItem,
-}
 
 /// A number of 32 bits. More tables, columns or FROM items do not fit in memory.
 pub fn small(number: usize) -> Result<u32, Stop>
@@ -97,33 +92,19 @@ fn each_part<'a>(
     Ok(own)
 }
 
-fn holds_alias(known: &[Known<'_>], alias: &Name) -> bool
-    ensures { result ≡ list_any (λ k. bytes_eq alias.now k.alias.now) known.now }
-{
-    known.iter().any(|item| *alias == *item.alias)
-}
-
-/// Whether another of these items has the alias of the first.
-fn is_repeated(own: &[Known<'_>]) -> bool
-    ensures { result ≡ is_repeated_first own.now }
-{
-    match own {
-        [] => false,
-        [first, rest @ ..] => holds_alias(rest, first.alias),
-    }
-}
-
 /// Whether no alias stands twice.
-fn are_distinct(own: &[Known<'_>]) -> bool
-    ensures { result ≡ all_differ (aliases_of (knowns_of own.now)) }
+fn are_distinct(alloc: Global, own: &[Known<'_>]) -> Result<bool, NoMemory>
+    ensures { IfOk result (λ b. b ≡ all_differ (aliases_of (knowns_of own.now))) }
 {
+    let mut met = Places::new(alloc);
     for number in 0..own.len() {
-        let (_, rest) = own.split_at(number);
-        if is_repeated(rest) {
-            return false;
+        let alias = own[number].alias;
+        if met.get(alias).is_some() {
+            return Ok(false);
         }
+        met.put(alias, Some(number))?;
     }
-    true
+    Ok(true)
 }
 
 /// The items of one FROM, whose aliases differ.
@@ -135,7 +116,7 @@ pub fn known_parts<'a>(
     ensures { Gives (λ v. knowns_of v.items) result (known_parts_of schema.now (parts_of parts.now)) }
 {
     let own = each_part(alloc, schema, parts)?;
-    if !are_distinct(&own) {
+    if !are_distinct(alloc, &own)? {
         return Err(Stop::Broken);
     }
     Ok(own)
@@ -152,58 +133,20 @@ pub fn from_items(alloc: Global, own: &[Known<'_>]) -> Result<FromItems, NoMemor
     Ok(items)
 }
 
-/// Puts the FROM items of an inner SELECT in sight.
-pub fn enter<'a>(known: &mut Vec<Known<'a>>, own: Vec<Known<'a>>) -> Result<(), NoMemory>
-    ensures { OnOk result (known.new.items ≡ known.old.items ++ own.entry.items) }
-{
-    let mut own = own;
-    known.append(&mut own)?;
-    Ok(())
-}
-
 // ---- names, where the first `around` items in sight are of the SELECTs around
-
-/// The last item of this alias, which is the innermost one, with its number.
-fn innermost<'k, 'a>(known: &'k [Known<'a>], alias: &Name) -> Option<(usize, &'k Known<'a>)>
-    ensures { option_map (λ x. (x.0, known_of x.1.now)) result ≡ innermost_item 1 alias.now (knowns_of known.now) }
-{
-    let mut number = known.len();
-    while number > 0 {
-        let item = &known[number - 1];
-        let same = *item.alias == *alias;
-        if same {
-            return Some((number, item));
-        }
-        number -= 1;
-    }
-    None
-}
-
-/// The only item of the SELECT, with its number.
-#[tactic(auto, using(crate::proofs::Named::single_own, crate::proofs::Named::other_own))]
-fn only_item<'k, 'a>(known: &'k [Known<'a>], around: usize) -> Option<(usize, &'k Known<'a>)>
-    requires { around ≤ length known.now }
-    ensures { option_map (λ x. (x.0, known_of x.1.now)) result ≡ own_of around (knowns_of known.now) }
-{
-    let (_, own) = known.split_at(around);
-    if own.len() != 1 {
-        return None;
-    }
-    Some((known.len(), &own[0]))
-}
 
 /// The item that an alias means, or the only one of the SELECT where there is no alias.
 pub fn item_named<'k, 'a>(
-    known: &'k [Known<'a>],
+    known: &'k Sight<'a>,
     around: usize,
     alias: &Option<Name>,
 ) -> Option<(usize, &'k Known<'a>)>
-    requires { around ≤ length known.now }
-    ensures { option_map (λ x. (x.0, known_of x.1.now)) result ≡ item_named_of (scope_of around (knowns_of known.now)) alias.now }
+    requires { around ≤ length (in_sight known.now) }
+    ensures { option_map (λ x. (x.0, known_of x.1.now)) result ≡ item_named_of (scope_of around (knowns_of (in_sight known.now))) alias.now }
 {
     match alias {
-        Some(alias) => innermost(known, alias),
-        None => only_item(known, around),
+        Some(alias) => known.innermost(alias),
+        None => known.only(around),
     }
 }
 
@@ -229,9 +172,9 @@ fn column_named(columns: &Columns, name: &Name) -> Result<SqlColumn, Stop>
     }
 }
 
-pub fn named_col(known: &[Known<'_>], around: usize, col: &RawCol) -> Result<SqlCol, Stop>
-    requires { around ≤ length known.now }
-    ensures { Gives (λ c. c) result (named_col_of (scope_of around (knowns_of known.now)) (col_of col.now)) }
+pub fn named_col(known: &Sight<'_>, around: usize, col: &RawCol) -> Result<SqlCol, Stop>
+    requires { around ≤ length (in_sight known.now) }
+    ensures { Gives (λ c. c) result (named_col_of (scope_of around (knowns_of (in_sight known.now))) (col_of col.now)) }
 {
     let Some((number, item)) = item_named(known, around, &col.alias) else {
         return Err(Stop::Broken);
@@ -241,9 +184,9 @@ pub fn named_col(known: &[Known<'_>], around: usize, col: &RawCol) -> Result<Sql
     Ok(SqlCol { item, column })
 }
 
-pub fn named_opnd(known: &[Known<'_>], around: usize, opnd: &RawOpnd) -> Result<SqlOpnd, Stop>
-    requires { around ≤ length known.now }
-    ensures { Gives (λ o. o) result (named_opnd_of (scope_of around (knowns_of known.now)) (opnd_of opnd.now)) }
+pub fn named_opnd(known: &Sight<'_>, around: usize, opnd: &RawOpnd) -> Result<SqlOpnd, Stop>
+    requires { around ≤ length (in_sight known.now) }
+    ensures { Gives (λ o. o) result (named_opnd_of (scope_of around (knowns_of (in_sight known.now))) (opnd_of opnd.now)) }
 {
     match opnd {
         RawOpnd::Column(col) => Ok(SqlOpnd::Column(named_col(known, around, col)?)),

@@ -1,25 +1,72 @@
-use Rattle.std.proofs.Common.{arith}
+use Rattle.std.proofs.Common.{refl, ap, ◌∙◌, List, arith}
 use Rattle.std.proofs.lemmas.Result.{err_from_is_err_and}
 use Rattle.sql_ast.specs.Reading.{condition}
+use Rattle.sql_parse.specs.declared.naming.Step.{Step}
+use Rattle.sql_parse.specs.InSight.{in_sight}
+use Rattle.sql_parse.specs.Said.{condition_of}
+use Rattle.sql_parse.proofs.Climbing.{over, nothing_over}
+use Rattle.sql_parse.specs.declared.raw.RawCond.{size-RawCond}
+use Rattle.sql_parse.proofs.Depths.{inside_both, inside_either, inside_not}
+use Rattle.sql_parse.proofs.Descents.{named, both_next, either_next, both_stops, either_stops, not_next}
 use Rattle.sql_parse.proofs.Members.{parts_are, all_within, where_within, inner_fails}
 use Rattle.sql_parse.proofs.naming.+condition.Goals as goal
 
-pub returns-in_err-a-in-Some-filter-clause-value : goal.returns-in_err-a-in-Some-filter-clause-value
-returns-in_err-a-in-Some-filter-clause-value t c =
+pub part-returns-in_err-a-in-Some-filter-clause-value : goal.part-returns-in_err-a-in-Some-filter-clause-value
+part-returns-in_err-a-in-Some-filter-clause-value t c =
     let p = err_from_is_err_and c.from_residual-in_err-a-in-Some-filter.result c.from_residual-in_err-a-in-Some-filter.ensures.1 in
     rw (p.1, p.2)
-    (inner_fails c.args.schema.now c.args.around c.len-inner-in-Within.result c.args.raw.now c.in-Within.opnd c.in-Within.negated c.in-Within.col c.in-Within.parts c.in-Within.filter c.in-Some-filter.a c.deref-in-Some-filter.result.now c.args.known.now.items c.in_ok-own-in-Within.own.items c.enter-in-Within.new.known.items c.in_ok-opnd-in-Within.opnd c.in_ok-col-in-Within.col c.in_ok-from-in-Within.from c.in_err-a-in-Some-filter.field-0.0
-    (parts_are c.args.schema.now c.args.around c.len-inner-in-Within.result c.in-Within.opnd c.in-Within.col c.in-Within.parts c.as_slice-in-Within.result.now c.args.known.now.items c.deref-in-Within.result.now c.in_ok-own-in-Within.own.items c.deref-in-Within-2.result.now c.enter-in-Within.new.known.items c.deref-in-Within-3.result.now c.in_ok-opnd-in-Within.opnd c.in_ok-col-in-Within.col c.in_ok-from-in-Within.from c.deref-in-Within.ensures.value c.as_slice-in-Within.ensures c.deref-in-Within-2.ensures.value c.deref-in-Within-3.ensures.value c.in_ok-opnd-in-Within.ensures c.in_ok-own-in-Within.ensures c.in_ok-from-in-Within.ensures c.in_ok-col-in-Within.ensures c.in_ok-enter-in-Within.ensures (omega (arith, c.len-inner-in-Within.ensures, c.args.known.now.ok.0)))
+    (inner_fails c.args.schema.now c.args.around c.len-inner-in-Within.result c.args.raw.now c.in-Within.opnd c.in-Within.negated c.in-Within.col c.in-Within.parts c.in-Within.filter c.in-Some-filter.a c.deref-in-Some-filter.result.now (in_sight c.args.known.now) c.in_ok-own-in-Within.own.items (in_sight c.enter-in-Within.new.self) c.in_ok-opnd-in-Within.opnd c.in_ok-col-in-Within.col c.in_ok-from-in-Within.from c.in_err-a-in-Some-filter.field-0.0
+    (parts_are c.args.schema.now c.args.around c.len-inner-in-Within.result c.in-Within.opnd c.in-Within.col c.in-Within.parts c.as_slice-in-Within.result.now (in_sight c.args.known.now) (in_sight c.args.known.now) c.in_ok-own-in-Within.own.items c.deref-in-Within.result.now (in_sight c.enter-in-Within.new.self) (in_sight c.enter-in-Within.new.self) c.in_ok-opnd-in-Within.opnd c.in_ok-col-in-Within.col c.in_ok-from-in-Within.from refl c.as_slice-in-Within.ensures c.deref-in-Within.ensures.value refl c.in_ok-opnd-in-Within.ensures c.in_ok-own-in-Within.ensures c.in_ok-from-in-Within.ensures c.in_ok-col-in-Within.ensures c.in_ok-enter-in-Within.ensures c.len-inner-in-Within.ensures)
     c.in-Within.is c.in-Some-filter.is c.deref-in-Some-filter.ensures c.in_err-a-in-Some-filter.ensures.value)
 
-pub returns-in-None-filter-clause-value : goal.returns-in-None-filter-clause-value
-returns-in-None-filter-clause-value t c =
-    all_within c.args.schema.now c.args.around c.len-inner-in-Within.result c.args.raw.now c.in-Within.opnd c.in-Within.negated c.in-Within.col c.in-Within.parts c.in-Within.filter c.args.known.now.items c.in_ok-own-in-Within.own.items c.enter-in-Within.new.known.items c.in_ok-opnd-in-Within.opnd c.in_ok-col-in-Within.col c.in_ok-from-in-Within.from (condition c.within_all.result)
-    (parts_are c.args.schema.now c.args.around c.len-inner-in-Within.result c.in-Within.opnd c.in-Within.col c.in-Within.parts c.as_slice-in-Within.result.now c.args.known.now.items c.deref-in-Within.result.now c.in_ok-own-in-Within.own.items c.deref-in-Within-2.result.now c.enter-in-Within.new.known.items c.deref-in-Within-3.result.now c.in_ok-opnd-in-Within.opnd c.in_ok-col-in-Within.col c.in_ok-from-in-Within.from c.deref-in-Within.ensures.value c.as_slice-in-Within.ensures c.deref-in-Within-2.ensures.value c.deref-in-Within-3.ensures.value c.in_ok-opnd-in-Within.ensures c.in_ok-own-in-Within.ensures c.in_ok-from-in-Within.ensures c.in_ok-col-in-Within.ensures c.in_ok-enter-in-Within.ensures (omega (arith, c.len-inner-in-Within.ensures, c.args.known.now.ok.0)))
+pub part-returns-in_ok-leave-in-None-filter-clause-value : goal.part-returns-in_ok-leave-in-None-filter-clause-value
+part-returns-in_ok-leave-in-None-filter-clause-value t c =
+    all_within c.args.schema.now c.args.around c.len-inner-in-Within.result c.args.raw.now c.in-Within.opnd c.in-Within.negated c.in-Within.col c.in-Within.parts c.in-Within.filter (in_sight c.args.known.now) c.in_ok-own-in-Within.own.items (in_sight c.enter-in-Within.new.self) c.in_ok-opnd-in-Within.opnd c.in_ok-col-in-Within.col c.in_ok-from-in-Within.from (condition c.within_all.result)
+    (parts_are c.args.schema.now c.args.around c.len-inner-in-Within.result c.in-Within.opnd c.in-Within.col c.in-Within.parts c.as_slice-in-Within.result.now (in_sight c.args.known.now) (in_sight c.args.known.now) c.in_ok-own-in-Within.own.items c.deref-in-Within.result.now (in_sight c.enter-in-Within.new.self) (in_sight c.enter-in-Within.new.self) c.in_ok-opnd-in-Within.opnd c.in_ok-col-in-Within.col c.in_ok-from-in-Within.from refl c.as_slice-in-Within.ensures c.deref-in-Within.ensures.value refl c.in_ok-opnd-in-Within.ensures c.in_ok-own-in-Within.ensures c.in_ok-from-in-Within.ensures c.in_ok-col-in-Within.ensures c.in_ok-enter-in-Within.ensures c.len-inner-in-Within.ensures)
     c.in-Within.is c.in-None-filter.is c.within_all.ensures
 
-pub returns-in_ok-within_where-in-Some-filter-clause-value : goal.returns-in_ok-within_where-in-Some-filter-clause-value
-returns-in_ok-within_where-in-Some-filter-clause-value t c =
-    where_within c.args.schema.now c.args.around c.len-inner-in-Within.result c.args.raw.now c.in-Within.opnd c.in-Within.negated c.in-Within.col c.in-Within.parts c.in-Within.filter c.in-Some-filter.a c.deref-in-Some-filter.result.now c.args.known.now.items c.in_ok-own-in-Within.own.items c.enter-in-Within.new.known.items c.in_ok-opnd-in-Within.opnd c.in_ok-col-in-Within.col c.in_ok-from-in-Within.from (condition c.in_ok-a-in-Some-filter.a) (condition c.in_ok-within_where-in-Some-filter.field-0)
-    (parts_are c.args.schema.now c.args.around c.len-inner-in-Within.result c.in-Within.opnd c.in-Within.col c.in-Within.parts c.as_slice-in-Within.result.now c.args.known.now.items c.deref-in-Within.result.now c.in_ok-own-in-Within.own.items c.deref-in-Within-2.result.now c.enter-in-Within.new.known.items c.deref-in-Within-3.result.now c.in_ok-opnd-in-Within.opnd c.in_ok-col-in-Within.col c.in_ok-from-in-Within.from c.deref-in-Within.ensures.value c.as_slice-in-Within.ensures c.deref-in-Within-2.ensures.value c.deref-in-Within-3.ensures.value c.in_ok-opnd-in-Within.ensures c.in_ok-own-in-Within.ensures c.in_ok-from-in-Within.ensures c.in_ok-col-in-Within.ensures c.in_ok-enter-in-Within.ensures (omega (arith, c.len-inner-in-Within.ensures, c.args.known.now.ok.0)))
+pub part-returns-in_ok-within_where-in-Some-filter-clause-value : goal.part-returns-in_ok-within_where-in-Some-filter-clause-value
+part-returns-in_ok-within_where-in-Some-filter-clause-value t c =
+    where_within c.args.schema.now c.args.around c.len-inner-in-Within.result c.args.raw.now c.in-Within.opnd c.in-Within.negated c.in-Within.col c.in-Within.parts c.in-Within.filter c.in-Some-filter.a c.deref-in-Some-filter.result.now (in_sight c.args.known.now) c.in_ok-own-in-Within.own.items (in_sight c.enter-in-Within.new.self) c.in_ok-opnd-in-Within.opnd c.in_ok-col-in-Within.col c.in_ok-from-in-Within.from (condition c.in_ok-a-in-Some-filter.a) (condition c.in_ok-within_where-in-Some-filter.field-0)
+    (parts_are c.args.schema.now c.args.around c.len-inner-in-Within.result c.in-Within.opnd c.in-Within.col c.in-Within.parts c.as_slice-in-Within.result.now (in_sight c.args.known.now) (in_sight c.args.known.now) c.in_ok-own-in-Within.own.items c.deref-in-Within.result.now (in_sight c.enter-in-Within.new.self) (in_sight c.enter-in-Within.new.self) c.in_ok-opnd-in-Within.opnd c.in_ok-col-in-Within.col c.in_ok-from-in-Within.from refl c.as_slice-in-Within.ensures c.deref-in-Within.ensures.value refl c.in_ok-opnd-in-Within.ensures c.in_ok-own-in-Within.ensures c.in_ok-from-in-Within.ensures c.in_ok-col-in-Within.ensures c.in_ok-enter-in-Within.ensures c.len-inner-in-Within.ensures)
     c.in-Within.is c.in-Some-filter.is c.deref-in-Some-filter.ensures c.in_ok-a-in-Some-filter.ensures.value c.in_ok-within_where-in-Some-filter.ensures
+
+pub condition-loop-rest-init : goal.condition-loop-rest-init
+condition-loop-rest-init t c = record {
+  inside = omega arith;
+  same = refl;
+  so_far = ap (λ (ss : List Step). over ss (named c.args.schema.now c.args.around (in_sight c.args.known.now) (condition_of c.args.raw.now))) c.new-steps.ensures.items ∙ nothing_over (named c.args.schema.now c.args.around (in_sight c.args.known.now) (condition_of c.args.raw.now));
+}
+
+pub condition-returns-in_err-b-in-Both-clause-value : goal.condition-returns-in_err-b-in-Both-clause-value
+condition-returns-in_err-b-in-Both-clause-value t c =
+    let p = err_from_is_err_and c.from_residual.result c.from_residual.ensures.1 in
+    rw (p.1, p.2)
+    (both_stops c.args.schema.now c.args.around (in_sight c.args.known.now) (in_sight c.loop-rest.known) c.loop-rest.rest.now c.in-Both.a.value c.deref.result.now c.in-Both.a c.in-Both.b c.loop-rest.steps.items (named c.args.schema.now c.args.around (in_sight c.args.known.now) (condition_of c.args.raw.now)) c.loop-rest.invariant.same refl c.deref.ensures c.loop-rest.invariant.so_far c.in-Both.is c.in_err-b-in-Both.field-0.0 c.in_err-b-in-Both.ensures.value)
+
+pub condition-loop-rest-preserved-in-Both-1 : goal.condition-loop-rest-preserved-in-Both-1
+condition-loop-rest-preserved-in-Both-1 t c = record {
+  inside = inside_both c.loop-rest.rest.now c.deref-rest.result.now c.in-Both.a c.in-Both.b (size-RawCond c.args.raw.now) c.in-Both.is c.deref-rest.ensures c.loop-rest.invariant.inside;
+  same = c.in_ok-b-in-Both.ensures.same ∙ c.loop-rest.invariant.same;
+  so_far = both_next c.args.schema.now c.args.around (in_sight c.args.known.now) (in_sight c.loop-rest.known) c.loop-rest.rest.now c.deref-rest.result.now c.deref.result.now c.in-Both.a c.in-Both.b c.loop-rest.steps.items (named c.args.schema.now c.args.around (in_sight c.args.known.now) (condition_of c.args.raw.now)) c.loop-rest.invariant.same c.deref-rest.ensures c.deref.ensures c.loop-rest.invariant.so_far c.in-Both.is c.push.new.self.items c.in_ok-b-in-Both.b c.in_ok-b-in-Both.ensures.value c.in_ok-push-in-Both.ensures.items;
+}
+
+pub condition-returns-in_err-b-in-Either-clause-value : goal.condition-returns-in_err-b-in-Either-clause-value
+condition-returns-in_err-b-in-Either-clause-value t c =
+    let p = err_from_is_err_and c.from_residual-in_err-b-in-Either.result c.from_residual-in_err-b-in-Either.ensures.1 in
+    rw (p.1, p.2)
+    (either_stops c.args.schema.now c.args.around (in_sight c.args.known.now) (in_sight c.loop-rest.known) c.loop-rest.rest.now c.in-Either.a.value c.deref-in-Either.result.now c.in-Either.a c.in-Either.b c.loop-rest.steps.items (named c.args.schema.now c.args.around (in_sight c.args.known.now) (condition_of c.args.raw.now)) c.loop-rest.invariant.same refl c.deref-in-Either.ensures c.loop-rest.invariant.so_far c.in-Either.is c.in_err-b-in-Either.field-0.0 c.in_err-b-in-Either.ensures.value)
+
+pub condition-loop-rest-preserved-in-Either-1 : goal.condition-loop-rest-preserved-in-Either-1
+condition-loop-rest-preserved-in-Either-1 t c = record {
+  inside = inside_either c.loop-rest.rest.now c.deref-rest-in-Either.result.now c.in-Either.a c.in-Either.b (size-RawCond c.args.raw.now) c.in-Either.is c.deref-rest-in-Either.ensures c.loop-rest.invariant.inside;
+  same = c.in_ok-b-in-Either.ensures.same ∙ c.loop-rest.invariant.same;
+  so_far = either_next c.args.schema.now c.args.around (in_sight c.args.known.now) (in_sight c.loop-rest.known) c.loop-rest.rest.now c.deref-rest-in-Either.result.now c.deref-in-Either.result.now c.in-Either.a c.in-Either.b c.loop-rest.steps.items (named c.args.schema.now c.args.around (in_sight c.args.known.now) (condition_of c.args.raw.now)) c.loop-rest.invariant.same c.deref-rest-in-Either.ensures c.deref-in-Either.ensures c.loop-rest.invariant.so_far c.in-Either.is c.push-in-Either.new.self.items c.in_ok-b-in-Either.b c.in_ok-b-in-Either.ensures.value c.in_ok-push-in-Either.ensures.items;
+}
+
+pub condition-loop-rest-preserved : goal.condition-loop-rest-preserved
+condition-loop-rest-preserved t c = record {
+  inside = inside_not c.loop-rest.rest.now c.deref-rest-in-Not.result.now c.in-Not.a (size-RawCond c.args.raw.now) c.in-Not.is c.deref-rest-in-Not.ensures c.loop-rest.invariant.inside;
+  same = c.loop-rest.invariant.same;
+  so_far = not_next c.args.schema.now c.args.around (in_sight c.args.known.now) c.loop-rest.rest.now c.deref-rest-in-Not.result.now c.in-Not.a c.loop-rest.steps.items c.push-in-Not.new.self.items (named c.args.schema.now c.args.around (in_sight c.args.known.now) (condition_of c.args.raw.now)) c.in-Not.is c.deref-rest-in-Not.ensures c.in_ok-push-in-Not.ensures.items c.loop-rest.invariant.so_far;
+}

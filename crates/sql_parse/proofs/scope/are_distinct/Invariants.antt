@@ -1,6 +1,5 @@
-use Rattle.std.proofs.Common.{◌≡◌, drop}
-use Rattle.sql_parse.proofs.Named.{differ}
+use Rattle.sql_parse.proofs.Distinct.{AreMet}
 use Rattle.sql_parse.proofs.scope.are_distinct.Given as goal
 
 abbrev pub invariant-loop-number : goal.invariant-loop-number
-invariant-loop-number l = differ (drop l.number l.own) ≡ differ l.own
+invariant-loop-number l = AreMet l.met l.own l.number

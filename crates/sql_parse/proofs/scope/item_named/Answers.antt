@@ -1,11 +1,12 @@
 use Rattle.std.proofs.Common.{sym, ap, ◌∙◌}
 use Rattle.sql_ast.specs.Names.{item_named}
+use Rattle.sql_parse.specs.InSight.{in_sight}
 use Rattle.sql_parse.specs.Scopes.{knowns_of, scope_of}
 use Rattle.sql_parse.proofs.Named.{unaliased}
 use Rattle.sql_parse.proofs.scope.item_named.Goals as goal
 
 pub returns-in-None : goal.returns-in-None
 returns-in-None c =
-    c.only_item.ensures
-    ∙ sym (unaliased c.args.around (knowns_of c.args.known.now))
-    ∙ ap (item_named (scope_of c.args.around (knowns_of c.args.known.now))) (sym c.in-None.is)
+    c.only.ensures
+    ∙ sym (unaliased c.args.around (knowns_of (in_sight c.args.known.now)))
+    ∙ ap (item_named (scope_of c.args.around (knowns_of (in_sight c.args.known.now)))) (sym c.in-None.is)
