@@ -6,6 +6,7 @@ use Rattle.tor_terms.specs.declared.term.Atom.{Atom}
 use Rattle.tor_terms.specs.Plain.{Tree}
 use Rattle.tor_terms.specs.Truth.{World, truth}
 use Rattle.tor_terms.specs.Value.{value}
+use Rattle.tor_terms.specs.Worlds.{world_of}
 use Rattle.tor_terms.proofs.Identical.{same_tree-true}
 use Rattle.tor_axioms.specs.declared.derivation.Step.{Step}
 use Rattle.tor_axioms.specs.declared.facts.Literal.{Literal}
@@ -16,7 +17,7 @@ use Rattle.tor_axioms.specs.Paths.{applied, on_tree, run}
 use Rattle.tor_axioms.proofs.Decided.{and_left, and_right, Hold, with_fact-holds, with_facts-hold}
 use Rattle.tor_axioms.proofs.Kept.{applied-keeps}
 use Rattle.tor_axioms.proofs.Ready.{valid-ready}
-use Rattle.vc_gen.specs.Soundness.{IsValid, AllValid, AllSound, AllAccepted}
+use Rattle.vc_gen.specs.Soundness.{IsValid, AllValid, IsValidAnywhere, AllValidAnywhere, AllSound, AllAccepted}
 
 module _ (w : World) (atoms : List Atom) where
   -- the end of steps has the value of their start
@@ -62,15 +63,29 @@ module _ (w : World) (atoms : List Atom) where
 accepts-sound : (c : Claim) (d : Proof) → accepts c d ≡ true → IsSound c
 accepts-sound c d e = λ w h a b. accepted-same w c.atoms (with_facts c.atoms [] c.facts) d c.left c.right (with_facts-hold w c.atoms c.facts [] tt h) a b e
 
-pub sound-valid : (c : Claim) → IsSound c → IsValid c
-sound-valid c sound = λ w left right facts. sound w facts (valid-ready w c.left left) (valid-ready w c.right right)
+sound-anywhere : (c : Claim) → IsSound c → IsValidAnywhere c
+sound-anywhere c sound = λ w left right facts. sound w facts (valid-ready w c.left left) (valid-ready w c.right right)
+
+-- what holds in every world holds in those of environments that the terms fit
+anywhere-valid : (c : Claim) → IsValidAnywhere c → IsValid c
+anywhere-valid c h = λ env left right fits_left fits_right facts. h (world_of env) left right facts
+
+all-anywhere-valid : (cs : List Claim) → AllValidAnywhere cs → AllValid cs
+all-anywhere-valid [] h = tt
+all-anywhere-valid (c ∷ cs) h = (anywhere-valid c h.0, all-anywhere-valid cs h.1)
+
+pub all-sound-anywhere : (cs : List Claim) → AllSound cs → AllValidAnywhere cs
+all-sound-anywhere [] h = tt
+all-sound-anywhere (c ∷ cs) h = (sound-anywhere c h.0, all-sound-anywhere cs h.1)
+
+pub all-accepted-anywhere : (cs : List Claim) (ds : List Proof) → AllAccepted cs ds → AllValidAnywhere cs
+all-accepted-anywhere [] [] h = tt
+all-accepted-anywhere [] (d ∷ ds) h = absurd h
+all-accepted-anywhere (c ∷ cs) [] h = absurd h
+all-accepted-anywhere (c ∷ cs) (d ∷ ds) h = (sound-anywhere c (accepts-sound c d h.0), all-accepted-anywhere cs ds h.1)
 
 pub all-sound-valid : (cs : List Claim) → AllSound cs → AllValid cs
-all-sound-valid [] h = tt
-all-sound-valid (c ∷ cs) h = (sound-valid c h.0, all-sound-valid cs h.1)
+all-sound-valid cs h = all-anywhere-valid cs (all-sound-anywhere cs h)
 
 pub all-accepted-valid : (cs : List Claim) (ds : List Proof) → AllAccepted cs ds → AllValid cs
-all-accepted-valid [] [] h = tt
-all-accepted-valid [] (d ∷ ds) h = absurd h
-all-accepted-valid (c ∷ cs) [] h = absurd h
-all-accepted-valid (c ∷ cs) (d ∷ ds) h = (sound-valid c (accepts-sound c d h.0), all-accepted-valid cs ds h.1)
+all-accepted-valid cs ds h = all-anywhere-valid cs (all-accepted-anywhere cs ds h)

@@ -1,10 +1,9 @@
 -- What a valid fragment says of the layers of an accumulator.
-use Rattle.std.proofs.Common.{◌≡◌, ℕ, zero, suc, ◌<◌, ◌≤◌, Bool, true, false, ◌&&◌, ◌||◌, List, [], ◌∷◌, ◌++◌, take, length, nat_eq, nat_lt, slice_get, refl, sym, ap, ap₂, ◌∙◌, subst, arith, append_assoc, length-append}
-use Rattle.std.specs.List.{list_all, take-map, AllByRecursion}
+use Rattle.std.proofs.Common.{◌≡◌, ℕ, zero, suc, ◌<◌, ◌≤◌, Bool, true, false, ◌&&◌, ◌||◌, List, [], ◌∷◌, ◌++◌, take, length, nat_eq, nat_lt, refl, sym, ap, ap₂, ◌∙◌, subst, arith, append_assoc, length-append}
+use Rattle.std.specs.List.{list_all, take-map}
 use Rattle.std.proofs.lemmas.List.{map-append, take-append-drop}
 use Rattle.std.proofs.lemmas.Bool.Decides.{nat_tests}
 use Rattle.std.specs.declared.option.Option.{Option}
-use Rattle.std.specs.declared.option.Option.TheVariants.{Some, None}
 use Rattle.tor_terms.specs.declared.term.Atom.{Atom}
 use Rattle.tor_terms.specs.Plain.{Form}
 use Rattle.tor_terms.specs.Truth.{form_within}
@@ -106,7 +105,7 @@ layers_chain f a v =
 pub cut_chain : (f : Fragment) (a : Accumulator) → AccumulatorIsValid f a → Chain f.atoms [] (outside a ++ inside a)
 cut_chain f a v = subst (Chain f.atoms []) (sym (cut_layers a)) (layers_chain f a v)
 
-cut_loops : (a : Accumulator) → loops_of (outside a) ++ loops_of (inside a) ≡ a.chain
+pub cut_loops : (a : Accumulator) → loops_of (outside a) ++ loops_of (inside a) ≡ a.chain
 cut_loops a = sym (map-append (λ y. y.over) (outside a) (inside a)) ∙ ap loops_of (cut_layers a) ∙ loops_layers a.chain a.guards
 
 pub cut_reads : (f : Fragment) (a : Accumulator) → AccumulatorIsValid f a → ReadsAmong a.update (loops_of (outside a) ++ loops_of (inside a))
@@ -154,18 +153,3 @@ unfolding flag_is_quiet
 flag_quiet f a v h =
     let q : all_formulas (reads_no_flag f.atoms) a ≡ true = sym (ap (λ x. x || all_formulas (reads_no_flag f.atoms) a) (not_zero a.base h)) ∙ v.quiet in
     quiet_take f.atoms a.base (layers_of a) (quiet_layers f.atoms a.chain a.guards (and_left (list_all (guard_all (reads_no_flag f.atoms)) a.guards) (list_all (reads_no_flag f.atoms) a.pool) q))
-
--- ---- members of lists by number
-
-pub some_eq : {X : Type 0} (x y : X) → Some x ≡ Some y → x ≡ y
-some_eq x y e = ap (λ o. elim o [ Some z ↦ z | None ↦ x ]) e
-
-pub all_at : {X : Type 0} (P : X → Type 0) (xs : List X) (k : ℕ) (x : X) → AllByRecursion P xs → slice_get xs k ≡ Some x → P x
-all_at P [] k x h e = absurd cc
-all_at P (y ∷ ys) zero x h e = subst P (some_eq y x e) h.0
-all_at P (y ∷ ys) (suc k) x h e = all_at P ys k x h.1 e
-
-pub list_all_at : {X : Type 0} (test : X → Bool) (xs : List X) (k : ℕ) (x : X) → list_all test xs ≡ true → slice_get xs k ≡ Some x → test x ≡ true
-list_all_at test [] k x h e = absurd cc
-list_all_at test (y ∷ ys) zero x h e = subst (λ z. test z ≡ true) (some_eq y x e) (and_left (test y) (list_all test ys) h)
-list_all_at test (y ∷ ys) (suc k) x h e = list_all_at test ys k x (and_right (test y) (list_all test ys) h) e

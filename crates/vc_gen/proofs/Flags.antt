@@ -16,7 +16,8 @@ use Rattle.kernel_lang.specs.Validity.{on_spine}
 use Rattle.vc_gen.proofs.Alike.{at}
 use Rattle.vc_gen.proofs.Scope.{Chain}
 use Rattle.vc_gen.proofs.Whole.{every_row, whole_run}
-use Rattle.vc_gen.proofs.Levels.{AllCurrent, AllPass, current_kept, current_append, pass_kept, all_unread, chain_inside}
+use Rattle.vc_gen.proofs.Uses.{AllCurrent}
+use Rattle.vc_gen.proofs.Levels.{AllPass, current_kept, current_append, pass_kept, all_unread, chain_inside}
 
 pub below : {X : Type 0} (xs : List X) (t : ℕ) (x : X) → slice_get xs t ≡ Some x → t < length xs
 below [] t x h = absurd cc

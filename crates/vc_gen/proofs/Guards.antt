@@ -12,14 +12,15 @@ use Rattle.tor_terms.specs.Value.{value}
 use Rattle.kernel_lang.specs.Plain.{Fragment}
 use Rattle.kernel_lang.specs.Pools.{Member}
 use Rattle.kernel_lang.specs.Postcondition.{loops_of, postcondition, flag_by_choice, with_choices}
-use Rattle.kernel_lang.specs.Running.{Layer, layers_of, outside, inside, passes, started, run, flag_by_run, accumulated}
+use Rattle.kernel_lang.specs.Running.{Layer, layers_of, outside, inside, placed, passes, started, run, flag_by_run, accumulated}
 use Rattle.kernel_lang.specs.Validity.{guard_all, reads_no_flag, on_spine}
 use Rattle.vc_gen.proofs.Alike.{at, AtomAgrees, FlagsAgree, form_same, quiet_same}
 use Rattle.vc_gen.proofs.Scope.{Chain}
 use Rattle.vc_gen.proofs.Whole.{EndsWith, whole_run, run_agrees}
-use Rattle.vc_gen.proofs.Levels.{AllCurrent, AllPass, whole-ends}
+use Rattle.vc_gen.proofs.Uses.{AllCurrent}
+use Rattle.vc_gen.proofs.Levels.{AllPass}
 use Rattle.vc_gen.proofs.Flags.{GuardsAgree, same_run, spine_false, pass_append}
-use Rattle.vc_gen.proofs.Tables.{Quiet, IsShown, IsFlag, tables_agree}
+use Rattle.vc_gen.proofs.Tables.{Quiet, EndsAt, IsFlag, tables_agree}
 
 -- a guard that stands down the left parts of a formula
 abbrev pub spine_of : Option Form → Form → Bool
@@ -49,7 +50,7 @@ module _ (f : Fragment) (w : World) (ms : List Member) where
     pub own : Layer
     pub acc : slice_get f.accs k ≡ Some member.0
     pub chosen : slice_get ms k ≡ Some member
-    pub flag : IsFlag f.atoms member
+    pub flag : IsFlag w f.atoms member
     pub split : outside member.0 ≡ before ++ own ∷ []
     pub over : loops_of (outside member.0) ≡ loops_of (before ++ y ∷ [])
     pub places : loops ≡ loops_of (outside member.0)
@@ -136,11 +137,12 @@ module _ (f : Fragment) (w : World) (ms : List Member) where
       at_guard turns rows now pass (Some q) m = guard_case turns rows before y now pass q m
 
   -- an accumulator that stands outside all loops
-  pub member-ends : (m : Member) → IsShown f.atoms m → Chain f.atoms [] (layers_of m.0) → outside m.0 ≡ [] → inside m.0 ≡ layers_of m.0 → LayersMayRead [] (layers_of m.0)
+  pub member-ends : (m : Member) → EndsAt choosing f.atoms m → Chain f.atoms [] (layers_of m.0) → outside m.0 ≡ [] → inside m.0 ≡ layers_of m.0 → LayersMayRead [] (layers_of m.0) → ◌≡◌ {A = ℕ → Row} (placed [] []) w.current
       → EndsWith (accumulated f w m.0) (value (with_choices f ms w) f.atoms (postcondition m))
-  member-ends m shown chain none all reads =
+  member-ends m ends chain none all reads begin =
       subst (EndsWith (run running f.atoms m.0.update (layers_of m.0) w.current (started m.0.start)))
       (same_run w f.atoms by_run by_choice m.0.update (layers_of m.0) [] chain (guards_agree (layers_of m.0) [] reads) w.turns w.current tt tt (started m.0.start)
       ∙ ap (λ ys. whole_run choosing f.atoms m.0.update ys w.current (started m.0.start)) (sym all)
-      ∙ whole-ends choosing f.atoms m.0.update m.1 m.0.start (outside m.0) (inside m.0) shown.chain shown.reads shown.valid w.turns w.current w.held (subst (λ zs. AllCurrent choosing (loops_of zs)) (sym none) tt) (subst (AllPass choosing f.atoms w.current) (sym none) tt))
+      ∙ subst (λ c. whole_run choosing f.atoms m.0.update (inside m.0) c (started m.0.start) ≡ value (at choosing w.turns c w.held) f.atoms (postcondition m)) begin
+      (ends w.turns [] [] (subst (λ zs. AllCurrent (at choosing w.turns (placed [] []) w.held) (loops_of zs)) (sym none) tt) (subst (AllPass choosing f.atoms (placed [] [])) (sym none) tt)))
       (run_agrees running f.atoms m.0.update (layers_of m.0) w.current (started m.0.start))

@@ -21,29 +21,19 @@ use Rattle.kernel_lang.specs.Postcondition.{loops_of, nest_walks, nest_ones, bod
 use Rattle.kernel_lang.specs.Running.{Layer, with_row, passes, started}
 use Rattle.kernel_lang.specs.Validity.{element_of, element_within, guard_all}
 use Rattle.vc_gen.specs.Conditions.{by_paths, true_steps, false_steps, at_level, level, conditions_in, ways_through}
-use Rattle.vc_gen.specs.Soundness.{AllValid}
+use Rattle.vc_gen.proofs.AllOf.{all_left, all_right}
 use Rattle.vc_gen.proofs.Alike.{at}
 use Rattle.vc_gen.proofs.Decide.{Follows, Reached, follows_both, reached_with, guard_reached, satisfied}
 use Rattle.vc_gen.proofs.Scope.{IsNew, new_left, row_scope, Chain, Unread, unread_right}
 use Rattle.vc_gen.proofs.Frame.{level_same}
 use Rattle.vc_gen.proofs.Whole.{every_row, whole_run}
-
-pub all_left : (cs ds : List Claim) → AllValid (cs ++ ds) → AllValid cs
-all_left [] ds h = tt
-all_left (c ∷ cs) ds h = (h.0, all_left cs ds h.1)
-
-pub all_right : (cs ds : List Claim) → AllValid (cs ++ ds) → AllValid ds
-all_right [] ds h = h
-all_right (c ∷ cs) ds h = all_right cs ds h.1
-
-abbrev pub AllCurrent : World → List ℕ → Type 0
-AllCurrent w ls = AllByRecursion (IsCurrent w) ls
+use Rattle.vc_gen.proofs.Uses.{AllCurrent, turns_with, Use}
 
 pub current_append : (w : World) (a b : List ℕ) → AllCurrent w a → AllCurrent w b → AllCurrent w (a ++ b)
 current_append w [] b h g = g
 current_append w (j ∷ a) b h g = (h.0, current_append w a b h.1 g)
 
-among_current : (w : World) (j : ℕ) (ls : List ℕ) → AllCurrent w ls → has_loop ls j ≡ true → IsCurrent w j
+pub among_current : (w : World) (j : ℕ) (ls : List ℕ) → AllCurrent w ls → has_loop ls j ≡ true → IsCurrent w j
 among_current w j [] c h = absurd cc
 among_current w j (l ∷ ls) c h = go (nat_eq l j) refl h (among_current w j ls c.1)
   where
@@ -111,25 +101,28 @@ module _ (b : World) (atoms : List Atom) where
   current_held t c h g (k ∷ ks) now = (record { below = now.0.below; row = now.0.row }, current_held t c h g ks now.1)
 
   -- facts that hold, and the valid conditions under them
-  record Picked (rows : ℕ → Row) (g : Path → List Claim) : Type 0 where
+  record Picked (V : Claim → Type 0) (rows : ℕ → Row) (g : Path → List Claim) : Type 0 where
     facts : Path
     hold : Follows b atoms rows facts
-    valid : AllValid (g facts)
+    valid : AllByRecursion V (g facts)
 
-  pick : (rows : ℕ → Row) (g : Path → List Claim) (Fs : List Path) → AllValid (flat_map g Fs) → Reached b atoms rows Fs → Picked rows g
-  pick rows g [] a h = absurd h
-  pick rows g (F ∷ Fs) a h = elim h [ inl s ↦ record { facts = F; hold = s; valid = all_left (g F) (flat_map g Fs) a } | inr r ↦ pick rows g Fs (all_right (g F) (flat_map g Fs) a) r ]
+  pick : (V : Claim → Type 0) (rows : ℕ → Row) (g : Path → List Claim) (Fs : List Path) → AllByRecursion V (flat_map g Fs) → Reached b atoms rows Fs → Picked V rows g
+  pick V rows g [] a h = absurd h
+  pick V rows g (F ∷ Fs) a h = elim h [ inl s ↦ record { facts = F; hold = s; valid = all_left V (g F) (flat_map g Fs) a } | inr r ↦ pick V rows g Fs (all_right V (g F) (flat_map g Fs) a) r ]
 
   -- the condition of a path that holds
-  by_path : (t : ℕ → ℕ) (c : ℕ → Row) (h : ℕ → List Datum) (l r : Tree) (F : Path) → Follows b atoms c F → IsValidFor (at b t c h) l → IsValidFor (at b t c h) r → (ps : List Path) → AllValid (by_paths atoms F l r ps) → Reached b atoms c ps
-      → value (at b t c h) atoms l ≡ value (at b t c h) atoms r
-  by_path t c h l r F s x y [] v k = absurd k
-  by_path t c h l r F s x y (p ∷ ps) v k = elim k [ inl g ↦ v.0 (at b t c h) x y (satisfied b atoms c t h (F ++ p) (follows_both b atoms c F p s g)) | inr g ↦ by_path t c h l r F s x y ps v.1 g ]
+  by_path : (u : Update) (fs : List Form) (all : List ℕ) (using : Use b atoms u fs all) (t : ℕ → ℕ) (c : ℕ → Row) (h : ℕ → List Datum) (s : using.State t c h) (l r : Tree) (F : Path) → Follows b atoms c F → IsValidFor (at b t c h) l → IsValidFor (at b t c h) r
+      → using.Fits t c h s l → using.Fits t c h s r → (ps : List Path) → AllByRecursion using.Valid (by_paths atoms F l r ps) → Reached b atoms c ps → value (at b t c h) atoms l ≡ value (at b t c h) atoms r
+  by_path u fs all using t c h s l r F d x y f g [] v k = absurd k
+  by_path u fs all using t c h s l r F d x y f g (p ∷ ps) v k =
+      elim k [ inl q ↦ using.use_it t c h s (F ++ p) l r v.0 x y f g (satisfied b atoms c t h (F ++ p) (follows_both b atoms c F p d q)) | inr q ↦ by_path u fs all using t c h s l r F d x y f g ps v.1 q ]
 
   -- a value at entry that the turns inside do not change
-  pub record Steady (a : Tree) : Type 0 where
+  pub record Steady (a : Tree) : Type 1 where
     pub same : (t s : ℕ → ℕ) (c d : ℕ → Row) (h : ℕ → List Datum) → value (at b t c h) atoms a ≡ value (at b s d h) atoms a
     pub stands : (w : World) → IsValidFor w a
+    pub turned : (u : Update) (fs : List Form) (all : List ℕ) (using : Use b atoms u fs all) (t : ℕ → ℕ) (c : ℕ → Row) (h : ℕ → List Datum) (s : using.State t c h) (j m : ℕ) (r : Row)
+        → using.Fits t c h s a → using.Fits (turns_with t j m) (with_row c j r) h (using.turned t c h s j m r) a
 
   -- in worlds that differ in turns and held values alone, the entry's value counts
   pub whole_same : (t s : ℕ → ℕ) (c : ℕ → Row) (h g : ℕ → List Datum) (u : Update) (fs : List Form) (outer : List ℕ) (ys : List Layer) → Chain atoms outer ys → (x y : Tree) → value (at b t c h) atoms x ≡ value (at b s c g) atoms y
@@ -143,13 +136,20 @@ module _ (b : World) (atoms : List Atom) where
   whole_same t s c h g u fs outer (z ∷ zs) k x y q =
       level_same b atoms t s c c h g z.over (λ j e. refl) u fs outer k.0 x y q (Walk z.over) (Walk z.over) (b.lists z.over) refl refl (loops_of zs)
 
+  -- what the layers that are left make of a term fits where it does
+  fits_whole : (u : Update) (fs : List Form) (all : List ℕ) (using : Use b atoms u fs all) (t : ℕ → ℕ) (c : ℕ → Row) (h : ℕ → List Datum) (s : using.State t c h) (outer : List ℕ) (ys : List Layer) → outer ++ loops_of ys ≡ all → AllCurrent (at b t c h) outer
+      → (a : Tree) → using.Fits t c h s a → using.Fits t c h s (whole u fs outer a ys)
+  fits_whole u fs all using t c h s outer [] e now a f = using.effect_fits t c h s outer (sym (append-nil outer) ∙ e) now a f
+  fits_whole u fs all using t c h s outer (y ∷ ys) e now a f = using.whole_fits t c h s outer y.over (loops_of ys) e now a f
+
   -- one level: its layer y, the layers inside, and what is known of the guards outside
   module _ (u : Update) (fs : List Form) (outer : List ℕ) (Fs : List Path) (a : Tree) (steady : Steady a) (y : Layer) (ys : List Layer) (new : IsNew y.over outer) (chain : Chain atoms (outer ++ y.over ∷ []) ys)
       (P : (ℕ → Row) → Type 0) (kept : (rows : ℕ → Row) (r : Row) → P rows → P (with_row rows y.over r)) (covers : (rows : ℕ → Row) → P rows → Reached b atoms rows Fs)
-      (valid : AllValid (level atoms u fs outer Fs a y ys)) (reads : ReadsAmong u ((outer ++ y.over ∷ []) ++ loops_of ys)) (n : ℕ)
-      (inner : (t : ℕ → ℕ) (c : ℕ → Row) (h : ℕ → List Datum) → AllCurrent (at b t c h) (outer ++ y.over ∷ []) → P c → passes b atoms c y.guard ≡ true
+      (all : List ℕ) (using : Use b atoms u fs all) (places : outer ++ y.over ∷ loops_of ys ≡ all)
+      (valid : AllByRecursion using.Valid (level atoms u fs outer Fs a y ys)) (reads : ReadsAmong u ((outer ++ y.over ∷ []) ++ loops_of ys)) (n : ℕ)
+      (inner : (t : ℕ → ℕ) (c : ℕ → Row) (h : ℕ → List Datum) (s : using.State t c h) → using.Fits t c h s (Hold n) → AllCurrent (at b t c h) (outer ++ y.over ∷ []) → P c → passes b atoms c y.guard ≡ true
       → whole_run b atoms u ys c (h n) ≡ value (at b t c h) atoms (whole u fs (outer ++ y.over ∷ []) (Hold n) ys))
-      (t : ℕ → ℕ) (c : ℕ → Row) (h : ℕ → List Datum) (now : AllCurrent (at b t c h) outer) (p : P c) where
+      (t : ℕ → ℕ) (c : ℕ → Row) (h : ℕ → List Datum) (state : using.State t c h) (fits : using.Fits t c h state a) (now : AllCurrent (at b t c h) outer) (p : P c) where
     -- the turns and rows at the turn m, with the row r
     abbrev turns_at : ℕ → ℕ → ℕ
     turns_at m j = cond (nat_eq y.over j) m (t j)
@@ -175,9 +175,10 @@ module _ (b : World) (atoms : List Atom) where
     -- no turns
     first : Is [] (value (at b t c h) atoms a)
     first =
-        let k : Picked c (at_level atoms u fs outer a y ys) = pick c (at_level atoms u fs outer a y ys) Fs valid (covers c p) in
+        let k : Picked using.Valid c (at_level atoms u fs outer a y ys) = pick using.Valid c (at_level atoms u fs outer a y ys) Fs valid (covers c p) in
         everywhere [] (value (at b t c h) atoms a) t c (λ j e. refl) (Top Zero (Walk y.over)) refl
-        (k.valid.0 (at b t c h) (stands_level (at b t c h) u fs outer now a (Top Zero (Walk y.over)) (loops_of ys) (steady.stands (at b t c h)) (tt, tt)) (steady.stands (at b t c h)) (satisfied b atoms c t h k.facts k.hold))
+        (using.use_it t c h state k.facts (part u fs outer a y ys Zero) a k.valid.0 (stands_level (at b t c h) u fs outer now a (Top Zero (Walk y.over)) (loops_of ys) (steady.stands (at b t c h)) (tt, tt)) (steady.stands (at b t c h))
+        (using.part_fits t c h state outer y.over (loops_of ys) places now a fits Zero tt) fits (satisfied b atoms c t h k.facts k.hold))
 
     -- the rows that a Top takes
     taken : (m : ℕ) (done todo rs : List Row) → rs ≡ done ++ todo → m ≡ length done → take m (walked y.over rs) ≡ walked y.over done
@@ -210,6 +211,12 @@ module _ (b : World) (atoms : List Atom) where
       at_done : value here atoms (Top (At y.over) (Walk y.over)) ≡ walked y.over done
       at_done = taken (turns_here y.over) done (r ∷ todo) (b.lists y.over) e (turned (length done))
 
+      abbrev state_here : using.State turns_here rows_here h
+      state_here = using.turned t c h state y.over (length done) r
+
+      fits_here : using.Fits turns_here rows_here h state_here a
+      fits_here = steady.turned u fs all using t c h state y.over (length done) r fits
+
       still : AllCurrent here outer
       still = current_kept t c h y.over (length done) r outer new now
 
@@ -222,18 +229,24 @@ module _ (b : World) (atoms : List Atom) where
       done_stands : IsValidFor here (part u fs outer a y ys (At y.over))
       done_stands = stands_level here u fs outer still a (Top (At y.over) (Walk y.over)) (loops_of ys) (steady.stands here) (current_at done todo r e, tt)
 
+      next_fits : using.Fits turns_here rows_here h state_here (part u fs outer a y ys (Next y.over))
+      next_fits = using.part_fits turns_here rows_here h state_here outer y.over (loops_of ys) places still a fits_here (Next y.over) refl
+
+      done_fits : using.Fits turns_here rows_here h state_here (part u fs outer a y ys (At y.over))
+      done_fits = using.part_fits turns_here rows_here h state_here outer y.over (loops_of ys) places still a fits_here (At y.over) refl
+
       before : value here atoms (part u fs outer a y ys (At y.over)) ≡ x
       before = q turns_here rows_here (apart r) (Top (At y.over) (Walk y.over)) at_done
 
-      chosen : Picked rows_here (at_level atoms u fs outer a y ys)
-      chosen = pick rows_here (at_level atoms u fs outer a y ys) Fs valid (covers rows_here (kept c r p))
+      chosen : Picked using.Valid rows_here (at_level atoms u fs outer a y ys)
+      chosen = pick using.Valid rows_here (at_level atoms u fs outer a y ys) Fs valid (covers rows_here (kept c r p))
 
       -- the guard fails
       passed_over : passes b atoms rows_here y.guard ≡ false → value here atoms (part u fs outer a y ys (Next y.over)) ≡ x
       passed_over f =
-          let k : Picked rows_here (at_level atoms u fs outer a y ys) = chosen in
-          by_path turns_here rows_here h (part u fs outer a y ys (Next y.over)) (part u fs outer a y ys (At y.over)) k.facts k.hold next_stands done_stands (guard_paths y.guard false)
-          (all_left (false_steps atoms u fs outer a y ys k.facts) _ (all_right (true_steps atoms u fs outer a y ys k.facts) _ k.valid.1))
+          let k : Picked using.Valid rows_here (at_level atoms u fs outer a y ys) = chosen in
+          by_path u fs all using turns_here rows_here h state_here (part u fs outer a y ys (Next y.over)) (part u fs outer a y ys (At y.over)) k.facts k.hold next_stands done_stands next_fits done_fits (guard_paths y.guard false)
+          (all_left using.Valid (false_steps atoms u fs outer a y ys k.facts) _ (all_right using.Valid (true_steps atoms u fs outer a y ys k.facts) _ k.valid.1))
           (guard_reached b atoms rows_here y.guard false f)
           ∙ before
 
@@ -247,13 +260,15 @@ module _ (b : World) (atoms : List Atom) where
       -- the guard holds
       gone_in : passes b atoms rows_here y.guard ≡ true → value here atoms (part u fs outer a y ys (Next y.over)) ≡ whole_run b atoms u ys rows_here x
       gone_in f =
-          let k : Picked rows_here (at_level atoms u fs outer a y ys) = chosen in
-          by_path turns_here rows_here h (part u fs outer a y ys (Next y.over)) (whole u fs (outer ++ y.over ∷ []) (part u fs outer a y ys (At y.over)) ys) k.facts k.hold next_stands
-          (stands_whole here u fs (outer ++ y.over ∷ []) still_inside (part u fs outer a y ys (At y.over)) ys reads done_stands) (guard_paths y.guard true)
-          (all_left (true_steps atoms u fs outer a y ys k.facts) _ k.valid.1)
+          let k : Picked using.Valid rows_here (at_level atoms u fs outer a y ys) = chosen in
+          by_path u fs all using turns_here rows_here h state_here (part u fs outer a y ys (Next y.over)) (whole u fs (outer ++ y.over ∷ []) (part u fs outer a y ys (At y.over)) ys) k.facts k.hold next_stands
+          (stands_whole here u fs (outer ++ y.over ∷ []) still_inside (part u fs outer a y ys (At y.over)) ys reads done_stands) next_fits
+          (fits_whole u fs all using turns_here rows_here h state_here (outer ++ y.over ∷ []) ys (append_assoc outer (y.over ∷ []) (loops_of ys) ∙ places) still_inside (part u fs outer a y ys (At y.over)) done_fits) (guard_paths y.guard true)
+          (all_left using.Valid (true_steps atoms u fs outer a y ys k.facts) _ k.valid.1)
           (guard_reached b atoms rows_here y.guard true f)
           ∙ sym (whole_same turns_here turns_here rows_here holding h u fs (outer ++ y.over ∷ []) ys chain (Hold n) (part u fs outer a y ys (At y.over)) (held_here ∙ sym before))
-          ∙ sym (inner turns_here rows_here holding (current_held turns_here rows_here h holding (outer ++ y.over ∷ []) still_inside) (kept c r p) f)
+          ∙ sym (inner turns_here rows_here holding (using.held turns_here rows_here h state_here n x (part u fs outer a y ys (At y.over)) done_fits before)
+          (using.held_fits turns_here rows_here h state_here n x (part u fs outer a y ys (At y.over)) done_fits before) (current_held turns_here rows_here h holding (outer ++ y.over ∷ []) still_inside) (kept c r p) f)
           ∙ ap (whole_run b atoms u ys rows_here) held_here
 
       turn : (z : Bool) → passes b atoms rows_here y.guard ≡ z → value here atoms (part u fs outer a y ys (Next y.over)) ≡ cond z (whole_run b atoms u ys rows_here x) x
@@ -291,29 +306,31 @@ module _ (b : World) (atoms : List Atom) where
   unread_next y outer ys k = unread_inside y.guard (outer ++ y.over ∷ []) [] k.1 ys (subst (λ all. Chain atoms all ys) (sym (append-nil (outer ++ y.over ∷ []))) k.2)
 
   steady_hold : (n : ℕ) → Steady (Hold n)
-  steady_hold n = record { same = λ t s c d h. refl; stands = λ w. tt }
+  steady_hold n = record { same = λ t s c d h. refl; stands = λ w. tt; turned = λ u fs all using t c h s j m r f. using.turned_hold t c h s j m r n f }
 
   reads_on : (u : Update) (outer : List ℕ) (l : ℕ) (ls : List ℕ) → ReadsAmong u (outer ++ l ∷ ls) → ReadsAmong u ((outer ++ l ∷ []) ++ ls)
   reads_on u outer l ls r = subst (λ all. element_within all (element_of u) ≡ true) (sym (append_assoc outer (l ∷ []) ls)) r
 
   ends : (u : Update) (fs : List Form) (ys : List Layer) (outer : List ℕ) (Fs : List Path) (a : Tree) → Steady a → Chain atoms outer ys → (P : (ℕ → Row) → Type 0) → Stable P ys → ((rows : ℕ → Row) → P rows → Reached b atoms rows Fs)
-      → AllValid (conditions_in atoms u fs outer Fs a ys) → ReadsAmong u (outer ++ loops_of ys) → (t : ℕ → ℕ) (c : ℕ → Row) (h : ℕ → List Datum) → AllCurrent (at b t c h) outer → P c
+      → (all : List ℕ) (using : Use b atoms u fs all) → outer ++ loops_of ys ≡ all → AllByRecursion using.Valid (conditions_in atoms u fs outer Fs a ys) → ReadsAmong u (outer ++ loops_of ys)
+      → (t : ℕ → ℕ) (c : ℕ → Row) (h : ℕ → List Datum) (s : using.State t c h) → using.Fits t c h s a → AllCurrent (at b t c h) outer → P c
       → whole_run b atoms u ys c (value (at b t c h) atoms a) ≡ value (at b t c h) atoms (whole u fs outer a ys)
-  ends (Push e) fs [] outer Fs a steady chain P stable covers valid reads t c h now p = refl
-  ends (PushNew e) fs [] outer Fs a steady chain P stable covers valid reads t c h now p = refl
-  ends Tick fs [] outer Fs a steady chain P stable covers valid reads t c h now p = refl
-  ends (Plus e) fs [] outer Fs a steady chain P stable covers valid reads t c h now p = refl
-  ends (Best way e) fs [] outer Fs a steady chain P stable covers valid reads t c h now p = refl
-  ends Mark fs [] outer Fs a steady chain P stable covers valid reads t c h now p = refl
-  ends u fs (y ∷ ys) outer Fs a steady chain P stable covers valid reads t c h now p =
-      level_ends u fs outer Fs a steady y ys chain.0 chain.2 P stable.0 covers (all_left (level atoms u fs outer Fs a y ys) _ valid) (reads_on u outer y.over (loops_of ys) reads) (length outer + 2)
-      (λ t c h now p pass. ends u fs ys (outer ++ y.over ∷ []) (each_with Fs (guard_paths y.guard true)) (Hold (length outer + 2)) (steady_hold (length outer + 2)) chain.2 (λ rows. P rows × (passes b atoms rows y.guard ≡ true)) (stable_both P y.guard ys stable.1 (unread_next y outer ys chain))
-      (λ rows k. reached_with b atoms rows Fs (guard_paths y.guard true) (covers rows k.0) (guard_reached b atoms rows y.guard true k.1)) (all_right (level atoms u fs outer Fs a y ys) _ valid) (reads_on u outer y.over (loops_of ys) reads) t c h now (p, pass))
-      t c h now p
+  ends (Push e) fs [] outer Fs a steady chain P stable covers all using places valid reads t c h s f now p = refl
+  ends (PushNew e) fs [] outer Fs a steady chain P stable covers all using places valid reads t c h s f now p = refl
+  ends Tick fs [] outer Fs a steady chain P stable covers all using places valid reads t c h s f now p = refl
+  ends (Plus e) fs [] outer Fs a steady chain P stable covers all using places valid reads t c h s f now p = refl
+  ends (Best way e) fs [] outer Fs a steady chain P stable covers all using places valid reads t c h s f now p = refl
+  ends Mark fs [] outer Fs a steady chain P stable covers all using places valid reads t c h s f now p = refl
+  ends u fs (y ∷ ys) outer Fs a steady chain P stable covers all using places valid reads t c h s f now p =
+      level_ends u fs outer Fs a steady y ys chain.0 chain.2 P stable.0 covers all using places (all_left using.Valid (level atoms u fs outer Fs a y ys) _ valid) (reads_on u outer y.over (loops_of ys) reads) (length outer + 2)
+      (λ t c h s f now p pass. ends u fs ys (outer ++ y.over ∷ []) (each_with Fs (guard_paths y.guard true)) (Hold (length outer + 2)) (steady_hold (length outer + 2)) chain.2 (λ rows. P rows × (passes b atoms rows y.guard ≡ true)) (stable_both P y.guard ys stable.1 (unread_next y outer ys chain))
+      (λ rows k. reached_with b atoms rows Fs (guard_paths y.guard true) (covers rows k.0) (guard_reached b atoms rows y.guard true k.1)) all using (append_assoc outer (y.over ∷ []) (loops_of ys) ∙ places) (all_right using.Valid (level atoms u fs outer Fs a y ys) _ valid)
+      (reads_on u outer y.over (loops_of ys) reads) t c h s f now (p, pass))
+      t c h s f now p
 
   pub steady_start : (o : Option Scalar) → Steady (start_term o)
-  steady_start None = record { same = λ t s c d h. refl; stands = λ w. tt }
-  steady_start (Some x) = record { same = λ t s c d h. refl; stands = λ w. tt }
+  steady_start None = record { same = λ t s c d h. refl; stands = λ w. tt; turned = λ u fs all using t c h s j m r f. using.turned_start t c h s j m r None f }
+  steady_start (Some x) = record { same = λ t s c d h. refl; stands = λ w. tt; turned = λ u fs all using t c h s j m r f. using.turned_start t c h s j m r (Some x) f }
 
   started_start : (o : Option Scalar) (w : World) → value w atoms (start_term o) ≡ started o
   started_start None w = refl
@@ -354,10 +371,11 @@ module _ (b : World) (atoms : List Atom) where
   chain_inside outer (z ∷ zs) ys k = subst (λ ls. Chain atoms ls ys) (append_assoc outer (z.over ∷ []) (loops_of zs)) (chain_inside (outer ++ z.over ∷ []) zs ys k.2)
 
   -- where every condition is valid, the run ends with the value of the postcondition
-  pub whole-ends : (u : Update) (fs : List Form) (o : Option Scalar) (zs ys : List Layer) → Chain atoms [] (zs ++ ys) → ReadsAmong u (loops_of zs ++ loops_of ys) → AllValid (conditions_in atoms u fs (loops_of zs) (ways_through ([] ∷ []) zs) (start_term o) ys)
-      → (t : ℕ → ℕ) (c : ℕ → Row) (h : ℕ → List Datum) → AllCurrent (at b t c h) (loops_of zs) → AllPass c zs
+  pub whole-ends : (u : Update) (fs : List Form) (o : Option Scalar) (zs ys : List Layer) → Chain atoms [] (zs ++ ys) → ReadsAmong u (loops_of zs ++ loops_of ys)
+      → (all : List ℕ) (using : Use b atoms u fs all) → loops_of zs ++ loops_of ys ≡ all → AllByRecursion using.Valid (conditions_in atoms u fs (loops_of zs) (ways_through ([] ∷ []) zs) (start_term o) ys)
+      → (t : ℕ → ℕ) (c : ℕ → Row) (h : ℕ → List Datum) (s : using.State t c h) → using.Fits t c h s (start_term o) → AllCurrent (at b t c h) (loops_of zs) → AllPass c zs
       → whole_run b atoms u ys c (started o) ≡ value (at b t c h) atoms (whole u fs (loops_of zs) (start_term o) ys)
-  whole-ends u fs o zs ys chain reads valid t c h now pass =
-      subst (λ s. whole_run b atoms u ys c s ≡ value (at b t c h) atoms (whole u fs (loops_of zs) (start_term o) ys)) (started_start o (at b t c h))
+  whole-ends u fs o zs ys chain reads all using places valid t c h s f now pass =
+      subst (λ v. whole_run b atoms u ys c v ≡ value (at b t c h) atoms (whole u fs (loops_of zs) (start_term o) ys)) (started_start o (at b t c h))
       (ends u fs ys (loops_of zs) (ways_through ([] ∷ []) zs) (start_term o) (steady_start o) (chain_inside [] zs ys chain) (λ rows. AllPass rows zs) (stable_pass zs ys (all_unread [] zs ys chain))
-      (λ rows k. through rows zs ([] ∷ []) (inl tt) k) valid reads t c h now pass)
+      (λ rows k. through rows zs ([] ∷ []) (inl tt) k) all using places valid reads t c h s f now pass)

@@ -1,8 +1,10 @@
+pub mod AllOf
 pub mod Alike
 pub mod Decide
 pub mod Scope
 pub mod Frame
 pub mod Whole
+pub mod Uses
 pub mod Levels
 pub mod Flags
 pub mod Tables
@@ -10,6 +12,14 @@ pub mod Fit
 pub mod Guards
 pub mod Reading
 pub mod Members
+pub mod Puts
+pub mod Tuples
+pub mod Shapes
+pub mod Sorted
+pub mod Fitted
+pub mod Suited
+pub mod Listed
+pub mod Ended
 pub mod Few
 pub mod Accepted
 pub mod Short

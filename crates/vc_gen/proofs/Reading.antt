@@ -17,7 +17,8 @@ use Rattle.kernel_lang.specs.Sentences.{AccumulatorIsValid, IsValid}
 use Rattle.kernel_lang.specs.Validity.{is_mark, is_flag, names_a_flag, flags_are_flags, guard_on_spine, same_guard, same_guards, flag_may_be_read, atom_may_be_read, part_may_be_read, guard_may_be_read, guards_may_be_read, reads_flags_in_place}
 use Rattle.vc_gen.proofs.Flags.{same_form-true, same_numbers-true}
 use Rattle.vc_gen.proofs.Tables.{IsShown}
-use Rattle.vc_gen.proofs.Fit.{and_three, and_four, loops_layers, outside_loops, base_below, mark_of, flag_quiet, all_at, list_all_at}
+use Rattle.vc_gen.proofs.Fit.{and_three, and_four, loops_layers, outside_loops, base_below, mark_of, flag_quiet}
+use Rattle.vc_gen.proofs.AllOf.{all_at, list_all_at}
 use Rattle.vc_gen.proofs.Guards.{spine_of, MayRead, AtomMayRead, FormMayRead, GuardMayRead, LayersMayRead}
 
 same_guard-true : (g h : Option Form) → same_guard g h ≡ true → g ≡ h
@@ -69,15 +70,15 @@ first_loops [] y ys = refl
 first_loops (z ∷ zs) y ys = ap (λ ls. z.over ∷ ls) (first_loops zs y ys)
 
 -- an atom that reads a flag names one
-flag_named : (f : Fragment) (flag : ℕ) (loops : List ℕ) (number : ℕ) → slice_get f.atoms number ≡ Some (Flag flag loops) → flags_are_flags f ≡ true → is_flag loops (slice_get f.accs flag) ≡ true
+pub flag_named : (f : Fragment) (flag : ℕ) (loops : List ℕ) (number : ℕ) → slice_get f.atoms number ≡ Some (Flag flag loops) → flags_are_flags f ≡ true → is_flag loops (slice_get f.accs flag) ≡ true
 unfolding flags_are_flags
 flag_named f flag loops number there h = list_all_at (names_a_flag f) f.atoms number (Flag flag loops) h there
 
 -- the member of each accumulator of a fragment is shown
-abbrev pub MembersAreShown : Fragment → List Member → Type 0
-MembersAreShown f ms = (k : ℕ) (a : Accumulator) → slice_get f.accs k ≡ Some a → (fs : List Form) × (slice_get ms k ≡ Some (a, fs)) × IsShown f.atoms (a, fs)
+abbrev pub MembersAreShown : Fragment → World → List Member → Type 0
+MembersAreShown f w ms = (k : ℕ) (a : Accumulator) → slice_get f.accs k ≡ Some a → (fs : List Form) × (slice_get ms k ≡ Some (a, fs)) × IsShown w f.atoms (a, fs)
 
-module _ (f : Fragment) (v : IsValid f) (w : World) (ms : List Member) (shown : MembersAreShown f ms) (a : Accumulator) where
+module _ (f : Fragment) (v : IsValid f) (w : World) (ms : List Member) (shown : MembersAreShown f w ms) (a : Accumulator) where
   module _ (before : List Layer) (y : Layer) (ys : List Layer) (n : ℕ) (e : layers_of a ≡ before ++ y ∷ ys) (k : n ≡ length before) (q : Form) where
     flag_may : (number : ℕ) (loops : List ℕ) (b : Accumulator) → slice_get f.accs number ≡ Some b → is_flag loops (Some b) ≡ true → flag_may_be_read a n q (Some b) ≡ true → MayRead f w ms before y q number loops
     flag_may number loops b there named read =

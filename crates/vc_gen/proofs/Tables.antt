@@ -7,19 +7,19 @@ use Rattle.qbs_base.specs.declared.scalar.Row.{Row}
 use Rattle.tor_terms.specs.declared.term.Atom.{Atom}
 use Rattle.tor_terms.specs.Plain.{Form}
 use Rattle.tor_terms.specs.Truth.{Datum, World, has_loop}
+use Rattle.tor_terms.specs.Value.{value}
 use Rattle.kernel_lang.specs.declared.parts.Update.{Update}
 use Rattle.kernel_lang.specs.declared.parts.Update.TheVariants.{Mark}
 use Rattle.kernel_lang.specs.Plain.{Fragment}
 use Rattle.kernel_lang.specs.Pools.{Member}
-use Rattle.kernel_lang.specs.Postcondition.{loops_of, start_term, flag_by_choice}
+use Rattle.kernel_lang.specs.Postcondition.{loops_of, start_term, postcondition, flag_by_choice}
 use Rattle.kernel_lang.specs.Running.{Layer, outside, inside, placed, passes, started, run, is_set, flag_by_run}
 use Rattle.kernel_lang.specs.Validity.{guard_all, reads_no_flag}
-use Rattle.vc_gen.specs.Conditions.{own_conditions}
-use Rattle.vc_gen.specs.Soundness.{AllValid}
 use Rattle.vc_gen.proofs.Alike.{at, quiet_same}
 use Rattle.vc_gen.proofs.Scope.{Chain, guard_scope}
 use Rattle.vc_gen.proofs.Whole.{whole_run, mark_run}
-use Rattle.vc_gen.proofs.Levels.{AllCurrent, AllPass, ReadsAmong, steady_start, whole_same, whole-ends, chain_inside}
+use Rattle.vc_gen.proofs.Uses.{AllCurrent}
+use Rattle.vc_gen.proofs.Levels.{AllPass, steady_start, whole_same, chain_inside}
 
 or_true : (b : Bool) → (b || true) ≡ true
 or_true true = refl
@@ -57,15 +57,21 @@ abbrev pub Quiet : List Atom → List Layer → Type 0
 Quiet atoms [] = Unit {0}
 Quiet atoms (y ∷ ys) = (guard_all (reads_no_flag atoms) y.guard ≡ true) × Quiet atoms ys
 
--- an accumulator and its choice whose conditions are valid
-pub record IsShown (atoms : List Atom) (m : Member) : Type 0 where
+-- Where the loops outside are current and their guards pass, the run inside ends with the value of the
+-- postcondition, in the world w at these rows of loops.
+abbrev pub EndsAt : World → List Atom → Member → Type 0
+EndsAt w atoms m =
+    (turns : ℕ → ℕ) (ls : List ℕ) (rs : List Row) → AllCurrent (at w turns (placed ls rs) w.held) (loops_of (outside m.0)) → AllPass w atoms (placed ls rs) (outside m.0)
+    → whole_run w atoms m.0.update (inside m.0) (placed ls rs) (started m.0.start) ≡ value (at w turns (placed ls rs) w.held) atoms (postcondition m)
+
+-- an accumulator and its choice that are known to end so
+pub record IsShown (w : World) (atoms : List Atom) (m : Member) : Type 0 where
   pub chain : Chain atoms [] (outside m.0 ++ inside m.0)
-  pub reads : ReadsAmong m.0.update (loops_of (outside m.0) ++ loops_of (inside m.0))
-  pub valid : AllValid (own_conditions atoms m)
+  pub ends : EndsAt w atoms m
 
 -- a flag with its choice
-pub record IsFlag (atoms : List Atom) (m : Member) : Type 0 where
-  pub shown : IsShown atoms m
+pub record IsFlag (w : World) (atoms : List Atom) (m : Member) : Type 0 where
+  pub shown : IsShown w atoms m
   pub mark : m.0.update ≡ Mark
   pub loops : take m.0.base m.0.chain ≡ loops_of (outside m.0)
   pub quiet : Quiet atoms (outside m.0)
@@ -95,11 +101,11 @@ run_some : (w : World) (atoms : List Atom) (u : Update) → u ≡ Mark → (ys :
 run_some w atoms u e ys rows v = subst (λ u. run w atoms u ys rows v ≡ Some (whole_run w atoms u ys rows v)) (sym e) (mark_run w atoms ys rows v)
 
 -- where the guards round its declaration hold, under any table
-pub tables_agree : (f : Fragment) (w : World) (m : Member) → IsFlag f.atoms m → (g : ℕ → List Row → Bool) (turns : ℕ → ℕ) (rows : ℕ → Row) → AllCurrent (at (record w { flags = g }) turns rows w.held) (loops_of (outside m.0)) → AllPass (record w { flags = g }) f.atoms rows (outside m.0)
+pub tables_agree : (f : Fragment) (w : World) (m : Member) → IsFlag w f.atoms m → (g : ℕ → List Row → Bool) (turns : ℕ → ℕ) (rows : ℕ → Row) → AllCurrent (at (record w { flags = g }) turns rows w.held) (loops_of (outside m.0)) → AllPass (record w { flags = g }) f.atoms rows (outside m.0)
     → flag_by_run w f.atoms (Some m.0) (map rows (loops_of (outside m.0))) ≡ flag_by_choice f w (Some m) (map rows (loops_of (outside m.0)))
 tables_agree f w m flag g turns rows now pass =
     ap is_set (run_some w f.atoms m.0.update flag.mark (inside m.0) p (started m.0.start))
-    ∙ ap (λ v. is_set (Some v)) (whole-ends w f.atoms m.0.update m.1 m.0.start (outside m.0) (inside m.0) flag.shown.chain flag.shown.reads flag.shown.valid turns p w.held there passed)
+    ∙ ap (λ v. is_set (Some v)) (flag.shown.ends turns (take m.0.base m.0.chain) (map rows (loops_of (outside m.0))) there passed)
     ∙ ap (λ v. is_set (Some v)) (whole_same w f.atoms turns w.turns p w.held w.held m.0.update m.1 (loops_of (outside m.0)) (inside m.0) (chain_inside w f.atoms [] (outside m.0) (inside m.0) flag.shown.chain) (start_term m.0.start) (start_term m.0.start)
     ((steady_start w f.atoms m.0.start).same turns w.turns p p w.held))
   where

@@ -5,7 +5,7 @@ use Rattle.tor_terms.specs.declared.term.Elem.TheVariants as elems
 use Rattle.tor_terms.specs.declared.term.Way.TheVariants.{Max}
 use Rattle.tor_terms.specs.declared.term.Index.{Index}
 use Rattle.tor_terms.specs.declared.term.Index.TheVariants.{Zero, At, Next, Len}
-use Rattle.tor_terms.specs.Plain.{Form, Is, Tree, Nil, Walk, Top, One, Single, Cat, Join, Sel, Proj, Uniq, Insert, Hold, Lit, Item, Sum, Any, Best, Pick, Add, Or}
+use Rattle.tor_terms.specs.Plain.{Is, Tree, Nil, Walk, Top, One, Single, Cat, Join, Sel, Proj, Uniq, Insert, Hold, Lit, Item, Sum, Any, Best, Pick, Add, Or}
 use Rattle.tor_axioms.specs.Accepts.{Claim}
 use Rattle.tor_axioms.specs.Decide.{literal}
 use Rattle.tor_axioms.specs.declared.facts.Literal.{Literal}

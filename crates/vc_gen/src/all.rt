@@ -8,7 +8,7 @@ ghost use Rattle.kernel_lang.specs.Validity.{count_conditions};
 ghost use Rattle.kernel_lang.specs.Whole.{fragment_of};
 ghost use Rattle.vc_gen.specs.Conditions as spec;
 ghost use Rattle.vc_gen.specs.Short.{AllShort};
-ghost use Rattle.vc_gen.specs.Soundness.{AllValid, EndsAsClaimed};
+ghost use Rattle.vc_gen.specs.Soundness.{AllValid, AllValidAnywhere, EndsAsClaimed, EndsAnywhere};
 
 use crate::own::add_own;
 use kernel_lang::{Acc, Candidate, KFragment};
@@ -98,12 +98,14 @@ fn list_conditions(alloc: Global, frag: &KFragment, cand: &Candidate) -> Result<
 /// The conditions of a fragment and a candidate of it, accumulator by accumulator and level by level,
 /// from the outermost one on. There are at most 4096, as many for each candidate.
 ///
-/// Where all of them are valid, then on every database, entry values and known lists on which the
-/// fragment ends, each accumulator that stands outside all loops ends with what its postcondition
-/// says. `NoMemory` comes only where memory runs out.
+/// Where all of them are valid, then on every database, entry values and known lists that the
+/// fragment's parts fit and on which it ends, each accumulator that stands outside all loops ends with
+/// what its postcondition says. Where they are valid also in worlds that their terms don't fit, the
+/// parts needn't fit either. `NoMemory` comes only where memory runs out.
 pub fn conditions(alloc: Global, frag: &KFragment, cand: &Candidate) -> Result<Vcs, NoMemory>
     ensures exact { IfOk result (λ vcs. spec.claims_of vcs ≡ spec.conditions (fragment_of frag.now) cand.now) }
     ensures sound { IfOk result (λ vcs. AllValid (spec.claims_of vcs) → EndsAsClaimed (fragment_of frag.now) cand.now) }
+    ensures anywhere { IfOk result (λ vcs. AllValidAnywhere (spec.claims_of vcs) → EndsAnywhere (fragment_of frag.now) cand.now) }
     ensures counted { IfOk result (λ vcs. length vcs ≡ count_conditions (fragment_of frag.now).accs) }
     ensures few { IfOk result (λ vcs. length vcs ≤ 4096) }
 {

@@ -5,7 +5,7 @@ ghost use Rattle.kernel_lang.specs.Plain.{Fragment};
 ghost use Rattle.kernel_lang.specs.Validity.{broken};
 ghost use Rattle.kernel_lang.specs.Worked.{class_A, class_B, class_C, class_D, class_E, name_set};
 ghost use Rattle.vc_gen.specs.Conditions.{conditions};
-ghost use Rattle.vc_gen.specs.Soundness.{AllValid, AllSound, AllAccepted, EndsAsClaimed};
+ghost use Rattle.vc_gen.specs.Soundness.{AllValid, AllValidAnywhere, AllSound, AllAccepted, EndsAsClaimed, EndsAnywhere};
 ghost use Rattle.vc_gen.specs.Worked.{of_one_loop, of_a_nest, of_a_flag, of_the_greatest, of_a_sum, of_a_set};
 
 /// The conditions of worked candidates are those written out.
@@ -19,14 +19,18 @@ pub fn worked_conditions()
 {}
 
 /// Conditions are valid where each is sound, as the checker of derivations says, and so where each
-/// has an accepted derivation.
+/// has an accepted derivation: also in worlds that their terms don't fit.
 pub fn derived_conditions_are_valid()
     ensures sound { (cs : List Claim) → AllSound cs → AllValid cs }
     ensures accepted { (cs : List Claim) (ds : List Proof) → AllAccepted cs ds → AllValid cs }
+    ensures sound_anywhere { (cs : List Claim) → AllSound cs → AllValidAnywhere cs }
+    ensures accepted_anywhere { (cs : List Claim) (ds : List Proof) → AllAccepted cs ds → AllValidAnywhere cs }
 {}
 
 /// Where all conditions of a valid fragment and a candidate are valid, the fragment ends with what
-/// the postconditions say, wherever it ends.
+/// the postconditions say, wherever its parts fit and it ends. Where they are valid also in worlds that
+/// their terms don't fit, the parts needn't fit either.
 pub fn valid_conditions_give_postconditions()
-    ensures { (f : Fragment) (c : List ℕ) → broken f ≡ None → AllValid (conditions f c) → EndsAsClaimed f c }
+    ensures fitting { (f : Fragment) (c : List ℕ) → broken f ≡ None → AllValid (conditions f c) → EndsAsClaimed f c }
+    ensures anywhere { (f : Fragment) (c : List ℕ) → broken f ≡ None → AllValidAnywhere (conditions f c) → EndsAnywhere f c }
 {}
