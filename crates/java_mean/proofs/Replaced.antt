@@ -14,7 +14,7 @@ use Rattle.java_mean.specs.Keeps.{Keeps, with_body, with_methods}
 use Rattle.java_mean.specs.Outcome.{Done, Stuck, finished, start, store_of, outcome, world}
 use Rattle.java_mean.specs.Queries.{Reader}
 use Rattle.java_mean.specs.Asks.{frame_of}
-use Rattle.java_mean.specs.Refines.{Related, Exits, Passes, PassesBack, Follows, Simulates, Common, Alike, leaving, IsResult, exits, Agree, agreeing, same_exits, Replaces, MayReplace, Hole, followed_by, fill, Around, at_here, at_past, at_if, at_then, at_else, at_each, at_while}
+use Rattle.java_mean.specs.Refines.{Related, Exits, Passes, PassesBack, Follows, Simulates, Common, Alike, leaving, IsResult, exits, Agree, agreeing, same_exits, Replaces, MayReplace, Hole, followed_by, fill, Around, at_here, at_past, at_if, at_then, at_else, at_each, at_each_new, at_while}
 use Rattle.java_mean.specs.Statement.{State, Passed, GoesOn, Leaves, Returns, Does, then_do, meaning, meanings}
 use Rattle.java_mean.specs.Store.{Store, Variable, put, plainly}
 use Rattle.java_mean.specs.Types.{Single, JavaType, Of, ScalarOf, RowOf, Types, with_type, made_of, type_spelled, single_spelled, types_of_params, IsVariableOf, IsArgument, AreArguments}
@@ -25,7 +25,7 @@ use Rattle.java_mean.proofs.Puts.{put_other}
 use Rattle.java_mean.proofs.Answered.{worlds_are_typed}
 use Rattle.java_mean.proofs.Kept.{keeps_replaced}
 use Rattle.java_mean.proofs.Simulates.{simulates_then}
-use Rattle.java_mean.proofs.TypedRuns.{extends_statement, extends_statements, each_typed, while_typed, if_typed, choose_typed, typed_statement, typed_statements}
+use Rattle.java_mean.proofs.TypedRuns.{extends_statement, extends_statements, each_typed, each_new_typed, while_typed, if_typed, choose_typed, typed_statement, typed_statements}
 
 -- ---- The statements at the place
 
@@ -87,7 +87,7 @@ followed_step (Ok (Leaves s)) f g q h = refl
 followed_step (Ok (Returns s v)) f g q h = refl
 followed_step (Err e) f g q h = refl
 
-meanings_followed : (p q : Statements) (w : World) (s : State) → meanings (followed_by p q) w s ≡ then_do (meanings p w s) (meanings q w)
+pub meanings_followed : (p q : Statements) (w : World) (s : State) → meanings (followed_by p q) w s ≡ then_do (meanings p w s) (meanings q w)
 meanings_followed tree.Nothing q w s = refl
 meanings_followed (tree.Then a p) q w s = followed_step (meaning a w s) (meanings (followed_by p q) w) (meanings p w) (meanings q w) (meanings_followed p q w)
 
@@ -98,20 +98,21 @@ before_rest : (c : Frame) (l : Option Types) (g m z : Types) (p p' q : Statement
 before_rest c l g m z p p' q w r e =
     simulates_equal (Alike c.schema g) (Alike c.schema z) (exits c l ⊥) (λ s. then_do (meanings p w s) (meanings q w)) (λ s. then_do (meanings p' w s) (meanings q w)) (meanings (followed_by p q) w) (meanings (followed_by p' q) w) (meanings_followed p q w) (meanings_followed p' q w) (simulates_then (Alike c.schema g) (Alike c.schema m) (Alike c.schema z) (exits c l ⊥) (meanings p w) (meanings p' w) (meanings q w) (meanings q w) r e)
 
-extends_around : (c : Frame) (l : Option Types) (g : Types) (p : Hole) (i : Option Types) (k m z : Types) → Around c l g p i k m z → Extends z g
+pub extends_around : (c : Frame) (l : Option Types) (g : Types) (p : Hole) (i : Option Types) (k m z : Types) → Around c l g p i k m z → Extends z g
 extends_around c _ _ _ _ _ _ _ (at_here l k m z q e t) x y h = extends_statements c l m z q t x y (e x y h)
 extends_around c _ _ _ _ _ _ _ (at_past l i g h k m z a p t r) x y e = extends_around c l h p i k m z r x y (extends_statement c l g h a t x y e)
 extends_around c _ _ _ _ _ _ _ (at_if l i g k m y z at e p q t r u) x y' h = extends_statements c l g z q u x y' h
 extends_around c _ _ _ _ _ _ _ (at_then l i g k m y y' z at e p b q t r s u) x v h = extends_statements c l g z q u x v h
 extends_around c _ _ _ _ _ _ _ (at_else l i g k m y y' z at e a p q t s r u) x v h = extends_statements c l g z q u x v h
 extends_around c _ _ _ _ _ _ _ (at_each l i g k m y z at ty n e p q t a f s has r u) x v h = extends_statements c l g z q u x v h
+extends_around c _ _ _ _ _ _ _ (at_each_new l i g k m y z at ty n e p q t f s new r u) x v h = extends_statements c l g z q u x v h
 extends_around c _ _ _ _ _ _ _ (at_while l i g k m y z at e p q t r u) x v h = extends_statements c l g z q u x v h
 
 then_rest : (c : Frame) (l : Option Types) (g h z : Types) (a b : Statement) (p q : Statements) (w : World) → Simulates (Alike c.schema g) (Alike c.schema h) (exits c l ⊥) (meaning a w) (meaning b w) → Simulates (Alike c.schema h) (Alike c.schema z) (exits c l ⊥) (meanings p w) (meanings q w) → Simulates (Alike c.schema g) (Alike c.schema z) (exits c l ⊥) (meanings (tree.Then a p) w) (meanings (tree.Then b q) w)
 then_rest c l g h z a b p q w r e = simulates_then (Alike c.schema g) (Alike c.schema h) (Alike c.schema z) (exits c l ⊥) (meaning a w) (meaning b w) (meanings p w) (meanings q w) r e
 
 -- the same statements but for those at a place
-replaced_at : (c : Frame) (l : Option Types) (g : Types) (hole : Hole) (i : Option Types) (k m z : Types) → Around c l g hole i k m z → (a b : Statements) (w : World) → IsWorld c w → Simulates (Alike c.schema k) (Alike c.schema m) (exits c i ⊥) (meanings a w) (meanings b w) → Simulates (Alike c.schema g) (Alike c.schema z) (exits c l ⊥) (meanings (fill hole a) w) (meanings (fill hole b) w)
+pub replaced_at : (c : Frame) (l : Option Types) (g : Types) (hole : Hole) (i : Option Types) (k m z : Types) → Around c l g hole i k m z → (a b : Statements) (w : World) → IsWorld c w → Simulates (Alike c.schema k) (Alike c.schema m) (exits c i ⊥) (meanings a w) (meanings b w) → Simulates (Alike c.schema g) (Alike c.schema z) (exits c l ⊥) (meanings (fill hole a) w) (meanings (fill hole b) w)
 replaced_at c _ _ _ _ _ _ _ (at_here l k m z q e t) a b w world r = before_rest c l k m z a b q w r (typed_statements c l m q z t w world)
 replaced_at c _ _ _ _ _ _ _ (at_past l i g h k m z s p t n) a b w world r =
     then_rest c l g h z s s (fill p a) (fill p b) w (typed_statement c l g s h t w world) (replaced_at c l h p i k m z n a b w world r)
@@ -124,6 +125,8 @@ replaced_at c _ _ _ _ _ _ _ (at_else l i g k m y y' z at e o p q t s n u) a b w 
 replaced_at c _ _ _ _ _ _ _ (at_each l i g k m y z at ty x e p q t d f s has n u) a b w world r =
     let v : Types = with_type x (Some (Of d)) g in
     then_rest c l g g z (tree.ForEach at ty x e (fill p a)) (tree.ForEach at ty x e (fill p b)) q q w (each_typed c l g y at ty x e (fill p a) (fill p b) t d f s has (extends_around c (Some v) v p i k m y n) w world (replaced_at c (Some v) v p i k m y n a b w world r)) (typed_statements c l g q z u w world)
+replaced_at c _ _ _ _ _ _ _ (at_each_new l i g k m y z at ty x e p q t f s new n u) a b w world r =
+    then_rest c l g g z (tree.ForEach at ty x e (fill p a)) (tree.ForEach at ty x e (fill p b)) q q w (each_new_typed c l g at ty x e (fill p a) (fill p b) new w) (typed_statements c l g q z u w world)
 replaced_at c _ _ _ _ _ _ _ (at_while l i g k m y z at e p q t n u) a b w world r =
     then_rest c l g g z (tree.While at e (fill p a)) (tree.While at e (fill p b)) q q w (while_typed c l g y at e (fill p a) (fill p b) t (extends_around c (Some g) g p i k m y n) w world (replaced_at c (Some g) g p i k m y n a b w world r)) (typed_statements c l g q z u w world)
 
@@ -161,7 +164,7 @@ parameters_alike schema (p ∷ ps) [] h y k e = absurd h
 parameters_alike schema (p ∷ ps) (x ∷ xs) h y k e =
     parameter_put schema (store_of ps xs) (types_of_params schema ps) p.name y (type_spelled schema p.ty) k (plainly (One x)) (bytes_eq p.name y) refl (λ q. argument_typed schema p.ty x k h.0 q) (λ q. parameters_alike schema ps xs h.1 y k q) e
 
-start_alike : (schema : Schema) (m : PlainMethod) (args : List Scalar) (n : ℕ) → AreArguments schema m.params args → Alike schema (types_of_params schema m.params) (start m args n) (start m args n)
+pub start_alike : (schema : Schema) (m : PlainMethod) (args : List Scalar) (n : ℕ) → AreArguments schema m.params args → Alike schema (types_of_params schema m.params) (start m args n) (start m args n)
 start_alike schema m args n h = record { store = λ y k e. parameters_alike schema m.params args h y k e; lines = refl; turns = omega arith }
 
 finished_held : (c : Frame) (z : Types) (o q : Result Passed Ending) (lines : List (List ℕ)) (v : Option Value) → Follows (Alike c.schema z) (exits c None ⊥) o q → finished o ≡ Done lines v → finished q ≡ Done lines v

@@ -19,7 +19,7 @@ use Rattle.java_mean.specs.Refines.{Related, Exits, Follows, Simulates, Alike, I
 use Rattle.java_mean.specs.Statement.{State, Passed, Returns, Does, Test, done, then_turn, branch, turn, with_variable, with_value, with_line, printed, is_set_type, added, in_order, each, repeat, test_of, meaning, meanings}
 use Rattle.java_mean.specs.Store.{Variable, plainly}
 use Rattle.java_mean.specs.Types.{Single, JavaType, Of, ScalarOf, Listed, Distinct, Types, with_type, type_spelled, IsMember, IsOf, IsVariableOf, AreDistinct, is_distinct, made_of, single_spelled}
-use Rattle.java_mean.specs.Typing.{Frame, IsWorld, Has, listed, distinct, HasType, Extends, bool, TypedStatement, declare, assign, add, sort, when, choose, for_each, while_true, print, return_none, return_value, leave, TypedStatements, done as nothing, next}
+use Rattle.java_mean.specs.Typing.{Frame, IsWorld, Has, listed, distinct, HasType, IsNew, is_new_list, is_new_set, Extends, bool, TypedStatement, declare, assign, add, sort, when, choose, for_each, for_each_new, while_true, print, return_none, return_value, leave, TypedStatements, done as nothing, next}
 use Rattle.java_mean.specs.World.{World}
 use Rattle.java_mean.proofs.Alike.{alike_fewer, alike_put, alike_set, alike_line, extends_new, typed_store, turn_follows, held_same, typed_same, test_same}
 use Rattle.java_mean.proofs.Members.{all_sorted, all_once, distinct_once}
@@ -28,7 +28,7 @@ use Rattle.java_mean.proofs.TypedValues.{holds_bind, scalar_in, rows_in, bool_in
 
 -- ---- Loops
 
-element_put : (schema : Schema) (g : Types) (x : List ℕ) (a : Single) (row : Row) (s t : State) → IsMember schema a row → Alike schema g s t → Alike schema (with_type x (Some (Of a)) g) (with_variable s x (plainly (element row))) (with_variable t x (plainly (element row)))
+pub element_put : (schema : Schema) (g : Types) (x : List ℕ) (a : Single) (row : Row) (s t : State) → IsMember schema a row → Alike schema g s t → Alike schema (with_type x (Some (Of a)) g) (with_variable s x (plainly (element row))) (with_variable t x (plainly (element row)))
 element_put schema g x a row s t h i = alike_put schema g s t x (Of a) (plainly (element row)) (record { value = element_of schema a row h; set = refl }) i
 
 pub simulates_each : (schema : Schema) (g h : Types) (x : List ℕ) (a : Single) (inner outer : Exits) (f f' : Does) → Extends h g → Loops (Alike schema g) inner outer → Simulates (Alike schema (with_type x (Some (Of a)) g)) (Alike schema h) inner f f' → (rows : List Row) → AllByRecursion (IsMember schema a) rows → Simulates (Alike schema g) (Alike schema g) outer (each rows x f) (each rows x f')
@@ -61,6 +61,7 @@ extends_statement c _ _ _ _ (sort l g at x keys down a n) y z i = i
 extends_statement c _ _ _ _ (when l g h at e p t q) y z i = i
 extends_statement c _ _ _ _ (choose l g h h' at e p q t r s) y z i = i
 extends_statement c _ _ _ _ (for_each l g h at ty x e p k a n t has q) y z i = i
+extends_statement c _ _ _ _ (for_each_new l g h at ty x e p k n s new q) y z i = i
 extends_statement c _ _ _ _ (while_true l g h at e p t q) y z i = i
 extends_statement c _ _ _ _ (print l g at e ty t) y z i = i
 extends_statement c _ _ _ _ (return_none l g at n) y z i = i
@@ -134,7 +135,7 @@ added_typed schema _ a held rows row (listed _) e h k = all_once (IsMember schem
 added_typed schema _ a held rows row (distinct _) e h k = (all_once (IsMember schema a) held.is_set rows row h.0 k, subst (λ b. AreDistinct (added b rows row)) (sym e) (distinct_once rows row h.1))
 
 -- after a statement that goes on
-narrowed : (c : Frame) (l : Option Types) (k h h' : Types) (f f' : Does) → Extends h h' → Simulates (Alike c.schema k) (Alike c.schema h) (exits c l ⊥) f f' → Simulates (Alike c.schema k) (Alike c.schema h') (exits c l ⊥) f f'
+pub narrowed : (c : Frame) (l : Option Types) (k h h' : Types) (f f' : Does) → Extends h h' → Simulates (Alike c.schema k) (Alike c.schema h) (exits c l ⊥) f f' → Simulates (Alike c.schema k) (Alike c.schema h') (exits c l ⊥) f f'
 narrowed c l k h h' f f' e r = simulates_wider (Alike c.schema k) (Alike c.schema h) (Alike c.schema k) (Alike c.schema h') (exits c l ⊥) (exits c l ⊥) f f' (λ s t a. a) (alike_fewer c.schema h h' e) (record { leaves = λ s t a. a; returns = λ v a. a; stuck = λ a. a }) r
 
 test_holds : (c : Frame) (g : Types) (e : Expression) → HasType c g e bool → (w : World) → IsWorld c w → (s t : State) → Alike c.schema g s t → Holds ⊥ (λ b. Unit {0}) (test_of e w s.store)
@@ -149,6 +150,11 @@ pub each_typed : (c : Frame) (l : Option Types) (g h : Types) (at : Span) (ty : 
 each_typed c l g h at ty x e p q k a n t has ex w i sim =
     let new : Extends (with_type x (Some (Of a)) g) g = extends_new g x (Of a) n in
     record { by = λ u v y. value_then c g e k t w i l (Alike c.schema g) u v y (λ z. as_rows z >>= λ rows. each rows x (meanings p w) u) (λ z. as_rows z >>= λ rows. each rows x (meanings q w) v) (λ z hz. part_then c l (Alike c.schema g) (AllByRecursion (IsMember c.schema a)) (as_rows z) (λ rows. each rows x (meanings p w) u) (λ rows. each rows x (meanings q w) v) (rows_in c.schema k a z has hz) (λ rows hr. (simulates_each c.schema g h x a (exits c (Some (with_type x (Some (Of a)) g)) ⊥) (exits c l ⊥) (meanings p w) (meanings q w) (λ z' k' e'. ex z' k' (new z' k' e')) (loops_on c l (with_type x (Some (Of a)) g) g ⊥ new) sim rows hr).by u v y)) }
+
+-- what walks a new list or set does nothing
+pub each_new_typed : (c : Frame) (l : Option Types) (g : Types) (at : Span) (ty : Spelled) (x : List ℕ) (e : Expression) (p q : Statements) → IsNew e → (w : World) → Simulates (Alike c.schema g) (Alike c.schema g) (exits c l ⊥) (meaning (tree.ForEach at ty x e p) w) (meaning (tree.ForEach at ty x e q) w)
+each_new_typed c l g at ty x _ p q (is_new_list new) w = record { by = λ u v a. on_to (Alike c.schema g) (exits c l ⊥) u v a }
+each_new_typed c l g at ty x _ p q (is_new_set new) w = record { by = λ u v a. on_to (Alike c.schema g) (exits c l ⊥) u v a }
 
 pub while_typed : (c : Frame) (l : Option Types) (g h : Types) (at : Span) (e : Expression) (p q : Statements) → HasType c g e bool → Extends h g → (w : World) → IsWorld c w → Simulates (Alike c.schema g) (Alike c.schema h) (exits c (Some g) ⊥) (meanings p w) (meanings q w) → Simulates (Alike c.schema g) (Alike c.schema g) (exits c l ⊥) (meaning (tree.While at e p) w) (meaning (tree.While at e q) w)
 while_typed c l g h at e p q t ex w i sim =
@@ -175,6 +181,7 @@ mutual
   typed_statement c _ _ _ _ (when l g h at e p t q) w i = if_typed c l g h at e p p t (extends_statements c l g h p q) w i (typed_statements c l g p h q w i)
   typed_statement c _ _ _ _ (choose l g h h' at e p q t r s) w i = choose_typed c l g h h' at e p p q q t (extends_statements c l g h p r) (extends_statements c l g h' q s) w i (typed_statements c l g p h r w i) (typed_statements c l g q h' s w i)
   typed_statement c _ _ _ _ (for_each l g h at ty x e p k b n t has q) w i = each_typed c l g h at ty x e p p k b n t has (extends_statements c (Some (with_type x (Some (Of b)) g)) (with_type x (Some (Of b)) g) h p q) w i (typed_statements c (Some (with_type x (Some (Of b)) g)) (with_type x (Some (Of b)) g) p h q w i)
+  typed_statement c _ _ _ _ (for_each_new l g h at ty x e p k n s new q) w i = each_new_typed c l g at ty x e p p new w
   typed_statement c _ _ _ _ (while_true l g h at e p t q) w i = while_typed c l g h at e p p t (extends_statements c (Some g) g h p q) w i (typed_statements c (Some g) g p h q w i)
   typed_statement c _ _ _ _ (print l g at e ty t) w i =
       record { by = λ u v a. value_then c g e (Of (ScalarOf ty)) t w i l (Alike c.schema g) u v a (λ z. as_scalar z >>= λ x. done (with_line u (printed x))) (λ z. as_scalar z >>= λ x. done (with_line v (printed x))) (λ z hz. part_then c l (Alike c.schema g) (HasTy ty) (as_scalar z) (λ x. done (with_line u (printed x))) (λ x. done (with_line v (printed x))) (scalar_in c.schema ty z hz) (λ x hx. on_to (Alike c.schema g) (exits c l ⊥) (with_line u (printed x)) (with_line v (printed x)) (alike_line c.schema g u v (printed x) a))) }

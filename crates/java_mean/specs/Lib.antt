@@ -4,9 +4,11 @@ pub mod Endings
 pub mod Expression
 pub mod FirstForm
 pub mod Keeps
+pub mod Numbers
 pub mod Outcome
 pub mod Places
 pub mod Queries
+pub mod Reaches
 pub mod Refines
 pub mod Rules
 pub mod Statement

@@ -1,12 +1,11 @@
 -- The places of a program, each with what is visible there.
 use Rattle.std.specs.Prelude.{ℕ, Bool, true, false, List, [], ◌∷◌, ◌++◌}
-use Rattle.std.specs.declared.option.Option.{Option}
 use Rattle.std.specs.declared.option.Option.TheVariants.{Some, None}
 use Rattle.qbs_base.specs.declared.span.Span.{Span}
 use Rattle.qbs_base.specs.Values.{Schema}
-use Rattle.java_ast.specs.Tree.{Expression, Lit, Var, Field, Binary, Not, Equals, Size, Get, Contains, Fetch, Query, QueryLong, QueryBoolean, NewList, NewSet, NewSetOf, Expressions, NoMore, And, Statement, Declare, Assign, Add, Sort, If, IfElse, ForEach, While, Print, Return, Break, Statements, Nothing, Then, PlainParam, PlainMethod}
+use Rattle.java_ast.specs.Tree.{Expression, Var, Field, Binary, Not, Equals, Get, Contains, Query, QueryLong, QueryBoolean, NewSetOf, Expressions, NoMore, And, Statement, Declare, Assign, Add, Sort, If, IfElse, ForEach, While, Print, Return, Break, Statements, Nothing, Then, PlainParam, PlainMethod}
 use Rattle.java_mean.specs.Types.{type_spelled}
-use Rattle.java_mean.specs.Visible.{Visible, is_visible, declared_in, after, with_params}
+use Rattle.java_mean.specs.Visible.{Visible, declared_in, after, with_params}
 
 -- What stands round a block: the variables that for-each loops walk there, whether it is in a loop,
 -- and whether the method ends where the block ends.

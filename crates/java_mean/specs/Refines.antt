@@ -1,5 +1,5 @@
 -- What it is for one run to do at least what another does, as far as the visible variables go.
-use Rattle.std.specs.Prelude.{◌≡◌, ℕ, ◌≤◌, List, Result, Ok, Err}
+use Rattle.std.specs.Prelude.{◌≡◌, ℕ, zero, suc, ◌≤◌, List, [], ◌∷◌, Result, Ok, Err}
 use Rattle.std.specs.declared.option.Option.{Option}
 use Rattle.std.specs.declared.option.Option.TheVariants.{Some, None}
 use Rattle.qbs_base.specs.declared.span.Span.{Span}
@@ -11,8 +11,8 @@ use Rattle.java_mean.specs.declared.ending.Ending.{Ending}
 use Rattle.java_mean.specs.declared.ending.Ending.TheVariants as endings
 use Rattle.java_mean.specs.Statement.{State, Passed, GoesOn, Leaves, Returns, Does, meanings}
 use Rattle.java_mean.specs.Store.{Variable}
-use Rattle.java_mean.specs.Types.{Single, Of, JavaType, Types, with_type, IsOf, IsVariableOf, IsTyped, types_of_params}
-use Rattle.java_mean.specs.Typing.{Frame, IsWorld, HasType, Has, Extends, bool, TypedStatement, TypedStatements}
+use Rattle.java_mean.specs.Types.{Single, Of, JavaType, Types, with_type, type_spelled, types_after, types_past, IsOf, IsVariableOf, IsTyped, types_of_params}
+use Rattle.java_mean.specs.Typing.{Frame, IsWorld, HasType, Has, IsNew, Extends, bool, TypedStatement, TypedStatements}
 use Rattle.java_mean.specs.World.{World}
 
 abbrev pub Related : Type 1
@@ -125,6 +125,46 @@ fill (InElse at e a h q) p = Then (IfElse at e a (fill h p)) q
 fill (InEach at ty x e h q) p = Then (ForEach at ty x e (fill h p)) q
 fill (InWhile at e h q) p = Then (While at e (fill h p)) q
 
+-- Where a place is: the number of the statement that it stands before or in, and from there on down, 0 for a
+-- body or first branch and 1 for the other branch, each with the number of a statement in it.
+abbrev pub first_of : Hole → ℕ
+first_of (Here q) = zero
+first_of (Past a h) = suc (first_of h)
+first_of (InIf at e h q) = zero
+first_of (InThen at e h b q) = zero
+first_of (InElse at e a h q) = zero
+first_of (InEach at ty x e h q) = zero
+first_of (InWhile at e h q) = zero
+
+abbrev pub path_of : Hole → List ℕ
+path_of (Here q) = []
+path_of (Past a h) = path_of h
+path_of (InIf at e h q) = zero ∷ first_of h ∷ path_of h
+path_of (InThen at e h b q) = zero ∷ first_of h ∷ path_of h
+path_of (InElse at e a h q) = suc zero ∷ first_of h ∷ path_of h
+path_of (InEach at ty x e h q) = zero ∷ first_of h ∷ path_of h
+path_of (InWhile at e h q) = zero ∷ first_of h ∷ path_of h
+
+-- the types of the variables that are visible at a place, where those of the first are before all
+abbrev pub types_at : Schema → Types → Hole → Types
+types_at schema g (Here q) = g
+types_at schema g (Past a h) = types_at schema (types_after schema g a) h
+types_at schema g (InIf at e h q) = types_at schema g h
+types_at schema g (InThen at e h b q) = types_at schema g h
+types_at schema g (InElse at e a h q) = types_at schema g h
+types_at schema g (InEach at ty x e h q) = types_at schema (with_type x (type_spelled schema ty) g) h
+types_at schema g (InWhile at e h q) = types_at schema g h
+
+-- and those that are at the start of the innermost loop's body round the place
+abbrev pub loop_at : Schema → Option Types → Types → Hole → Option Types
+loop_at schema l g (Here q) = l
+loop_at schema l g (Past a h) = loop_at schema l (types_after schema g a) h
+loop_at schema l g (InIf at e h q) = loop_at schema l g h
+loop_at schema l g (InThen at e h b q) = loop_at schema l g h
+loop_at schema l g (InElse at e a h q) = loop_at schema l g h
+loop_at schema l g (InEach at ty x e h q) = loop_at schema (Some (with_type x (type_spelled schema ty) g)) (with_type x (type_spelled schema ty) g) h
+loop_at schema l g (InWhile at e h q) = loop_at schema (Some g) g h
+
 -- What stands round a place is well typed: in a loop or none with the first types visible, and at
 -- the place in a loop or none with the types k visible before it, m after it, and z at the end.
 pub data Around (c : Frame) : Option Types → Types → Hole → Option Types → Types → Types → Types → Type 0 where
@@ -134,7 +174,15 @@ pub data Around (c : Frame) : Option Types → Types → Hole → Option Types �
   at_then : (l i : Option Types) (g k m y y' z : Types) (at : Span) (e : Expression) (p : Hole) (b q : Statements) → HasType c g e bool → Around c l g p i k m y → TypedStatements c l g b y' → TypedStatements c l g q z → Around c l g (InThen at e p b q) i k m z
   at_else : (l i : Option Types) (g k m y y' z : Types) (at : Span) (e : Expression) (a : Statements) (p : Hole) (q : Statements) → HasType c g e bool → TypedStatements c l g a y' → Around c l g p i k m y → TypedStatements c l g q z → Around c l g (InElse at e a p q) i k m z
   at_each : (l i : Option Types) (g k m y z : Types) (at : Span) (ty : Spelled) (x : List ℕ) (e : Expression) (p : Hole) (q : Statements) (t : JavaType) (a : Single) → g x ≡ None → HasType c g e t → Has t a → Around c (Some (with_type x (Some (Of a)) g)) (with_type x (Some (Of a)) g) p i k m y → TypedStatements c l g q z → Around c l g (InEach at ty x e p q) i k m z
+  at_each_new : (l i : Option Types) (g k m y z : Types) (at : Span) (ty : Spelled) (x : List ℕ) (e : Expression) (p : Hole) (q : Statements) (t : JavaType) → g x ≡ None → type_spelled c.schema ty ≡ Some t → IsNew e → Around c (Some (with_type x (Some t) g)) (with_type x (Some t) g) p i k m y → TypedStatements c l g q z → Around c l g (InEach at ty x e p q) i k m z
   at_while : (l i : Option Types) (g k m y z : Types) (at : Span) (e : Expression) (p : Hole) (q : Statements) → HasType c g e bool → Around c (Some g) g p i k m y → TypedStatements c l g q z → Around c l g (InWhile at e p q) i k m z
+
+-- A place in statements is well typed, with these statements there: these and what stands round them are
+-- typed under the declared types of the variables that are visible there.
+pub record IsTypedPlace (c : Frame) (l : Option Types) (g : Types) (hole : Hole) (part : Statements) : Type 0 where
+  pub end : Types
+  pub around : Around c l g hole (loop_at c.schema l g hole) (types_at c.schema g hole) (types_past c.schema (types_at c.schema g hole) part) end
+  pub typed : TypedStatements c (loop_at c.schema l g hole) (types_at c.schema g hole) part (types_past c.schema (types_at c.schema g hole) part)
 
 -- In this method, well typed round the place, well-typed statements stand for well-typed ones: what is
 -- visible after the place is what both leave.

@@ -2,7 +2,6 @@
 use Rattle.std.specs.Prelude.{◌≡◌, ℕ, zero, suc, Bool, true, false, List, [], ◌∷◌, Option, Some, None, bytes_eq, if◌then◌else◌}
 use Rattle.std.specs.List.{AllByRecursion, list_any}
 use Rattle.qbs_base.specs.declared.scalar.Scalar.{Scalar}
-use Rattle.qbs_base.specs.declared.scalar.Ty.{Ty}
 use Rattle.qbs_base.specs.declared.scalar.Ty.TheVariants as tys
 use Rattle.qbs_base.specs.declared.scalar.Kind.TheVariants as kinds
 use Rattle.qbs_base.specs.declared.scalar.Row.{Row}
@@ -96,6 +95,11 @@ types_of_params schema (p ∷ ps) = with_type p.name (type_spelled schema p.ty) 
 abbrev pub types_after : Schema → Types → Statement → Types
 types_after schema types (Declare at ty x e) = with_type x (type_spelled schema ty) types
 types_after schema types _ = types
+
+-- what is visible after statements of a block
+abbrev pub types_past : Schema → Types → Statements → Types
+types_past schema types Nothing = types
+types_past schema types (Then a p) = types_past schema (types_after schema types a) p
 
 -- What is visible at a place in a list of statements: before the statement with this number, or
 -- further down in its body or first branch (0) or its other branch (1).

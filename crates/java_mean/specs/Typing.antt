@@ -87,6 +87,11 @@ mutual
     no_more : HaveTypes c g tree.NoMore []
     and : (e : Expression) (es : Expressions) (ty : Ty) (types : List Ty) → HasType c g e (Of (ScalarOf ty)) → HaveTypes c g es types → HaveTypes c g (tree.And e es) (ty ∷ types)
 
+-- a new list or set, which is empty, and may be one of any type
+pub data IsNew : Expression → Type 0 where
+  is_new_list : (at : Span) → IsNew (tree.NewList at)
+  is_new_set : (at : Span) → IsNew (tree.NewSet at)
+
 -- what is visible in the first is visible in the second, with its type
 abbrev pub Extends : Types → Types → Type 0
 Extends h g = (x : List ℕ) (k : JavaType) → g x ≡ Some k → h x ≡ Some k
@@ -105,6 +110,7 @@ mutual
     when : (l : Option Types) (g h : Types) (at : Span) (e : Expression) (p : Statements) → HasType c g e bool → TypedStatements c l g p h → TypedStatement c l g (tree.If at e p) g
     choose : (l : Option Types) (g h h' : Types) (at : Span) (e : Expression) (p q : Statements) → HasType c g e bool → TypedStatements c l g p h → TypedStatements c l g q h' → TypedStatement c l g (tree.IfElse at e p q) g
     for_each : (l : Option Types) (g h : Types) (at : Span) (ty : Spelled) (x : List ℕ) (e : Expression) (p : Statements) (k : JavaType) (a : Single) → g x ≡ None → HasType c g e k → Has k a → TypedStatements c (Some (with_type x (Some (Of a)) g)) (with_type x (Some (Of a)) g) p h → TypedStatement c l g (tree.ForEach at ty x e p) g
+    for_each_new : (l : Option Types) (g h : Types) (at : Span) (ty : Spelled) (x : List ℕ) (e : Expression) (p : Statements) (k : JavaType) → g x ≡ None → type_spelled c.schema ty ≡ Some k → IsNew e → TypedStatements c (Some (with_type x (Some k) g)) (with_type x (Some k) g) p h → TypedStatement c l g (tree.ForEach at ty x e p) g
     while_true : (l : Option Types) (g h : Types) (at : Span) (e : Expression) (p : Statements) → HasType c g e bool → TypedStatements c (Some g) g p h → TypedStatement c l g (tree.While at e p) g
     print : (l : Option Types) (g : Types) (at : Span) (e : Expression) (ty : Ty) → HasType c g e (Of (ScalarOf ty)) → TypedStatement c l g (tree.Print at e) g
     return_none : (l : Option Types) (g : Types) (at : Span) → c.result ≡ None → TypedStatement c l g (tree.Return at None) g

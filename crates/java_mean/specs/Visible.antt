@@ -1,7 +1,7 @@
 -- The visible variables, in the order of their declarations, each with its type where that is known.
 use Rattle.std.specs.Prelude.{ℕ, Bool, true, false, List, [], ◌∷◌, ◌++◌, bytes_eq, if◌then◌else◌}
 use Rattle.std.specs.declared.option.Option.{Option}
-use Rattle.std.specs.declared.option.Option.TheVariants.{Some, None}
+use Rattle.std.specs.declared.option.Option.TheVariants.{None}
 use Rattle.qbs_base.specs.Values.{Schema}
 use Rattle.java_ast.specs.Tree.{Statement, Declare, PlainParam}
 use Rattle.java_mean.specs.Types.{JavaType, type_spelled}

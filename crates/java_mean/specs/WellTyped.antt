@@ -2,7 +2,7 @@
 -- of the first place, and there of the rule with the least number.
 use Rattle.std.specs.Prelude.{◌≡◌, ℕ, Bool, true, false, ◌&&◌, List, [], ◌∷◌, ◌++◌, ◌⊎◌, nat_eq, nat_lt, if◌then◌else◌}
 use Rattle.std.specs.declared.option.Option.{Option}
-use Rattle.std.specs.declared.option.Option.TheVariants.{Some, None}
+use Rattle.std.specs.declared.option.Option.TheVariants.{None}
 use Rattle.qbs_base.specs.declared.span.Span.{Span}
 use Rattle.qbs_base.specs.Values.{Schema}
 use Rattle.sql_ast.specs.Tree.{PlainQuery}
@@ -11,7 +11,6 @@ use Rattle.java_mean.specs.declared.rule.TypeRule.{TypeRule}
 use Rattle.java_mean.specs.declared.rule.TypeRule.TheVariants as rules
 use Rattle.java_mean.specs.declared.rule.TypeFault.{TypeFault}
 use Rattle.java_mean.specs.Places.{Place, whole, in_method}
-use Rattle.java_mean.specs.Queries.{Reader}
 use Rattle.java_mean.specs.Rules.{unknown, mismatch, double_name, text_identity, list_alias, modified_in_loop, bad_query, unordered_query, return_place, arity, break_place}
 use Rattle.java_mean.specs.Visible.{Visible, is_visible, declared_in}
 

@@ -1,3 +1,4 @@
+pub mod Checked
 pub mod Columns
 pub mod Cut
 pub mod First

@@ -1,5 +1,5 @@
 -- The least of the faults that are kept one after the other.
-use Rattle.std.specs.Prelude.{List, [], ◌∷◌, if◌then◌else◌}
+use Rattle.std.specs.Prelude.{◌≡◌, List, [], ◌∷◌, if◌then◌else◌}
 use Rattle.std.specs.declared.option.Option.{Option}
 use Rattle.std.specs.declared.option.Option.TheVariants.{Some, None}
 use Rattle.java_mean.specs.declared.rule.TypeFault.{TypeFault}
@@ -20,3 +20,8 @@ least k (f ∷ fs) = least (lesser k f) fs
 abbrev pub IsRight : List TypeFault → Fail TypeFault → Type 0
 IsRight fs NoMemory = Unit {0}
 IsRight fs (Fault f) = IsLeast f fs
+
+-- the fault is the one that is kept of all, or memory ran out
+abbrev pub IsKept : List TypeFault → Fail TypeFault → Type 0
+IsKept fs NoMemory = Unit {0}
+IsKept fs (Fault f) = least None fs ≡ Some f

@@ -1,10 +1,13 @@
 // The check.
 ghost use Rattle.std.specs.Prelude.{◌≡◌, IfOk, IfErr, OnOk, None, map};
+ghost use Rattle.java_ast.specs.Reading as reading;
 ghost use Rattle.java_ast.specs.Reading.{program, method as plain_method};
+ghost use Rattle.java_mean.specs.Numbers.{NumbersFit};
 ghost use Rattle.java_mean.specs.WellTyped.{all_faults, faults_in_methods, IsWellTyped};
-ghost use Rattle.java_types.specs.Least.{least, IsRight};
+ghost use Rattle.java_types.specs.Least.{least, IsRight, IsKept};
 ghost use Rattle.java_types.specs.Texts.{read_by};
 
+use crate::numbers::read_literals;
 use crate::scope::Scope;
 use crate::walk::walk_method;
 use java_ast::{Method, Program, copy_program};
@@ -13,10 +16,12 @@ use qbs_base::{Fail, NoMemory};
 use schema::Schema;
 use std::alloc::Global;
 
-/// A program that was checked. What takes one with a schema requires `IsWellTyped` of the two.
+/// A program that was checked: its literals have 64 bits. What takes one with a schema requires
+/// `IsWellTyped` of the two.
 #[derive(Drop)]
 pub struct Typed {
     program: Program,
+    ghost numbers: { NumbersFit (reading.program program) },
 }
 
 impl Typed {
@@ -64,11 +69,15 @@ pub fn check(alloc: Global, schema: &Schema, p: &Program) -> Result<Typed, Fail<
     ensures typed { IfOk result (λ t. IsWellTyped schema.now (read_by schema.now) (program t.program)) }
     ensures exact { OnOk result (IsWellTyped schema.now (read_by schema.now) (program p.now)) }
     ensures fault { IfErr result (IsRight (all_faults schema.now (read_by schema.now) (program p.now))) }
+    // Of faults with one place and one rule the first is kept.
+    ensures kept { IfErr result (IsKept (all_faults schema.now (read_by schema.now) (program p.now))) }
 {
     match first_fault(alloc, schema, p)? {
-        None => Ok(Typed {
-            program: copy_program(alloc, p)?,
-        }),
+        None => {
+            let program = copy_program(alloc, p)?;
+            read_literals(&program);
+            Ok(Typed { program })
+        }
         Some(f) => Err(Fail::Fault(f)),
     }
 }

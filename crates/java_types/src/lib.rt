@@ -4,6 +4,7 @@
 mod checking;
 mod keeping;
 pub mod laws;
+mod numbers;
 mod queries;
 mod scope;
 mod steps;
@@ -18,3 +19,4 @@ pub mod worked;
 
 pub use checking::{Typed, check};
 pub use java_mean::{TypeFault, TypeRule};
+pub use numbers::read_literals;
