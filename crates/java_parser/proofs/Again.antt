@@ -1,10 +1,10 @@
 -- What has tokens is read from them again, unless one of them is too deep where the limits do not hold.
-use Rattle.std.proofs.Common.{◌≡◌, ℕ, zero, suc, ◌<◌, ◌+◌, Bool, true, false, cond, List, [], ◌∷◌, ◌++◌, length, Option, Some, None, Result, Ok, Err, refl, sym, ap, subst, ◌∙◌, append_assoc, arith, inl, inr, ◌⊎◌}
+use Rattle.std.proofs.Common.{◌≡◌, ℕ, zero, suc, Bool, true, false, List, [], ◌∷◌, ◌++◌, length, Option, Some, Result, Ok, Err, refl, sym, ap, subst, ◌∙◌, append_assoc, arith, inl, inr, ◌⊎◌}
 use Rattle.qbs_base.specs.declared.span.Span.{Span}
 use Rattle.java_lex.specs.declared.token.TokenNode.{TokenNode}
 use Rattle.readers.specs.declared.fault.Fault.{Fault}
-use Rattle.readers.specs.declared.fault.Fault.TheVariants.{Unexpected, TooDeep}
-use Rattle.readers.specs.Reading.{◌>>=◌, Read, made}
+use Rattle.readers.specs.declared.fault.Fault.TheVariants.{TooDeep}
+use Rattle.readers.specs.Reading.{◌>>=◌, made}
 use Rattle.java_parser.specs.Marks.{Tok, Allows, extent}
 use Rattle.java_parser.specs.Rules.{Rule, Empty, One, Seq, Then, Or, Made, Placed}
 use Rattle.java_parser.specs.Reading.{Reader, then_at, empty_at, one_at, consumed, placed_at, first_is, or_at, enter, held, held_at}

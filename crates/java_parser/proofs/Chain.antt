@@ -1,16 +1,16 @@
 -- Chains: what is read first, and parts that follow it one after the other.
-use Rattle.std.proofs.Common.{◌≡◌, ℕ, zero, suc, pred, ◌≤◌, ◌<◌, Bool, true, false, List, [], ◌∷◌, ◌++◌, length, Option, Some, None, Ok, Err, refl, sym, ap, subst, ◌∙◌, append_assoc, arith, inl, inr}
+use Rattle.std.proofs.Common.{◌≡◌, ℕ, zero, suc, pred, Bool, true, false, List, [], ◌++◌, length, Option, Some, None, Ok, Err, refl, sym, ap, subst, ◌∙◌, append_assoc, inl, inr}
 use Rattle.std.proofs.lemmas.List.{append-nil}
 use Rattle.qbs_base.specs.declared.span.Span.{Span}
 use Rattle.java_lex.specs.declared.token.TokenNode.{TokenNode}
 use Rattle.readers.specs.declared.fault.Fault.{Fault}
 use Rattle.readers.specs.declared.fault.Fault.TheVariants.{TooDeep}
-use Rattle.readers.specs.Reading.{◌>>=◌, Read}
+use Rattle.readers.specs.Reading.{◌>>=◌}
 use Rattle.readers.proofs.Tools.{bind_ok, ok_is, bind_err, chosen, failed}
 use Rattle.java_parser.specs.Marks.{Tok, extent}
 use Rattle.java_parser.specs.Rules.{Rule}
 use Rattle.java_parser.specs.Reading.{Reader, consumed, first_is, chain_at, continued, chained_at}
-use Rattle.java_parser.proofs.Sound.{Takes, Stopped, Stops, moved, IsPast, past_bind, past_cond, Stays, Agree, Alike, alike, stuck, alike_bind, alike_cond, same_first, Sound, consumed_is, same_consumed}
+use Rattle.java_parser.proofs.Sound.{Takes, Stopped, moved, past_bind, past_cond, Stays, Agree, Alike, alike, stuck, alike_bind, alike_cond, same_first, Sound, consumed_is, same_consumed, Twins, Twin, both_read, twins_first, twins_extent, twin_stop, twin_bind, twin_cond}
 use Rattle.java_parser.proofs.Again.{Leads, bind_leads}
 
 -- Step n x is what follows x where n more may follow; C n is what has parts so far; D is anything read.
@@ -93,6 +93,15 @@ module _ {A : Type 0} (more : TokenNode → Bool) (step : ℕ → A → Reader (
       (λ f vs lt. chain_stays n from (f (extent (consumed from vs))) (length rest) vs lt))
       (alike ag)
 
+  chain_blind : (n : ℕ) (from from' : List Tok) (x : A) (ts ts' : List Tok) → Twins from from' → Twins ts ts' → Twin A (chain_at more step n from x ts) (chain_at more step n from' x ts')
+  unfolding chain_at
+  chain_blind zero from from' x ts ts' all h = twin_cond (first_is more ts) (first_is more ts') (twins_first more ts ts' h) (twin_stop (λ k. TooDeep k) ts ts' h) (both_read h)
+  chain_blind (suc n) from from' x ts ts' all h =
+      twin_cond (first_is more ts) (first_is more ts') (twins_first more ts ts' h)
+      (twin_bind (λ z. chain_at more step n from (z.0 (extent (consumed from z.1))) z.1) (λ z. chain_at more step n from' (z.0 (extent (consumed from' z.1))) z.1) ((law (suc n) x).blind ts ts' h)
+      (λ f vs vs' h'. subst (λ (at : Span). Twin A (chain_at more step n from (f (extent (consumed from vs))) vs) (chain_at more step n from' (f at) vs')) (twins_extent from from' vs vs' all h') (chain_blind n from from' (f (extent (consumed from vs))) vs vs' all h')))
+      (both_read h)
+
   module _ (P : Rule (A × Option ℕ)) (base : Reader (A × Option ℕ)) (first : Sound P base) (alone : (us : List Tok) (x : A) → P us (x, None) → D us x) (begun : (us : List Tok) (x : A) (n : ℕ) → P us (x, Some n) → C n us x) where
     continued_finds : (o : Option ℕ) (from : List Tok) (x : A) (us ts : List Tok) (y : A × List Tok) → P us (x, o) → from ≡ us ++ ts → continued more step o from x ts ≡ Ok y → Takes D from y.0 y.1
     continued_finds None from x us ts y h is e = subst (λ (z : A × List Tok). Takes D from z.0 z.1) (ok_is (x, ts) y e) (record { front = us; parts = is; has = alone us x h })
@@ -110,6 +119,10 @@ module _ {A : Type 0} (more : TokenNode → Bool) (step : ℕ → A → Reader (
         → Alike rest rest' A (continued more step o from x ts) (continued more step o from' x ts')
     continued_same None rest rest' from from' x us us' ts ts' is is' all ag = alike ag
     continued_same (Some n) rest rest' from from' x us us' ts ts' is is' all ag = chain_same n rest rest' from from' x us us' ts ts' is is' all ag
+
+    continued_blind : (o : Option ℕ) (from from' : List Tok) (x : A) (ts ts' : List Tok) → Twins from from' → Twins ts ts' → Twin A (continued more step o from x ts) (continued more step o from' x ts')
+    continued_blind None from from' x ts ts' all h = both_read h
+    continued_blind (Some n) from from' x ts ts' all h = chain_blind n from from' x ts ts' all h
 
     finished : (o : Option ℕ) (us : List Tok) (x : A) → P us (x, o) → D us x
     finished None us x h = alone us x h
@@ -132,6 +145,7 @@ module _ {A : Type 0} (more : TokenNode → Bool) (step : ℕ → A → Reader (
           let b' = first.found vs (x, vs') e' in
           continued_same x.1 rest rest' us vs x.0 b.front b'.front us' vs' b.parts b'.parts ag ag')
           (λ x us' lt. continued_stays x.1 us x.0 (length rest) us' lt);
+      blind = λ us vs h. twin_bind (λ x. continued more step x.0.1 us x.0.0 x.1) (λ x. continued more step x.0.1 vs x.0.0 x.1) (first.blind us vs h) (λ x us' vs' h'. continued_blind x.1 us vs x.0 us' vs' h h');
       some = record { tokens = first.some.tokens; value = first.some.value.0; has = finished first.some.value.1 first.some.tokens first.some.value.0 first.some.has };
     }
 

@@ -76,7 +76,7 @@ raise_at (suc (suc k)) (suc (suc n)) room us x two le h = raise n k room us x (o
 -- ---- in parentheses or not
 
 atom_base : (room : ℕ) (us : List Tok) (x : Expression) → HasAtom room us x → Base room us x
-atom_base room us x h = inr (longest, atom h)
+atom_base room us x h = inr (longest room, atom h)
 
 wrapped : (r most room : ℕ) (us : List Tok) (e : Expression) (m : List TokenNode) → ((inner : ℕ) (vs : List Tok) → AreTokens vs m → Found r inner vs e) → 2 ≤ r → r ≤ 8 → 1 ≤ most → (b : Bool) → nat_le r most ≡ b → AreTokens us ((open_unless b ++ m) ++ close_unless b) → Found most room us e
 wrapped r most room us e m inner two eight one true t h =
@@ -197,8 +197,8 @@ Suffixes room x m ds node = (bare : Option (List ℕ)) (left : ℕ) → (after :
 
 behind_name : (room : ℕ) (us a b c d : List Tok) (w m : List ℕ) (x : Expression) (node : Span → Expression) → us ≡ a ++ (b ++ (c ++ d)) → One variable_in a w → x ≡ plain.Var (extent a) w → AreTokens b (sign (codes ".")) → One name_in c m → Suffixes room x m d node → Base room us (node (extent us))
 behind_name room us a b c d w m x node e h is dot member suffix =
-    let s = suffix (Some w) longest in
-    let k : HasSuffix room (Some w) (plain.Var (extent a) w) m longest d node s.0 = subst (λ (y : Expression). HasSuffix room (Some w) y m longest d node s.0) is s.1 in
+    let s = suffix (Some w) (longest room) in
+    let k : HasSuffix room (Some w) (plain.Var (extent a) w) m (longest room) d node s.0 = subst (λ (y : Expression). HasSuffix room (Some w) y m (longest room) d node s.0) is s.1 in
     let g : HasParts room s.0 (a ++ (b ++ (c ++ d))) (node (extent (a ++ (b ++ (c ++ d))))) = dotted h (this_node (nodes.Sign (codes ".")) b dot) member k in
     inr (s.0, subst (λ (vs : List Tok). HasParts room s.0 vs (node (extent vs))) (sym e) g)
 
@@ -215,9 +215,9 @@ behind_base room us a b c d m x node e (inr h) dot member suffix = behind_parts 
 -- w . m ( inner )
 name_call : (room : ℕ) (us : List Tok) (w m : List ℕ) (inner : List TokenNode) (c : Call) (node : Span → Expression) → IsVariable w → IsName m → call_of (Some w) m ≡ Some c → (p : Called us (word w) m inner) → HasCall (pred room) w (plain.Var (extent p.a) w) c p.i node → Base room us (node (extent us))
 name_call room us w m inner c node h k e p has =
-    let suffix : HasSuffix room (Some w) (plain.Var (extent p.a) w) m longest (p.left ++ (p.i ++ p.right)) node (left_behind c longest) = called e (opens room (codes "(") p.left p.has_left) has (this_node (nodes.Sign (codes ")")) p.right p.has_right) in
-    let g : HasParts room (left_behind c longest) (p.a ++ (p.dot ++ (p.member ++ (p.left ++ (p.i ++ p.right))))) (node (extent (p.a ++ (p.dot ++ (p.member ++ (p.left ++ (p.i ++ p.right))))))) = dotted (variable_has w p.a h p.has_head) (this_node (nodes.Sign (codes ".")) p.dot p.has_dot) (name_has m p.member k p.has_member) suffix in
-    inr (left_behind c longest, subst (λ (vs : List Tok). HasParts room (left_behind c longest) vs (node (extent vs))) (sym p.parts) g)
+    let suffix : HasSuffix room (Some w) (plain.Var (extent p.a) w) m (longest room) (p.left ++ (p.i ++ p.right)) node (left_behind c (longest room)) = called e (opens room (codes "(") p.left p.has_left) has (this_node (nodes.Sign (codes ")")) p.right p.has_right) in
+    let g : HasParts room (left_behind c (longest room)) (p.a ++ (p.dot ++ (p.member ++ (p.left ++ (p.i ++ p.right))))) (node (extent (p.a ++ (p.dot ++ (p.member ++ (p.left ++ (p.i ++ p.right))))))) = dotted (variable_has w p.a h p.has_head) (this_node (nodes.Sign (codes ".")) p.dot p.has_dot) (name_has m p.member k p.has_member) suffix in
+    inr (left_behind c (longest room), subst (λ (vs : List Tok). HasParts room (left_behind c (longest room)) vs (node (extent vs))) (sym p.parts) g)
 
 -- ---- operators
 

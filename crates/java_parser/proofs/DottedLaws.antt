@@ -13,7 +13,7 @@ use Rattle.java_parser.specs.Words.{is_name, name_in}
 use Rattle.java_parser.specs.Grammar.{HasDotted, ended, starred, dotted}
 use Rattle.java_parser.specs.Reading.{first_is, is_sign}
 use Rattle.java_parser.specs.ReadingPrograms.{is_dot, star_here, dotted_at, behind_dot}
-use Rattle.java_parser.proofs.Sound.{Takes, Stopped, moved, IsPast, past_bind, past_cond, Agree, here, later, Alike, alike, stuck, past, alike_bind, alike_cond}
+use Rattle.java_parser.proofs.Sound.{Takes, Stopped, moved, IsPast, past_bind, past_cond, Agree, here, later, Alike, alike, stuck, past, alike_bind, alike_cond, Twins, no_twins, twins, Twin, both_read, both_stop, twin_stop, twin_bind, twin_cond}
 use Rattle.java_parser.proofs.Again.{Leads, bind_leads, leads_right}
 use Rattle.java_parser.proofs.SingleLaws.{token_of, word_if_is, is_sign_true}
 use Rattle.java_parser.proofs.Laws.{Reads}
@@ -137,6 +137,25 @@ mutual
       (subst (λ (o : Option (List ℕ)). Alike rest rest' (List ℕ) (by_name star (name_in t.token.node) rest) (by_name star o rest')) (ap (λ (s : Token). name_in s.node) e) (named_here star (name_in t.token.node) t t' rest rest' e))
   behind_same star rest rest' _ _ (later {t} {us} {vs} ag) = alike_cond rest rest' (star_here star t) (star_here star t) refl (alike ag) (named_later star (name_in t.token.node) t rest rest' us vs ag (dotted_same star rest rest' us vs ag))
 
+-- ---- marks
+
+named_blind : (star : Bool) (o : Option (List ℕ)) (us vs : List Tok) → Twins us vs → Twin (List ℕ) (dotted_at star us) (dotted_at star vs) → Twin (List ℕ) (by_name star o us) (by_name star o vs)
+named_blind star None us vs h g = twin_stop (λ n. Unexpected (suc n)) us vs h
+named_blind star (Some w) us vs h g = twin_bind (with_name w) (with_name w) g (λ x us' vs' h'. both_read h')
+
+mutual
+  unfolding dotted_at
+
+  dotted_blind : (star : Bool) (us vs : List Tok) → Twins us vs → Twin (List ℕ) (dotted_at star us) (dotted_at star vs)
+  dotted_blind star _ _ no_twins = both_read no_twins
+  dotted_blind star _ _ (twins {s} {t} {us} {vs} e h) = twin_cond (is_dot s) (is_dot t) (ap (λ (k : Token). is_sign (codes ".") k.node) e) (behind_blind star us vs h) (both_read (twins {s = s} {t = t} e h))
+
+  behind_blind : (star : Bool) (us vs : List Tok) → Twins us vs → Twin (List ℕ) (behind_dot star us) (behind_dot star vs)
+  behind_blind star _ _ no_twins = both_stop
+  behind_blind star _ _ (twins {s} {t} {us} {vs} e h) =
+      twin_cond (star_here star s) (star_here star t) (ap (λ (k : Token). cond star (is_sign (codes "*") k.node) false) e) (both_read h)
+      (subst (λ (o : Option (List ℕ)). Twin (List ℕ) (by_name star (name_in s.token.node) us) (by_name star o vs)) (ap (λ (k : Token). name_in k.node) e) (named_blind star (name_in s.token.node) us vs h (dotted_blind star us vs h)))
+
 -- ---- what is read again
 
 abbrev pub NoDot : List Tok → Type 0
@@ -181,6 +200,7 @@ dotted_reads star = record {
     stops = dotted_stops star;
     stays = dotted_stays star;
     same = dotted_same star;
+    blind = dotted_blind star;
     some = record { tokens = []; value = []; has = ended };
   };
   again = λ us w rest h f. dotted_again h rest f;

@@ -1,9 +1,7 @@
 -- Expressions are read exactly.
-use Rattle.std.proofs.Common.{◌≡◌, ℕ, ℤ, pos, negsuc, neg_ℤ, ◌-◌, ◌^◌, zero, suc, pred, ◌≤◌, ◌<◌, Bool, true, false, cond, not, ◌||◌, nat_le, nat_eq, List, [], ◌∷◌, ◌++◌, length, Option, Some, None, Ok, codes, is_some, refl, sym, ap, subst, ◌∙◌, append_assoc, arith, inl, inr, ◌⊎◌}
+use Rattle.std.proofs.Common.{◌≡◌, ℕ, pos, negsuc, neg_ℤ, ◌-◌, ◌^◌, suc, Bool, true, false, ◌||◌, nat_le, nat_eq, List, [], ◌∷◌, ◌++◌, Option, Some, None, codes, is_some, refl, sym, ap, subst, ◌∙◌, arith, inl, inr, ◌⊎◌}
 use Rattle.std.specs.Str.{bytes_eq}
 use Rattle.std.proofs.lemmas.Bool.Decides.{nat_tests}
-use Rattle.std.proofs.lemmas.List.{append-nil}
-use Rattle.qbs_base.specs.declared.span.Span.{Span}
 use Rattle.qbs_base.specs.declared.scalar.Scalar.{Scalar}
 use Rattle.qbs_base.specs.declared.scalar.Scalar.TheVariants as scalars
 use Rattle.java_lex.specs.declared.token.TokenNode.{TokenNode}
@@ -11,17 +9,17 @@ use Rattle.java_lex.specs.declared.token.TokenNode.TheVariants as tokens
 use Rattle.readers.specs.Reading.{is_over}
 use Rattle.readers.proofs.Tools.{chosen}
 use Rattle.java_ast.specs.declared.tree.Op.{Op}
-use Rattle.java_ast.specs.Tree.{Expression, Lit}
-use Rattle.java_parser.specs.Marks.{Tok, extent, Allows, freely}
-use Rattle.java_parser.specs.Rules.{Rule, Empty, One, Word, Sign, Opening, Seq, Then, Or, Made, Placed}
-use Rattle.java_parser.specs.Words.{by_word, word_if, name_in, natural_in, literal_in, truth_of, is_number_type, operator_of}
-use Rattle.java_parser.specs.Expressions.{limit, Limit, Negative, Literal, Variable, of_rank, operator_in, Operator, ranks}
-use Rattle.java_parser.specs.Reading.{Reader, first_is, is_word, is_sign}
+use Rattle.java_ast.specs.Tree.{Lit}
+use Rattle.java_parser.specs.Marks.{Tok}
+use Rattle.java_parser.specs.Rules.{One, Sign, Seq, Or}
+use Rattle.java_parser.specs.Words.{by_word, word_if, natural_in, literal_in, is_number_type, operator_of}
+use Rattle.java_parser.specs.Expressions.{limit, Limit, Negative, Literal, of_rank, operator_in}
+use Rattle.java_parser.specs.Reading.{first_is, is_sign}
 use Rattle.java_parser.specs.ReadingExpressions.{negative_at, limit_at, is_literal, scalar_at, literal_at, is_operator}
-use Rattle.java_parser.proofs.Sound.{Passes, Inhabited}
-use Rattle.java_parser.proofs.Again.{Any, Heads, one_heads, then_heads, placed_heads, or_heads}
-use Rattle.java_parser.proofs.SingleLaws.{token_of, by_word_is, word_if_is, same_bytes, bytes_same, opening_heads, this_heads}
-use Rattle.java_parser.proofs.Laws.{Reads, one, word, sign, opening, seq, join, by_value, of, put, either}
+use Rattle.java_parser.proofs.Sound.{Passes}
+use Rattle.java_parser.proofs.Again.{Any, Heads, one_heads, then_heads, or_heads}
+use Rattle.java_parser.proofs.SingleLaws.{token_of, word_if_is, same_bytes, this_heads}
+use Rattle.java_parser.proofs.Laws.{Reads, one, sign, seq, by_value, of, put, either}
 
 abbrev some : {A : Type 0} → A → Option A
 some x = Some x

@@ -1,7 +1,7 @@
 -- The place of tokens that are read is that of the tokens without their marks.
-use Rattle.std.proofs.Common.{◌≡◌, ℕ, zero, suc, ◌-◌, List, [], ◌∷◌, length, take, map, slice_get, refl, ap, ◌∙◌}
+use Rattle.std.proofs.Common.{◌≡◌, ℕ, zero, suc, ◌-◌, List, [], ◌∷◌, length, take, refl, ap}
 use Rattle.java_lex.specs.declared.token.Token.{Token}
-use Rattle.java_parser.specs.Marks.{Tok, strictly, all_strict, tokens_of, bounds, between, extent}
+use Rattle.java_parser.specs.Marks.{all_strict, tokens_of, between, extent}
 use Rattle.java_parser.specs.Reading.{consumed}
 
 taken : (n : ℕ) (ts : List Token) → tokens_of (take n (all_strict ts)) ≡ take n ts

@@ -1,31 +1,26 @@
 -- What has tokens that can be written is a tree of the grammar that can be written: statements and programs.
-use Rattle.std.proofs.Common.{◌≡◌, ℕ, zero, suc, ◌<◌, ◌^◌, Bool, true, false, cond, List, [], ◌∷◌, ◌++◌, refl, sym, ap, subst, ◌∙◌, append_assoc, arith, codes, Option, Some, None, Ok, inl, inr, ◌⊎◌}
-use Rattle.std.specs.Prelude.{pred, pos, not, ◌&&◌, ◌||◌, ◌==◌}
+use Rattle.std.proofs.Common.{◌≡◌, ℕ, Bool, true, false, cond, List, [], ◌∷◌, ◌++◌, refl, sym, ap, subst, ◌∙◌, arith, codes, Option, Some, None, Ok, inl, inr}
+use Rattle.std.specs.Prelude.{pred, not, ◌==◌}
 use Rattle.std.specs.Str.{bytes_eq}
 use Rattle.std.proofs.lemmas.Bool.Decides.{nat_tests}
-use Rattle.std.proofs.lemmas.List.{append-nil}
 use Rattle.qbs_base.specs.declared.span.Span.{Span}
-use Rattle.qbs_base.specs.declared.scalar.Scalar.TheVariants as scalars
-use Rattle.java_ast.specs.declared.tree.Op.TheVariants as ops
 use Rattle.java_ast.specs.Tree as plain
 use Rattle.java_ast.specs.Tree.{Spelled, Expression, Statement, Statements, PlainParam, PlainMethod, PlainProgram}
 use Rattle.java_ast.specs.Canonical.{canonical}
 use Rattle.java_lex.specs.declared.token.Token.{Token}
 use Rattle.java_lex.specs.declared.token.Tokens.{Tokens}
-use Rattle.java_lex.specs.declared.token.TokenNode.{TokenNode}
-use Rattle.java_lex.specs.declared.token.TokenNode.TheVariants as nodes
 use Rattle.java_lex.specs.Lexing.{lexed}
 use Rattle.java_lex.specs.Bytes.{is_name_start, is_name_part}
 use Rattle.java_lex.proofs.Lengths.{on_cond}
 use Rattle.java_parser.specs.Marks.{Tok, all_free, extent}
-use Rattle.java_parser.specs.Rules.{Rule, One, Sign, Seq, Made, Many}
-use Rattle.java_parser.specs.Words.{by_word, name_in, is_name, is_table, is_variable, is_number_type, scalar_type, table_type, or_else, word_type, collection, collection_of}
-use Rattle.java_parser.specs.Types.{Element, Spelling, KeyColumn, PlainKey, TypedKey, Key}
+use Rattle.java_parser.specs.Rules.{Rule, Many}
+use Rattle.java_parser.specs.Words.{by_word, is_name, is_table, is_variable, is_number_type, scalar_type, table_type, or_else, word_type, collection_of}
+use Rattle.java_parser.specs.Types.{Spelling, KeyColumn, Key}
 use Rattle.java_parser.specs.Expressions.{HasExpression}
-use Rattle.java_parser.specs.Statements.{Parenthesised, Condition, Value, Assignment, Increase, Increment, Addition, Printing, Further, is_turned, keys_in, downs_in, Keys, Sorting, MemberCall, NamedRest, Named, Returning, Plain, Declaration, IfHead, WhileHead, Walk, ForHead, HasStatement, plain as plainly, if_alone, if_else, for_each, while, HasBody, block, single, HasBlock, braces, HasStatements, none, declared, stated}
+use Rattle.java_parser.specs.Statements.{Parenthesised, Condition, Value, Assignment, Increase, Increment, Addition, Printing, Further, keys_in, downs_in, Keys, Sorting, MemberCall, NamedRest, Named, Returning, Plain, Declaration, IfHead, WhileHead, Walk, ForHead, HasStatement, plain as plainly, if_alone, if_else, for_each, while, HasBody, block, single, HasBlock, braces, HasStatements, none, declared, stated}
 use Rattle.java_parser.specs.Grammar.{Result, Parameter, NextParameter, Parameters, Method, HasDotted, ended, starred, dotted, Dotted, Package, Class, HasProgram, IsProgram}
-use Rattle.java_parser.specs.Written.{IsWord, is_word, are_name_parts, onto_first, parts_of, is_star, AreWords, AreWordsOrStar, WrittenType, WrittenKeys, WrittenReturn, WrittenStatement, WrittenStatements, WrittenParams, WrittenResult, WrittenMethods, WrittenPackage, WrittenImports, IsWritten}
-use Rattle.java_parser.specs.InGrammar.{IsName, IsScalarType, IsType, IsSome, AreKeys, InReturn, InStatement, InStatements, InResult, InParams, InMethod, InMethods, AreNames, AreNamesOrStar, InDotted, InPackage, InImports, IsInGrammar}
+use Rattle.java_parser.specs.Written.{IsWord, is_word, are_name_parts, onto_first, parts_of, AreWords, AreWordsOrStar, WrittenType, WrittenKeys, WrittenReturn, WrittenStatement, WrittenStatements, WrittenParams, WrittenResult, WrittenMethods, WrittenPackage, WrittenImports, IsWritten}
+use Rattle.java_parser.specs.InGrammar.{IsScalarType, IsType, IsSome, AreKeys, InReturn, InStatement, InStatements, InResult, InParams, InMethod, InMethods, AreNames, AreNamesOrStar, InDotted, InPackage, InImports, IsInGrammar}
 use Rattle.java_parser.specs.ReadBack.{IsReadBack}
 use Rattle.java_parser.proofs.Fixed.{both_true}
 use Rattle.java_parser.proofs.Good.{AllGood, lexed_good}

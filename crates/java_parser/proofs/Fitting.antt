@@ -1,9 +1,8 @@
 -- What has tokens that can be written is a tree of the grammar that can be written: expressions.
-use Rattle.std.proofs.Common.{◌≡◌, ℕ, zero, suc, ◌+◌, ◌-◌, ◌<◌, ◌^◌, Bool, true, false, cond, List, [], ◌∷◌, ◌++◌, refl, sym, ap, subst, ◌∙◌, arith, codes, Option, Some, None, inl, inr, ◌⊎◌}
-use Rattle.std.specs.Prelude.{ℤ, pos, negsuc, neg_ℤ, pred, not, ◌&&◌, ◌||◌, IsUtf8}
+use Rattle.std.proofs.Common.{◌≡◌, ℕ, zero, suc, ◌-◌, ◌<◌, ◌^◌, Bool, true, false, cond, List, [], ◌∷◌, ◌++◌, refl, sym, subst, arith, codes, Option, Some, None, inl, inr}
+use Rattle.std.specs.Prelude.{ℤ, pos, negsuc, neg_ℤ, pred}
 use Rattle.std.specs.Str.{bytes_eq}
 use Rattle.qbs_base.specs.declared.span.Span.{Span}
-use Rattle.qbs_base.specs.declared.scalar.Scalar.{Scalar}
 use Rattle.qbs_base.specs.declared.scalar.Scalar.TheVariants as scalars
 use Rattle.java_ast.specs.Tree as plain
 use Rattle.java_ast.specs.Tree.{Spelled, Expression, Expressions}
@@ -11,11 +10,11 @@ use Rattle.java_lex.specs.declared.token.TokenNode.{TokenNode}
 use Rattle.java_lex.specs.declared.token.TokenNode.TheVariants as nodes
 use Rattle.java_lex.proofs.Lengths.{on_cond}
 use Rattle.java_parser.specs.Marks.{Tok, nowhere, extent}
-use Rattle.java_parser.specs.Rules.{Rule, One}
-use Rattle.java_parser.specs.Words.{is_name, is_table, is_variable, variable_in, name_in, table_in, text_in, literal_in, truth_of, natural, natural_in, by_word, word_if, table_type, element_type}
-use Rattle.java_parser.specs.Expressions.{limit, Limit, Negative, Literal, created_as, Call, EqualTo, SizeOf, GetFrom, ContainedIn, FetchFrom, QueryOf, QueryOfLong, QueryOfBoolean, query_of, call_of_database, call_of_name, call_on, call_of, name_or_none, left_behind, TableClass, ElementQuery, QueryStart, HasAtom, literal, grouped, creation, HasSource, no_source, source, HasCall, equal_to, size_of, get_from, contained_in, fetch_from, query_of_element, query_of_long, query_of_truth, HasArguments, no_more, one_more, HasSuffix, field, called, HasParts, atom, dotted, further, HasUnary, variable, parts, negation, HasChain, operand, joined, HasRank, unary, chain}
-use Rattle.java_parser.specs.Written.{IsWord, IsText, is_word, WrittenType, WrittenScalar, WrittenExpression, WrittenExpressions}
-use Rattle.java_parser.specs.InGrammar.{IsName, IsTable, IsVariable, IsElement, IsQuery, InExpression, InExpressions}
+use Rattle.java_parser.specs.Rules.{One}
+use Rattle.java_parser.specs.Words.{is_name, is_table, is_variable, variable_in, name_in, table_in, text_in, literal_in, truth_of, natural, natural_in, by_word, word_if, element_type}
+use Rattle.java_parser.specs.Expressions.{limit, Literal, created_as, Call, EqualTo, SizeOf, GetFrom, ContainedIn, FetchFrom, QueryOf, QueryOfLong, QueryOfBoolean, query_of, call_of_database, call_of_name, call_on, call_of, name_or_none, TableClass, ElementQuery, QueryStart, HasAtom, literal, grouped, creation, HasSource, no_source, source, HasCall, equal_to, size_of, get_from, contained_in, fetch_from, query_of_element, query_of_long, query_of_truth, HasArguments, no_more, one_more, HasSuffix, field, called, HasParts, atom, dotted, further, HasUnary, variable, parts, negation, HasChain, operand, joined, HasRank, unary, chain}
+use Rattle.java_parser.specs.Written.{IsText, is_word, WrittenType, WrittenScalar, WrittenExpression, WrittenExpressions}
+use Rattle.java_parser.specs.InGrammar.{IsElement, IsQuery, InExpression, InExpressions}
 use Rattle.java_parser.proofs.Good.{GoodNode}
 
 abbrev pub GoodToks : List Tok → Type 0

@@ -1,6 +1,6 @@
 -- The tokens of a text can be written: words are words, integers have 63 bits, texts are UTF-8.
-use Rattle.std.proofs.Common.{◌≡◌, ℕ, zero, suc, ◌+◌, ◌<◌, ◌≤◌, ◌^◌, Bool, true, false, cond, List, [], ◌∷◌, ◌++◌, length, take, drop, refl, sym, ap, subst, ◌∙◌, arith, Option, Some, None, Result, Ok, Err, length-drop}
-use Rattle.std.specs.Prelude.{ℤ, pos, not, ◌&&◌, ◌||◌, ◌==◌, nat_lt, pred, IsUtf8}
+use Rattle.std.proofs.Common.{◌≡◌, ℕ, zero, suc, ◌+◌, ◌<◌, ◌≤◌, ◌^◌, Bool, true, false, cond, List, [], ◌∷◌, length, take, drop, refl, sym, ap, subst, arith, Option, Some, None, Result, Ok, Err, length-drop}
+use Rattle.std.specs.Prelude.{ℤ, pos, ◌&&◌, ◌==◌, nat_lt, pred, IsUtf8}
 use Rattle.std.specs.List.{prefix_len}
 use Rattle.std.specs.Str.{is_utf8}
 use Rattle.std.specs.Str.Lossy.{utf8_valid_len, valid_len_up_to}
@@ -10,15 +10,15 @@ use Rattle.std.proofs.lemmas.Str.{IsUtf8-nil, IsUtf8-append, IsUtf8-from_is_utf8
 use Rattle.java_lex.specs.declared.piece.Piece.{Piece}
 use Rattle.java_lex.specs.declared.piece.Piece.TheVariants.{Gap, Token as Lexeme, Fault}
 use Rattle.java_lex.specs.declared.place.Place.{Place}
-use Rattle.java_lex.specs.declared.token.LexRule.TheVariants.{BadByte, OpenText, OpenComment}
+use Rattle.java_lex.specs.declared.token.LexRule.TheVariants.{BadByte, OpenComment}
 use Rattle.java_lex.specs.declared.token.LexFault.{LexFault}
 use Rattle.java_lex.specs.declared.token.Token.{Token}
 use Rattle.java_lex.specs.declared.token.Tokens.{Tokens}
 use Rattle.java_lex.specs.declared.token.TokenNode.{TokenNode}
 use Rattle.java_lex.specs.declared.token.TokenNode.TheVariants.{Word, Integer, Text, Sign}
 use Rattle.java_lex.specs.Bytes.{quote, backslash, slash, star, is_white, is_digit, is_name_start, is_name_part, is_in_line, is_plain, ends_line, escape_of, begins_with}
-use Rattle.java_lex.specs.Places.{next_place, place_after, first_place}
-use Rattle.java_lex.specs.Pieces.{checked, line_comment, comment_len, comment_up_to, block_comment, Part, close, line_end, escape, plain, wrong, plain_part, escape_part, escaped, part_of, Body, closed, unclosed, bad, behind, body_by, body_from, literal_of, literal_behind, name_at, digits_len, number_of, integer_of, integer_at, sign_len, sign_of, sign_at, slashed, piece_of}
+use Rattle.java_lex.specs.Places.{next_place, first_place}
+use Rattle.java_lex.specs.Pieces.{checked, line_comment, comment_len, comment_up_to, block_comment, Part, close, line_end, escape, plain, wrong, plain_part, escape_part, escaped, part_of, Body, closed, unclosed, bad, behind, body_by, body_from, literal_of, literal_behind, name_at, digits_len, number_of, integer_of, integer_at, sign_len, sign_of, piece_of}
 use Rattle.java_lex.specs.Fits.{PartFits}
 use Rattle.java_lex.specs.Lexing.{token_at, with_token, tokens_by, tokens_from, lexed}
 use Rattle.java_lex.proofs.Lengths.{on_cond, part_fits}

@@ -1,10 +1,9 @@
 -- What an expression may begin with.
-use Rattle.std.proofs.Common.{◌≡◌, ℕ, ℤ, Bool, true, false, List, [], ◌∷◌, ◌++◌, Option, Some, codes, refl, sym, ap, ◌∙◌, append_assoc}
+use Rattle.std.proofs.Common.{◌≡◌, ℕ, ℤ, Bool, List, ◌++◌, Some, codes, ap, ◌∙◌, append_assoc}
 use Rattle.java_lex.specs.declared.token.TokenNode.{TokenNode}
 use Rattle.java_lex.specs.declared.token.TokenNode.TheVariants as tokens
 use Rattle.java_ast.specs.Tree.{Expression}
 use Rattle.java_parser.specs.Marks.{Tok}
-use Rattle.java_parser.specs.Rules.{One}
 use Rattle.java_parser.specs.Words.{variable_in}
 use Rattle.java_parser.specs.Expressions.{HasAtom, HasParts, atom, dotted, further, HasUnary, variable, parts, negation, HasChain, operand, joined, HasRank, unary, chain}
 use Rattle.java_parser.specs.Reading.{first_is}

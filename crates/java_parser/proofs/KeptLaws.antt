@@ -1,6 +1,5 @@
 -- What is answered where reading was exact.
-use Rattle.std.proofs.Common.{◌≡◌, ℕ, List, [], length, Result, Ok, Err, refl, sym, ap, ◌∙◌}
-use Rattle.std.specs.Result.{MatchResult, IfOk, IfErr}
+use Rattle.std.proofs.Common.{◌≡◌, List, [], Result, Ok, Err, refl, sym, ◌∙◌}
 use Rattle.qbs_base.specs.Memory.{IsNoMemory}
 use Rattle.java_lex.specs.declared.token.Token.{Token}
 use Rattle.java_lex.specs.declared.token.Tokens.{Tokens}
@@ -14,7 +13,7 @@ use Rattle.java_parser.specs.Rules.{Rule}
 use Rattle.java_parser.specs.Reading.{Reader}
 use Rattle.java_parser.specs.Kept.{kept, IsKept}
 use Rattle.java_parser.proofs.Laws.{Reads}
-use Rattle.java_parser.proofs.Whole.{whole_found, whole_only, first_unexpected, first_too_deep}
+use Rattle.java_parser.proofs.Whole.{whole_only, first_unexpected, first_too_deep}
 
 abbrev done : {A : Type 0} → A → Result A Fault
 done x = Ok x

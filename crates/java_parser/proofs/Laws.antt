@@ -1,17 +1,15 @@
 -- The laws of a reader together, for each way to make readers of readers.
-use Rattle.std.proofs.Common.{◌≡◌, ℕ, zero, suc, pred, ◌<◌, Bool, true, false, List, [], ◌∷◌, ◌++◌, length, Option, Some, None, Result, Ok, Err, refl, sym, ap, subst, ◌∙◌, append_assoc, arith, inl, inr}
+use Rattle.std.proofs.Common.{◌≡◌, ℕ, zero, suc, ◌<◌, Bool, true, false, List, [], ◌∷◌, ◌++◌, length, Option, Some, None, Ok, Err, refl, sym, subst, ◌∙◌, append_assoc, inl, inr}
 use Rattle.qbs_base.specs.declared.span.Span.{Span}
 use Rattle.java_lex.specs.declared.token.TokenNode.{TokenNode}
-use Rattle.java_lex.specs.declared.token.TokenNode.TheVariants as tokens
-use Rattle.readers.specs.declared.fault.Fault.{Fault}
 use Rattle.readers.specs.declared.fault.Fault.TheVariants.{Unexpected, TooDeep}
 use Rattle.readers.specs.Reading.{◌>>=◌, Read, made, is_over}
 use Rattle.readers.proofs.Tools.{bind_ok, is_left}
 use Rattle.java_parser.specs.Marks.{Tok}
-use Rattle.java_parser.specs.Rules.{Rule, Empty, One, This, Word, Sign, Opening, Seq, Then, Or, Made, Placed, Many}
-use Rattle.java_parser.specs.Reading.{Reader, then_at, seq_at, empty_at, one_at, placed_at, first_is, or_at, enter, held, held_at, passing, is_sign, word_at, sign_at, opening_at, many_at}
-use Rattle.java_parser.proofs.Sound.{Sound, Stops, IsPast, Alike, stuck, at_start, Passes, empty_sound, one_sound, Held, held_sound, then_sound, placed_sound, made_sound, or_sound, turned_sound, Inhabited}
-use Rattle.java_parser.proofs.Again.{Leads, leads_left, bind_sunk, Again, Any, empty_again, one_again, held_again, then_again, placed_again, made_again, or_again, turned_again, Heads}
+use Rattle.java_parser.specs.Rules.{Rule, Empty, One, Word, Sign, Opening, Seq, Then, Or, Made, Placed, Many}
+use Rattle.java_parser.specs.Reading.{Reader, then_at, seq_at, empty_at, one_at, placed_at, or_at, held, held_at, passing, is_sign, word_at, sign_at, opening_at, many_at}
+use Rattle.java_parser.proofs.Sound.{Sound, Stops, IsPast, Alike, stuck, Twin, twin_stop, at_start, Passes, empty_sound, one_sound, then_sound, placed_sound, made_sound, or_sound, turned_sound, Inhabited}
+use Rattle.java_parser.proofs.Again.{Leads, leads_left, bind_sunk, Again, Any, empty_again, one_again, then_again, placed_again, made_again, or_again, turned_again, Heads}
 use Rattle.java_parser.proofs.Many.{IsOver, many_sound, many_again}
 use Rattle.java_parser.proofs.SingleLaws.{word_sound, word_again, sign_sound, sign_again, opening_sound, opening_again}
 
@@ -69,6 +67,7 @@ same_sound {A} G r s same p = record {
   stops = λ ts fault e. p.stops ts fault (same ts ∙ e);
   stays = λ n us le. subst (λ (a : Read Tok A). IsPast n a) (same us) (p.stays n us le);
   same = λ rest rest' us vs ag. subst (λ (a : Read Tok A). Alike rest rest' A a (s vs)) (same us) (subst (λ (a : Read Tok A). Alike rest rest' A (r us) a) (same vs) (p.same rest rest' us vs ag));
+  blind = λ us vs h. subst (λ (a : Read Tok A). Twin A a (s vs)) (same us) (subst (λ (a : Read Tok A). Twin A (r us) a) (same vs) (p.blind us vs h));
   some = p.some;
 }
 
@@ -88,6 +87,7 @@ refuse_sound Q some = record {
   stops = refused;
   stays = λ n us le. le;
   same = λ rest rest' us vs ag. stuck false ag;
+  blind = λ us vs h. twin_stop (λ n. Unexpected n) us vs h;
   some = some;
 }
   where

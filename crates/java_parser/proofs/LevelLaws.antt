@@ -1,27 +1,26 @@
 -- Expressions that may nest are read exactly, one level over the next.
-use Rattle.std.proofs.Common.{◌≡◌, ℕ, ℤ, zero, suc, pred, ◌≤◌, ◌<◌, Bool, true, false, cond, not, List, [], ◌∷◌, ◌++◌, length, Option, Some, None, Ok, codes, is_some, refl, sym, ap, subst, ◌∙◌, append_assoc, arith, inl, inr, ◌⊎◌}
+use Rattle.std.proofs.Common.{◌≡◌, ℕ, ℤ, zero, suc, pred, ◌≤◌, Bool, true, false, cond, List, [], ◌∷◌, ◌++◌, length, Option, Some, None, codes, refl, sym, ap, subst, ◌∙◌, append_assoc, arith, inl, inr, ◌⊎◌}
 use Rattle.std.specs.Str.{bytes_eq}
-use Rattle.std.proofs.lemmas.List.{append-nil, length-append}
+use Rattle.std.proofs.lemmas.List.{length-append}
 use Rattle.qbs_base.specs.declared.span.Span.{Span}
 use Rattle.qbs_base.specs.declared.scalar.Scalar.{Scalar}
 use Rattle.java_lex.specs.declared.token.TokenNode.{TokenNode}
 use Rattle.java_lex.specs.declared.token.TokenNode.TheVariants as tokens
 use Rattle.readers.specs.Reading.{is_over}
 use Rattle.readers.proofs.Tools.{chosen}
-use Rattle.java_ast.specs.Tree.{Spelled, Expression, Expressions, Var, Field, Not, Equals, Size, Get, Contains, Fetch, Query, QueryLong, QueryBoolean, NoMore, And}
+use Rattle.java_ast.specs.Tree.{Spelled, Expression, Expressions, Var, Field, Equals, Size, Get, Contains, Fetch, Query, QueryLong, QueryBoolean, NoMore, And}
 use Rattle.java_parser.specs.Marks.{Tok, nowhere, extent}
 use Rattle.java_parser.specs.Rules.{Rule, Empty, One, Word, Sign, Opening, Seq, Then, Or, Made, Placed, Many}
-use Rattle.java_parser.specs.Words.{by_word, name_in, text_in, table_in, variable_in, natural_in, literal_in, truth_of, is_variable, element_type}
-use Rattle.java_parser.specs.Expressions.{Limit, Negative, Literal, Variable, created, created_as, Elements, Creation, Call, EqualTo, SizeOf, GetFrom, ContainedIn, FetchFrom, QueryOf, QueryOfLong, QueryOfBoolean, query_of, call_of, left_behind, TableClass, ElementQuery, QueryStart, ranks, longest, name_or_none, HasAtom, literal, grouped, creation, HasSource, no_source, source, HasCall, equal_to, size_of, get_from, contained_in, fetch_from, query_of_element, query_of_long, query_of_truth, HasArguments, no_more, one_more, HasSuffix, field, called, HasParts, atom, dotted, further, HasUnary, variable, parts, negation, HasChain, operand, HasRank, unary, chain}
-use Rattle.java_parser.specs.Reading.{Reader, then_at, seq_at, empty_at, one_at, first_is, or_at, is_word, is_sign, word_at, sign_at, opening_at}
+use Rattle.java_parser.specs.Words.{by_word, text_in, table_in, natural_in, literal_in, truth_of, element_type}
+use Rattle.java_parser.specs.Expressions.{Limit, Negative, Literal, created, created_as, Elements, Creation, Call, EqualTo, SizeOf, GetFrom, ContainedIn, FetchFrom, QueryOf, QueryOfLong, QueryOfBoolean, query_of, call_of, left_behind, TableClass, ElementQuery, QueryStart, ranks, name_or_none, HasAtom, literal, grouped, creation, HasSource, no_source, source, HasCall, equal_to, size_of, get_from, contained_in, fetch_from, query_of_element, query_of_long, query_of_truth, HasArguments, no_more, one_more, HasSuffix, field, called, atom, HasUnary, parts, operand, HasRank, unary, chain}
+use Rattle.java_parser.specs.Reading.{Reader, seq_at, one_at, first_is, or_at, is_word, is_sign, word_at, sign_at, opening_at}
 use Rattle.java_parser.specs.ReadingExpressions.{Ranked, table_class_at, element_query_at, is_no_comma, next_argument_at, gathered, arguments_at, query_of_element_at, query_of_long_at, query_of_truth_at, call_at, called_at, suffix_by, suffix_at, query_start_at, query_in, elements_at, creation_at, source_at, source_end_at, new_at, grouped_at, atom_at}
 use Rattle.java_parser.proofs.Sound.{Passes, Inhabited}
-use Rattle.java_parser.proofs.Again.{Any, Heads, one_heads, then_heads, placed_heads, or_heads}
-use Rattle.java_parser.proofs.SingleLaws.{token_of, by_word_is, word_if_is, same_bytes, opening_heads, this_heads}
-use Rattle.java_parser.proofs.Laws.{Reads, empty, one, word, sign, opening, seq, join, by_value, of, put, either, turned, before, Shut, held_shut, seq_shut, first_shut, made_shut, opening_shut, guarded, enclosed, many, same_reads}
-use Rattle.java_parser.proofs.TypeLaws.{some_name, some_table, some_element}
-use Rattle.java_parser.proofs.ExpressionLaws.{Follow, ends, closing_follows, literal_reads, limit_heads}
-use Rattle.java_parser.proofs.Many.{IsOver}
+use Rattle.java_parser.proofs.Again.{Any, Heads, one_heads, then_heads, or_heads}
+use Rattle.java_parser.proofs.SingleLaws.{token_of, by_word_is, same_bytes, opening_heads, this_heads}
+use Rattle.java_parser.proofs.Laws.{Reads, empty, one, word, sign, opening, seq, join, of, put, either, turned, before, Shut, seq_shut, made_shut, opening_shut, guarded, enclosed, many, same_reads}
+use Rattle.java_parser.proofs.TypeLaws.{some_table, some_element}
+use Rattle.java_parser.proofs.ExpressionLaws.{Follow, ends, literal_reads, limit_heads}
 
 abbrev some : {A : Type 0} → A → Option A
 some x = Some x

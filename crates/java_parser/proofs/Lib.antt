@@ -10,8 +10,11 @@ pub mod Extents
 pub mod Fitted
 pub mod Fitting
 pub mod Fixed
+pub mod FreeLaws
+pub mod FreeRules
 pub mod Gathered
 pub mod Good
+pub mod GrammarLaws
 pub mod HeadLaws
 pub mod KeptLaws
 pub mod Laws
@@ -24,6 +27,7 @@ pub mod Methods
 pub mod NestLaws
 pub mod Numbers
 pub mod OneTree
+pub mod ParsedLaws
 pub mod PlainLaws
 pub mod ProgramLaws
 pub mod Programs

@@ -1,8 +1,8 @@
 -- Statements up to a closing brace, listed as the code keeps them.
-use Rattle.std.proofs.Common.{◌≡◌, ℕ, List, [], ◌∷◌, map, Result, Ok, Err, refl, ap, ◌∙◌}
+use Rattle.std.proofs.Common.{◌≡◌, ℕ, List, [], ◌∷◌, map, Ok, refl, ap, ◌∙◌}
 use Rattle.readers.specs.declared.fault.ReadError.{ReadError}
 use Rattle.readers.specs.declared.fault.ReadError.TheVariants as errors
-use Rattle.readers.specs.Reading.{◌>>=◌, Read, Fails, made}
+use Rattle.readers.specs.Reading.{◌>>=◌, Read, Fails}
 use Rattle.java_ast.specs.declared.tree.Stmt.{Stmt}
 use Rattle.java_ast.specs.Tree.{Statement, Statements, Then}
 use Rattle.java_ast.specs.Reading.{statement, statements}

@@ -1,7 +1,6 @@
 -- What the loops over many of one kind keep.
-use Rattle.std.proofs.Common.{◌≡◌, ℕ, zero, suc, ◌+◌, ◌-◌, ◌<◌, ◌≤◌, Bool, true, false, List, [], ◌∷◌, ◌++◌, length, map, Result, Ok, Err, refl, sym, ap, ◌∙◌, append_assoc, arith}
+use Rattle.std.proofs.Common.{◌≡◌, ℕ, suc, ◌+◌, ◌-◌, ◌<◌, ◌≤◌, Bool, true, false, List, [], ◌∷◌, ◌++◌, length, map, Ok, Err, refl, sym, ap, ◌∙◌, append_assoc, arith}
 use Rattle.std.proofs.lemmas.List.{append-nil}
-use Rattle.readers.specs.declared.fault.Fault.{Fault}
 use Rattle.readers.specs.declared.fault.ReadError.{ReadError}
 use Rattle.readers.specs.declared.fault.ReadError.TheVariants as errors
 use Rattle.readers.specs.Reading.{◌>>=◌, Read, Fails, made, is_over, up_to, many}

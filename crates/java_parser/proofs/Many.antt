@@ -1,16 +1,15 @@
 -- Many of one kind, one after the other.
-use Rattle.std.proofs.Common.{◌≡◌, ℕ, zero, suc, ◌≤◌, ◌<◌, ◌+◌, Bool, true, false, List, [], ◌∷◌, ◌++◌, length, Ok, Err, refl, sym, ap, subst, ◌∙◌, append_assoc, arith, inl, inr}
+use Rattle.std.proofs.Common.{◌≡◌, ℕ, zero, suc, ◌≤◌, ◌<◌, Bool, true, false, List, [], ◌∷◌, ◌++◌, length, Ok, Err, refl, sym, ap, subst, ◌∙◌, append_assoc, arith, inl, inr}
 use Rattle.std.proofs.lemmas.List.{append-nil, length-append}
 use Rattle.java_lex.specs.declared.token.TokenNode.{TokenNode}
 use Rattle.java_lex.specs.declared.token.Token.{Token}
-use Rattle.readers.specs.declared.fault.Fault.{Fault}
-use Rattle.readers.specs.Reading.{◌>>=◌, Read, is_over, up_to, many}
+use Rattle.readers.specs.Reading.{◌>>=◌, is_over, up_to}
 use Rattle.readers.proofs.Tools.{bind_ok, ok_is, bind_err, chosen}
 use Rattle.java_parser.specs.Marks.{Tok}
 use Rattle.java_parser.specs.Rules.{Rule, Many}
-use Rattle.java_parser.specs.Reading.{Reader, first_is, many_at}
-use Rattle.java_parser.proofs.Sound.{Takes, Finds, Stopped, Stops, moved, IsPast, past_bind, past_cond, Stays, Agree, here, later, Alike, alike, alike_bind, alike_cond, Inhabited, Sound, agree_length}
-use Rattle.java_parser.proofs.Again.{Leads, then_leads, bind_leads, leads_left, leads_right, Again, Heads}
+use Rattle.java_parser.specs.Reading.{Reader, many_at}
+use Rattle.java_parser.proofs.Sound.{Takes, Finds, Stopped, Stops, moved, past_bind, past_cond, Stays, Agree, here, later, Alike, alike, alike_bind, alike_cond, Sound, agree_length, Twins, no_twins, twins, Twin, both_read, Blind, twins_length, twin_bind, twin_cond}
+use Rattle.java_parser.proofs.Again.{Leads, then_leads, bind_leads, leads_left, leads_right, Again}
 
 abbrev stops_at : (TokenNode → Bool) → Tok → Bool
 stops_at stop t = stop t.token.node
@@ -85,12 +84,25 @@ module _ {A : Type 0} (stop : TokenNode → Bool) (G : Rule A) (r : Reader A) (l
       (λ ys ws zs last f f'. alike last) (λ ys ws lt. lt))
       (λ x us' lt. past_bind (length rest) (go n us') (λ ys. Ok (x ∷ ys.0, ys.1)) (up_to_stays n (length rest) us' lt) (λ ys ws last. last)))
 
+  twins_over : (us vs : List Tok) → Twins us vs → over stop us ≡ over stop vs
+  twins_over _ _ no_twins = refl
+  twins_over _ _ (twins e h) = ap (λ (t : Token). stop t.node) e
+
+  up_to_blind : (n : ℕ) → Blind (go n)
+  unfolding up_to
+  up_to_blind zero us vs h = both_read h
+  up_to_blind (suc n) us vs h =
+      twin_cond (over stop us) (over stop vs) (twins_over us vs h) (both_read h)
+      (twin_bind (λ y. go n y.1 >>= λ ys. Ok (y.0 ∷ ys.0, ys.1)) (λ y. go n y.1 >>= λ ys. Ok (y.0 ∷ ys.0, ys.1)) (law.blind us vs h)
+      (λ x us' vs' h'. twin_bind (λ ys. Ok (x ∷ ys.0, ys.1)) (λ ys. Ok (x ∷ ys.0, ys.1)) (up_to_blind n us' vs' h') (λ ys ws zs last. both_read last)))
+
   pub many_sound : Sound (Many G) (many_at stop r)
   many_sound = record {
     found = λ ts x e. up_to_finds (length ts) ts x e;
     stops = λ ts fault e. up_to_stops (length ts) ts fault e;
     stays = λ n us le. up_to_stays (length us) n us le;
     same = λ rest rest' us vs ag. up_to_same (length us) (length vs) rest rest' us vs (omega arith) (omega arith) ag;
+    blind = λ us vs h. subst (λ (n : ℕ). Twin (List A) (go (length us) us) (go n vs)) (twins_length us vs h) (up_to_blind (length us) us vs h);
     some = record { tokens = []; value = []; has = refl };
   }
 

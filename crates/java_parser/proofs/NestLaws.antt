@@ -1,5 +1,5 @@
 -- Chains of parts and of operators are read exactly, and so are expressions of any rank.
-use Rattle.std.proofs.Common.{◌≡◌, ℕ, ℤ, zero, suc, pred, ◌≤◌, ◌<◌, Bool, true, false, cond, List, [], ◌∷◌, ◌++◌, length, Option, Some, None, Ok, Err, codes, is_some, refl, sym, ap, subst, ◌∙◌, append_assoc, arith, inl, inr, ◌⊎◌}
+use Rattle.std.proofs.Common.{◌≡◌, ℕ, zero, suc, pred, ◌≤◌, ◌<◌, Bool, true, false, List, [], ◌∷◌, ◌++◌, length, Option, Some, None, Ok, Err, codes, is_some, refl, sym, ap, subst, ◌∙◌, append_assoc, arith, inl, inr, ◌⊎◌}
 use Rattle.std.specs.Str.{bytes_eq}
 use Rattle.std.proofs.lemmas.List.{append-nil}
 use Rattle.qbs_base.specs.declared.span.Span.{Span}
@@ -13,18 +13,18 @@ use Rattle.java_ast.specs.declared.tree.Op.TheVariants as ops
 use Rattle.java_ast.specs.Tree.{Expression, Var, Binary, Not}
 use Rattle.java_parser.specs.Marks.{Tok, extent}
 use Rattle.java_parser.specs.Rules.{Rule, Empty, One, Sign, Opening, Seq, Then, Or, Made, Placed}
-use Rattle.java_parser.specs.Words.{is_variable, word_if, name_in, variable_in, natural_in}
-use Rattle.java_parser.specs.Expressions.{Variable, Call, EqualTo, call_of, left_behind, operator_in, Operator, ranks, longest, HasAtom, HasSuffix, field, called, HasParts, atom, dotted, further, HasUnary, variable, parts, negation, HasChain, operand, joined, HasRank, unary, chain, HasExpression}
-use Rattle.java_parser.specs.Reading.{Reader, then_at, seq_at, empty_at, first_is, or_at, is_sign, chain_at, continued, chained_at, held, held_at}
+use Rattle.java_parser.specs.Words.{is_variable, name_in, variable_in}
+use Rattle.java_parser.specs.Expressions.{Variable, Call, EqualTo, left_behind, operator_in, Operator, ranks, longest, HasAtom, HasSuffix, field, called, HasParts, atom, dotted, further, HasUnary, variable, parts, negation, HasChain, operand, joined, HasRank, unary, chain, HasExpression}
+use Rattle.java_parser.specs.Reading.{Reader, then_at, first_is, is_sign, chain_at, continued, chained_at, held, held_at}
 use Rattle.java_parser.specs.ReadingExpressions.{Ranked, suffix_at, atom_at, is_variable_token, variable_at, dotted_at, behind_variable_at, named_at, head_at, part_at, postfix_at, negation_at, unary_at, is_operator, operand_at, rank_in, inside, query_inside, rank_at, expression_at}
-use Rattle.java_parser.proofs.Sound.{Sound, Passes, Inhabited, Held, held_sound}
-use Rattle.java_parser.proofs.Again.{Leads, then_leads, bind_leads, leads_left, leads_right, Again, Any, then_again, placed_again, made_again, one_again, held_again, Heads, one_heads, then_heads}
-use Rattle.java_parser.proofs.SingleLaws.{token_of, word_if_is, same_bytes, opening_heads, this_heads}
+use Rattle.java_parser.proofs.Sound.{Sound, Passes, Held, held_sound}
+use Rattle.java_parser.proofs.Again.{Leads, then_leads, bind_leads, leads_left, leads_right, Again, Any, then_again, placed_again, held_again, Heads, one_heads, then_heads}
+use Rattle.java_parser.proofs.SingleLaws.{token_of, word_if_is, opening_heads, this_heads}
 use Rattle.java_parser.proofs.Chain.{chained_sound, chain_steps, chain_ends}
-use Rattle.java_parser.proofs.Laws.{Reads, empty, one, sign, opening, seq, join, by_value, of, put, either, turned, before, enclosed}
+use Rattle.java_parser.proofs.Laws.{Reads, empty, one, sign, opening, seq, by_value, of, put, either, turned, before, enclosed}
 use Rattle.java_parser.proofs.TypeLaws.{some_name}
 use Rattle.java_parser.proofs.ExpressionLaws.{Follow, ends, no_dot, no_open, looser_follow, no_operator, operator_ends, first_follows}
-use Rattle.java_parser.proofs.LevelLaws.{some_unary, some_rank, unary_rank, QueryRule, suffix_reads, atom_reads, atom_heads, query_reads}
+use Rattle.java_parser.proofs.LevelLaws.{some_unary, QueryRule, suffix_reads, atom_reads, atom_heads, query_reads}
 
 abbrev some : {A : Type 0} → A → Option A
 some x = Some x
@@ -94,17 +94,17 @@ module _ (room : ℕ) (inner : Ranked) (query : Reader Expression)
   variable_reads = put (one variable_in some_variable) (λ at w. (w, Var at w))
 
   abbrev DottedRule : List ℕ × Expression → Rule ((Span → Expression) × Option ℕ)
-  DottedRule v = Made (λ y. (y.1.1.0, Some y.1.1.1)) (Seq (Sign (codes ".")) (Then (One name_in) (λ m. SuffixRule (Some v.0) v.1 m longest)))
+  DottedRule v = Made (λ y. (y.1.1.0, Some y.1.1.1)) (Seq (Sign (codes ".")) (Then (One name_in) (λ m. SuffixRule (Some v.0) v.1 m (longest room))))
 
   dotted_reads : (v : List ℕ × Expression) → Reads (DottedRule v) NoOpen (dotted_at room inner v)
   unfolding dotted_at
-  dotted_reads v = of (seq (sign (codes ".")) (by_value (one name_in some_name) (λ m. suffixes (Some v.0) v.1 m longest))) (λ y. (y.1.1.0, Some y.1.1.1))
+  dotted_reads v = of (seq (sign (codes ".")) (by_value (one name_in some_name) (λ m. suffixes (Some v.0) v.1 m (longest room)))) (λ y. (y.1.1.0, Some y.1.1.1))
 
   abbrev AloneRule : List ℕ × Expression → Rule ((Span → Expression) × Option ℕ)
   AloneRule v = Empty ((λ at. Var at v.0), None)
 
   dot_heads : (v : List ℕ × Expression) → Heads (is_sign (codes ".")) true (DottedRule v) Any
-  dot_heads v us y rest h follows = then_heads (Sign (codes ".")) (λ z. Then (One name_in) (λ m. SuffixRule (Some v.0) v.1 m longest)) (is_sign (codes ".")) true Any (this_heads (tokens.Sign (codes ".")) (is_sign (codes ".")) true Any refl) us h.0 rest h.1 tt
+  dot_heads v us y rest h follows = then_heads (Sign (codes ".")) (λ z. Then (One name_in) (λ m. SuffixRule (Some v.0) v.1 m (longest room))) (is_sign (codes ".")) true Any (this_heads (tokens.Sign (codes ".")) (is_sign (codes ".")) true Any refl) us h.0 rest h.1 tt
 
   abbrev Bare : List Tok → Type 0
   Bare rest = NoDot rest × NoOpen rest
@@ -124,7 +124,7 @@ module _ (room : ℕ) (inner : Ranked) (query : Reader Expression)
   named_reads = put (by_value variable_reads behind_reads) (λ at x. (x.1.0 at, x.1.1))
 
   abbrev FirstRule : Rule (Expression × Option ℕ)
-  FirstRule = Made (λ x. (x, Some longest)) (HasAtom room)
+  FirstRule = Made (λ x. (x, Some (longest room))) (HasAtom room)
 
   atoms : Reads (HasAtom room) Any (atom_at room inner query)
   atoms = atom_reads room inner query inner_law query_law
@@ -141,7 +141,7 @@ module _ (room : ℕ) (inner : Ranked) (query : Reader Expression)
   head_reads : Reads (Or NamedRule FirstRule) Bare (head_at room inner query)
   unfolding head_at
   head_reads =
-      either is_variable_token named_reads (before Bare (of atoms (λ x. (x, Some longest))) (λ rest f. tt))
+      either is_variable_token named_reads (before Bare (of atoms (λ x. (x, Some (longest room)))) (λ rest f. tt))
       (λ us y rest h follows. named_heads is_variable_token true (λ n w e. ap is_some e) us y rest h tt)
       (λ us y rest h follows. first_heads us y rest h tt)
 
@@ -153,7 +153,7 @@ module _ (room : ℕ) (inner : Ranked) (query : Reader Expression)
   -- what the first part makes of a variable
   begun_by : (us : List Tok) (x : Expression) (n : ℕ) → Or NamedRule FirstRule us (x, Some n) → HasParts room n us x
   begun_by us x n (inr h) =
-      let k : longest ≡ n = let e : some n ≡ some longest = ap (λ (y : Expression × Option ℕ). y.1) h.2 in cc in
+      let k : (longest room) ≡ n = let e : some n ≡ some (longest room) = ap (λ (y : Expression × Option ℕ). y.1) h.2 in cc in
       subst (λ (y : Expression). HasParts room n us y) (sym (ap (λ (y : Expression × Option ℕ). y.0) h.2)) (subst (λ (m : ℕ). HasParts room m us h.0) k (atom h.1))
   begun_by us x n (inl h) = by h.1.4
     where
@@ -165,14 +165,14 @@ module _ (room : ℕ) (inner : Ranked) (query : Reader Expression)
           let v = h.1.3 in
           let all : us ≡ h.1.0 ++ (p.0 ++ (q.0 ++ q.1)) = h.1.2 ∙ ap (λ (ws : List Tok). h.1.0 ++ ws) (p.2 ∙ ap (λ (ws : List Tok). p.0 ++ ws) q.2) in
           let left : k.0.1.1.1 ≡ n = let e : some n ≡ some k.0.1.1.1 = ap (λ (y : Expression × Option ℕ). y.1) h.2 ∙ ap (λ (y : (Span → Expression) × Option ℕ). y.1) k.2 in cc in
-          let suffix : HasSuffix room (Some v.0) (Var (extent h.1.0) v.0) k.0.1.0 longest q.1 k.0.1.1.0 k.0.1.1.1 = subst (λ (u : List ℕ × Expression). HasSuffix room (Some u.0) u.1 k.0.1.0 longest q.1 k.0.1.1.0 k.0.1.1.1) v.2 q.4 in
+          let suffix : HasSuffix room (Some v.0) (Var (extent h.1.0) v.0) k.0.1.0 (longest room) q.1 k.0.1.1.0 k.0.1.1.1 = subst (λ (u : List ℕ × Expression). HasSuffix room (Some u.0) u.1 k.0.1.0 (longest room) q.1 k.0.1.1.0 k.0.1.1.1) v.2 q.4 in
           let value : x ≡ k.0.1.1.0 (extent us) = ap (λ (y : Expression × Option ℕ). y.0) h.2 ∙ ap (λ (y : (Span → Expression) × Option ℕ). y.0 (extent us)) k.2 in
           subst (λ (y : Expression). HasParts room n us y) (sym value)
           (subst (λ (m : ℕ). HasParts room m us (k.0.1.1.0 (extent us))) left
           (subst (λ (ws : List Tok). HasParts room k.0.1.1.1 ws (k.0.1.1.0 (extent ws))) (sym all) (dotted v.1 p.3 q.3 suffix)))
 
   alone_is : (us : List Tok) (x : Expression) → Or NamedRule FirstRule us (x, None) → PostfixRule us x
-  alone_is us x (inr h) = absurd (let a : None ≡ some longest = ap (λ (y : Expression × Option ℕ). y.1) h.2 in cc)
+  alone_is us x (inr h) = absurd (let a : None ≡ some (longest room) = ap (λ (y : Expression × Option ℕ). y.1) h.2 in cc)
   alone_is us x (inl h) = by h.1.4
     where
       by : Or (DottedRule h.0.0) (AloneRule h.0.0) h.1.1 h.0.1 → PostfixRule us x
@@ -189,9 +189,9 @@ module _ (room : ℕ) (inner : Ranked) (query : Reader Expression)
       chained_sound (is_sign (codes ".")) (part_at room inner) PartRule (HasParts room) PostfixRule (λ n x. (part_reads n x).sound) part_grows (λ n us x h. inr (n, h)) part_over (Or NamedRule FirstRule) (head_at room inner query) head_reads.sound alone_is begun_by
 
   -- what has parts is read up to where further parts may follow
-  first_leads : (us : List Tok) (x : Expression) (rest : List Tok) → HasAtom room us x → Leads (head_at room inner query (us ++ rest)) (Ok ((x, Some longest), rest)) us rest
+  first_leads : (us : List Tok) (x : Expression) (rest : List Tok) → HasAtom room us x → Leads (head_at room inner query (us ++ rest)) (Ok ((x, Some (longest room)), rest)) us rest
   unfolding head_at
-  first_leads us x rest h = rw (no_variable us x rest h tt) ((of {B = Expression × Option ℕ} atoms (λ y. (y, Some longest))).again us (x, Some longest) rest (x, h, refl) tt)
+  first_leads us x rest h = rw (no_variable us x rest h tt) ((of {B = Expression × Option ℕ} atoms (λ y. (y, Some (longest room)))).again us (x, Some (longest room)) rest (x, h, refl) tt)
 
   behind_dotted : (v : List ℕ × Expression) → Again (DottedRule v) NoOpen (behind_variable_at room inner v)
   unfolding behind_variable_at
@@ -206,7 +206,7 @@ module _ (room : ℕ) (inner : Ranked) (query : Reader Expression)
 
   parts_lead : {n : ℕ} {us : List Tok} {x : Expression} → HasParts room n us x → (rest : List Tok) → NoOpen rest → Leads (postfix_at room inner query (us ++ rest)) (chain_at (is_sign (codes ".")) (part_at room inner) n (us ++ rest) x rest) us rest
   unfolding postfix_at
-  parts_lead (atom {us} {x} h) rest f = bind_leads (head_at room inner query (us ++ rest)) ((x, Some longest), rest) (λ y. continued (is_sign (codes ".")) (part_at room inner) y.0.1 (us ++ rest) y.0.0 y.1) us rest (first_leads us x rest h)
+  parts_lead (atom {us} {x} h) rest f = bind_leads (head_at room inner query (us ++ rest)) ((x, Some (longest room)), rest) (λ y. continued (is_sign (codes ".")) (part_at room inner) y.0.1 (us ++ rest) y.0.0 y.1) us rest (first_leads us x rest h)
   parts_lead (dotted {left} {w} {m} {us} {vs} {ws} {zs} {node} v d k s) rest f =
       let all : List Tok = us ++ (vs ++ (ws ++ zs)) in
       bind_leads (head_at room inner query (all ++ rest)) ((node (extent all), Some left), rest) (λ y. continued (is_sign (codes ".")) (part_at room inner) y.0.1 (all ++ rest) y.0.0 y.1) all rest
@@ -310,29 +310,29 @@ module _ (room : ℕ) (inner : Ranked) (query : Reader Expression)
         (subst (λ (ws : List Tok). HasChain room rank (pred n) (us ++ ws) (Binary (extent (us ++ ws)) h.0.0 x h.0.1)) (sym h.1.2) (joined so_far h.1.3 h.1.4))
 
     abbrev BaseRule : Rule (Expression × Option ℕ)
-    BaseRule = Made (λ x. (x, Some longest)) (HasRank room rank)
+    BaseRule = Made (λ x. (x, Some (longest room))) (HasRank room rank)
 
-    base_reads : Reads BaseRule (Follow rank) (made (λ x. (x, Some longest)) r)
-    base_reads = of below (λ x. (x, Some longest))
+    base_reads : Reads BaseRule (Follow rank) (made (λ x. (x, Some (longest room))) r)
+    base_reads = of below (λ x. (x, Some (longest room)))
 
     operand_begun : (us : List Tok) (x : Expression) (n : ℕ) → BaseRule us (x, Some n) → HasChain room rank n us x
     operand_begun us x n h =
-        let k : longest ≡ n = let e : some n ≡ some longest = ap (λ (y : Expression × Option ℕ). y.1) h.2 in cc in
+        let k : (longest room) ≡ n = let e : some n ≡ some (longest room) = ap (λ (y : Expression × Option ℕ). y.1) h.2 in cc in
         subst (λ (y : Expression). HasChain room rank n us y) (sym (ap (λ (y : Expression × Option ℕ). y.0) h.2)) (subst (λ (m : ℕ). HasChain room rank m us h.0) k (operand h.1))
 
     abbrev go : Reader Expression
-    go ts = chained_at (is_operator rank) (operand_at rank r) (made (λ x. (x, Some longest)) r) ts
+    go ts = chained_at (is_operator rank) (operand_at rank r) (made (λ x. (x, Some (longest room))) r) ts
 
     rank_sound : Sound (HasRank room (suc rank)) go
     rank_sound =
-        chained_sound (is_operator rank) (operand_at rank r) OperandRule (HasChain room rank) (HasRank room (suc rank)) (λ n x. (operand_reads n x).sound) operand_grows (λ n us x h. chain h) operand_over BaseRule (made (λ x. (x, Some longest)) r) base_reads.sound
-        (λ us x h. absurd (let e : None ≡ some longest = ap (λ (y : Expression × Option ℕ). y.1) h.2 in cc)) operand_begun
+        chained_sound (is_operator rank) (operand_at rank r) OperandRule (HasChain room rank) (HasRank room (suc rank)) (λ n x. (operand_reads n x).sound) operand_grows (λ n us x h. chain h) operand_over BaseRule (made (λ x. (x, Some (longest room))) r) base_reads.sound
+        (λ us x h. absurd (let e : None ≡ some (longest room) = ap (λ (y : Expression × Option ℕ). y.1) h.2 in cc)) operand_begun
 
     operator_heads : (left : ℕ) (p : TokenNode → Bool) → ((n : TokenNode) (o : Op) → operator_in rank n ≡ Some o → p n ≡ true) → (us : List Tok) (o : Op) (rest : List Tok) → Operator left rank us o → first_is p (us ++ rest) ≡ true
     operator_heads left p is us o rest h = rw h.1 (is h.0.token.node o h.2)
 
     chain_leads : {n : ℕ} {us : List Tok} {x : Expression} → HasChain room rank n us x → (rest : List Tok) → Follow rank rest → Leads (go (us ++ rest)) (chain_at (is_operator rank) (operand_at rank r) n (us ++ rest) x rest) us rest
-    chain_leads (operand {us} {x} h) rest f = bind_leads (made (λ y. (y, Some longest)) r (us ++ rest)) ((x, Some longest), rest) (λ y. continued (is_operator rank) (operand_at rank r) y.0.1 (us ++ rest) y.0.0 y.1) us rest (base_reads.again us (x, Some longest) rest (x, h, refl) f)
+    chain_leads (operand {us} {x} h) rest f = bind_leads (made (λ y. (y, Some (longest room))) r (us ++ rest)) ((x, Some (longest room)), rest) (λ y. continued (is_operator rank) (operand_at rank r) y.0.1 (us ++ rest) y.0.0 y.1) us rest (base_reads.again us (x, Some (longest room)) rest (x, h, refl) f)
     chain_leads (joined {left} {us} {vs} {ws} {x} {y} {o} h op g) rest f =
         let part : List Tok = vs ++ ws in
         let node : Span → Expression = λ at. Binary at o x y in

@@ -1,29 +1,27 @@
 -- Statements without bodies are read exactly.
-use Rattle.std.proofs.Common.{◌≡◌, ℕ, zero, suc, pred, ◌≤◌, ◌<◌, pos, Bool, true, false, cond, not, List, [], ◌∷◌, ◌++◌, length, Option, Some, None, codes, refl, sym, ap, subst, ◌∙◌, append_assoc, arith, inl, inr, ◌⊎◌}
+use Rattle.std.proofs.Common.{◌≡◌, ℕ, pred, pos, Bool, true, false, cond, not, List, ◌∷◌, ◌++◌, length, Option, Some, None, codes, refl, ap, ◌∙◌, append_assoc, arith, inl, inr}
 use Rattle.std.specs.Str.{bytes_eq}
 use Rattle.std.proofs.lemmas.List.{length-append}
 use Rattle.qbs_base.specs.declared.span.Span.{Span}
 use Rattle.qbs_base.specs.declared.scalar.Scalar.TheVariants as scalars
 use Rattle.java_lex.specs.declared.token.TokenNode.{TokenNode}
 use Rattle.java_lex.specs.declared.token.TokenNode.TheVariants as tokens
-use Rattle.readers.specs.Reading.{is_over}
 use Rattle.java_ast.specs.declared.tree.Op.TheVariants as ops
-use Rattle.java_ast.specs.Tree.{Expression, Lit, Var, Binary, Statement, Assign, Add, Sort, Print, Return, Break}
+use Rattle.java_ast.specs.Tree.{Lit, Var, Binary, Statement, Assign, Add, Sort, Print, Return, Break}
 use Rattle.java_parser.specs.Marks.{Tok}
-use Rattle.java_parser.specs.Rules.{Rule, Empty, One, Word, Sign, Opening, Seq, Then, Or, Made, Placed, Many}
+use Rattle.java_parser.specs.Rules.{Rule, One, Word, Sign, Opening, Seq, Or, Made, Many}
 use Rattle.java_parser.specs.Words.{name_in, is_name, is_variable, is_number_type, is_among, reserved_words}
 use Rattle.java_parser.specs.Types.{Key}
-use Rattle.java_parser.specs.Expressions.{ranks, HasExpression}
+use Rattle.java_parser.specs.Expressions.{ranks}
 use Rattle.java_parser.specs.Statements.{Parenthesised, Condition, Value, Where, Assignment, Increase, Increment, Addition, Printing, Further, keys_in, downs_in, Keys, Sorting, MemberCall, NamedRest, Named, Returning, Breaking, Plain}
-use Rattle.java_parser.specs.Reading.{Reader, first_is, or_at, is_word, is_sign}
+use Rattle.java_parser.specs.Reading.{first_is, or_at, is_word, is_sign}
 use Rattle.java_parser.specs.ReadingStatements.{condition_at, value_at, assignment_at, increase_at, increment_at, addition_at, printing_at, key_part_at, next_key_at, reversed_at, further_member_at, further_at, is_no_dot, all_further_at, keys_at, keys_part_at, sorting_at, other_member_at, member_call_at, member_at, counting_at, other_rest_at, named_rest_at, named_at, returned_at, returning_at, breaking_at, plain_at}
-use Rattle.java_parser.proofs.Sound.{Inhabited}
-use Rattle.java_parser.proofs.Again.{Any, Heads, one_heads, then_heads, placed_heads, or_heads}
-use Rattle.java_parser.proofs.SingleLaws.{word_if_is, same_bytes, this_heads, opening_heads, no_reserved}
+use Rattle.java_parser.proofs.Again.{Any, Heads, one_heads, then_heads, or_heads}
+use Rattle.java_parser.proofs.SingleLaws.{word_if_is, this_heads, no_reserved}
 use Rattle.java_parser.proofs.Many.{IsOver}
-use Rattle.java_parser.proofs.Laws.{Reads, one, word, sign, opening, seq, join, by_value, of, put, either, turned, before, enclosed, many, same_reads}
+use Rattle.java_parser.proofs.Laws.{Reads, one, word, sign, opening, seq, join, by_value, of, put, either, turned, before, enclosed, many}
 use Rattle.java_parser.proofs.TypeLaws.{some_name, key_reads}
-use Rattle.java_parser.proofs.ExpressionLaws.{Follow, closing_follows}
+use Rattle.java_parser.proofs.ExpressionLaws.{closing_follows}
 use Rattle.java_parser.proofs.LevelLaws.{some_rank, some_both}
 use Rattle.java_parser.proofs.NestLaws.{expression_reads}
 use Rattle.java_parser.proofs.HeadLaws.{Begins, expression_first}

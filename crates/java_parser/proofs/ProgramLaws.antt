@@ -8,10 +8,10 @@ use Rattle.java_ast.specs.Tree.{PlainMethod}
 use Rattle.java_parser.specs.Marks.{Tok}
 use Rattle.java_parser.specs.Rules.{Rule, One, Word, Sign, Opening, Seq, Made, Many}
 use Rattle.java_parser.specs.Words.{name_in}
-use Rattle.java_parser.specs.Grammar.{Whether, Method, HasDotted, Dotted, Package, Class, deepest, HasProgram}
+use Rattle.java_parser.specs.Grammar.{Whether, Method, HasDotted, Dotted, Package, Class, ProgramIn, deepest, HasProgram}
 use Rattle.java_parser.specs.Reading.{first_is, is_word, many_at}
 use Rattle.java_parser.specs.ReadingBodies.{is_close}
-use Rattle.java_parser.specs.ReadingPrograms.{method_at, dotted_name_at, package_at, is_no_import, imports_at, methods_at, class_at, program_at}
+use Rattle.java_parser.specs.ReadingPrograms.{method_at, dotted_name_at, package_at, is_no_import, imports_at, methods_at, class_at, program_in, program_at}
 use Rattle.java_parser.proofs.Again.{Any, Heads, then_heads}
 use Rattle.java_parser.proofs.SingleLaws.{this_heads}
 use Rattle.java_parser.proofs.Many.{IsOver}
@@ -88,21 +88,21 @@ class_heads room p b is us x rest h follows = then_heads (Word (codes "class")) 
 
 -- ---- what stands behind
 
-abbrev PublicClass : Rule (Bool × (List ℕ × List PlainMethod))
-PublicClass = Seq (Whether (codes "public")) (Class deepest)
+abbrev PublicClass : ℕ → Rule (Bool × (List ℕ × List PlainMethod))
+PublicClass room = Seq (Whether (codes "public")) (Class room)
 
-public_class_heads : (p : TokenNode → Bool) (b : Bool) → p (tokens.Word (codes "public")) ≡ b → p (tokens.Word (codes "class")) ≡ b → Heads p b PublicClass Any
-public_class_heads p b is_public is_class us y rest h follows = ap (λ (ts : List Tok). first_is p (ts ++ rest)) h.2 ∙ ap (λ (ts : List Tok). first_is p ts) (append_assoc h.0 h.1 rest) ∙ by h.3
+public_class_heads : (room : ℕ) (p : TokenNode → Bool) (b : Bool) → p (tokens.Word (codes "public")) ≡ b → p (tokens.Word (codes "class")) ≡ b → Heads p b (PublicClass room) Any
+public_class_heads room p b is_public is_class us y rest h follows = ap (λ (ts : List Tok). first_is p (ts ++ rest)) h.2 ∙ ap (λ (ts : List Tok). first_is p ts) (append_assoc h.0 h.1 rest) ∙ by h.3
   where
     by : Whether (codes "public") h.0 y.0 → first_is p (h.0 ++ (h.1 ++ rest)) ≡ b
     by (inl k) = this_heads (tokens.Word (codes "public")) p b Any is_public h.0 tt (h.1 ++ rest) k.1 tt
-    by (inr k) = ap (λ (ts : List Tok). first_is p (ts ++ (h.1 ++ rest))) k.0 ∙ class_heads deepest p b is_class h.1 y.1 rest h.4 tt
+    by (inr k) = ap (λ (ts : List Tok). first_is p (ts ++ (h.1 ++ rest))) k.0 ∙ class_heads room p b is_class h.1 y.1 rest h.4 tt
 
-imports_heads : (p : TokenNode → Bool) (b : Bool) → p (tokens.Word (codes "import")) ≡ b → p (tokens.Word (codes "public")) ≡ b → p (tokens.Word (codes "class")) ≡ b → Heads p b (Seq (Many Import) PublicClass) Any
-imports_heads p b is_import is_public is_class us y rest h follows = ap (λ (ts : List Tok). first_is p (ts ++ rest)) h.2 ∙ ap (λ (ts : List Tok). first_is p ts) (append_assoc h.0 h.1 rest) ∙ by y.0 h.3
+imports_heads : (room : ℕ) (p : TokenNode → Bool) (b : Bool) → p (tokens.Word (codes "import")) ≡ b → p (tokens.Word (codes "public")) ≡ b → p (tokens.Word (codes "class")) ≡ b → Heads p b (Seq (Many Import) (PublicClass room)) Any
+imports_heads room p b is_import is_public is_class us y rest h follows = ap (λ (ts : List Tok). first_is p (ts ++ rest)) h.2 ∙ ap (λ (ts : List Tok). first_is p ts) (append_assoc h.0 h.1 rest) ∙ by y.0 h.3
   where
     by : (xs : List (List ℕ)) → Many Import h.0 xs → first_is p (h.0 ++ (h.1 ++ rest)) ≡ b
-    by [] k = ap (λ (ts : List Tok). first_is p (ts ++ (h.1 ++ rest))) k ∙ public_class_heads p b is_public is_class h.1 y.1 rest h.4 tt
+    by [] k = ap (λ (ts : List Tok). first_is p (ts ++ (h.1 ++ rest))) k ∙ public_class_heads room p b is_public is_class h.1 y.1 rest h.4 tt
     by (x ∷ xs) k = ap (λ (ts : List Tok). first_is p (ts ++ (h.1 ++ rest))) k.2 ∙ ap (λ (ts : List Tok). first_is p ts) (append_assoc k.0 k.1 (h.1 ++ rest)) ∙ dotted_name_heads (codes "import") true p b is_import k.0 x (k.1 ++ (h.1 ++ rest)) k.3 tt
 
 over_first : (stop : TokenNode → Bool) (rest : List Tok) → first_is stop rest ≡ true → IsOver stop rest
@@ -111,10 +111,13 @@ over_first stop (t ∷ rest) e = e
 
 -- ---- programs
 
-pub program_reads : Reads HasProgram Any program_at
-unfolding program_at
-program_reads =
-    of (join package_reads (join imports_reads (join (whether_reads (codes "public")) (class_reads deepest) (λ vs y rest h any. class_heads deepest (is_word (codes "public")) false refl vs y rest h tt))
-    (λ vs y rest h any. over_first is_no_import (vs ++ rest) (public_class_heads is_no_import true refl refl vs y rest h tt)))
-    (λ vs y rest h any. imports_heads (is_word (codes "package")) false refl refl refl vs y rest h tt))
+pub programs_read : (room : ℕ) → Reads (ProgramIn room) Any (program_in room)
+unfolding program_in
+programs_read room =
+    of (join package_reads (join imports_reads (join (whether_reads (codes "public")) (class_reads room) (λ vs y rest h any. class_heads room (is_word (codes "public")) false refl vs y rest h tt))
+    (λ vs y rest h any. over_first is_no_import (vs ++ rest) (public_class_heads room is_no_import true refl refl vs y rest h tt)))
+    (λ vs y rest h any. imports_heads room (is_word (codes "package")) false refl refl refl vs y rest h tt))
     (λ x. record { «package» = x.0; imports = x.1.0; public = x.1.1.0; name = x.1.1.1.0; methods = x.1.1.1.1 })
+
+pub program_reads : Reads HasProgram Any program_at
+program_reads = programs_read deepest

@@ -1,17 +1,15 @@
 -- Readers of single tokens keep the laws, and words and signs are told apart.
-use Rattle.std.proofs.Common.{◌≡◌, ℕ, zero, suc, Bool, true, false, cond, not, ◌&&◌, ◌||◌, List, [], ◌∷◌, ◌++◌, Option, Some, None, Ok, refl, sym, ap, subst, ◌∙◌, inl, inr}
+use Rattle.std.proofs.Common.{◌≡◌, ℕ, Bool, true, false, cond, not, List, Option, Some, None, refl, sym, ap, subst}
 use Rattle.std.specs.Str.{bytes_eq}
 use Rattle.std.proofs.lemmas.Slice.Eq.{bytes_eq-Decides}
-use Rattle.qbs_base.specs.declared.span.Span.{Span}
 use Rattle.java_lex.specs.declared.token.Token.{Token}
 use Rattle.java_lex.specs.declared.token.TokenNode.{TokenNode}
 use Rattle.java_lex.specs.declared.token.TokenNode.TheVariants as tokens
-use Rattle.readers.proofs.Tools.{chosen}
-use Rattle.java_parser.specs.Marks.{Tok, nowhere, Allows}
-use Rattle.java_parser.specs.Rules.{Rule, One, This, Word, Sign, Opening}
-use Rattle.java_parser.specs.Words.{is_among, reserved_words, is_name, is_table, is_variable, word_if, by_word}
-use Rattle.java_parser.specs.Reading.{Reader, first_is, one_at, held_at, passing, is_word, is_sign, word_at, sign_at, opening_at}
-use Rattle.java_parser.proofs.Sound.{Sound, Passes, one_sound, Held, held_sound, turned_sound}
+use Rattle.java_parser.specs.Marks.{Tok, nowhere}
+use Rattle.java_parser.specs.Rules.{One, This, Word, Sign, Opening}
+use Rattle.java_parser.specs.Words.{is_among, reserved_words, is_name, word_if, by_word}
+use Rattle.java_parser.specs.Reading.{passing, is_word, is_sign, word_at, sign_at, opening_at}
+use Rattle.java_parser.proofs.Sound.{Sound, one_sound, Held, held_sound, turned_sound}
 use Rattle.java_parser.proofs.Again.{Again, Any, one_again, held_again, turned_again, Heads}
 
 abbrev some : {A : Type 0} → A → Option A

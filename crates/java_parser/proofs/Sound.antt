@@ -1,16 +1,16 @@
 -- What is proved of a reader once, for each way to make readers of readers: what is read has its tokens; where reading
 -- stops, something begins with the tokens before; and no token past that place is looked at.
-use Rattle.std.proofs.Common.{◌≡◌, ℕ, zero, suc, ◌≤◌, ◌<◌, ◌+◌, ◌-◌, Bool, true, false, cond, List, [], ◌∷◌, ◌++◌, length, take, Option, Some, None, Result, Ok, Err, refl, sym, ap, subst, ◌∙◌, append_assoc, arith, inl, inr, ◌⊎◌}
+use Rattle.std.proofs.Common.{◌≡◌, ℕ, zero, suc, ◌≤◌, ◌<◌, ◌+◌, ◌-◌, Bool, true, false, cond, List, [], ◌∷◌, ◌++◌, length, take, Option, Some, None, Ok, Err, refl, sym, ap, subst, ◌∙◌, append_assoc, arith, inl, inr, ◌⊎◌}
 use Rattle.std.proofs.lemmas.List.{append-nil, length-append}
 use Rattle.qbs_base.specs.declared.span.Span.{Span}
 use Rattle.java_lex.specs.declared.token.Token.{Token}
 use Rattle.java_lex.specs.declared.token.TokenNode.{TokenNode}
 use Rattle.readers.specs.declared.fault.Fault.{Fault}
 use Rattle.readers.specs.declared.fault.Fault.TheVariants.{Unexpected, TooDeep}
-use Rattle.readers.specs.Reading.{◌>>=◌, Read, accepted, first_passes, made}
-use Rattle.readers.proofs.Tools.{bind_ok, ok_is, failed, bind_err, is_left, chosen}
-use Rattle.java_parser.specs.Marks.{Tok, strictly, freely, freed, Allows, extent}
-use Rattle.java_parser.specs.Rules.{Rule, Empty, One, Seq, Then, Or, Made, Placed}
+use Rattle.readers.specs.Reading.{◌>>=◌, Read, accepted, made}
+use Rattle.readers.proofs.Tools.{bind_ok, ok_is, bind_err, is_left, chosen}
+use Rattle.java_parser.specs.Marks.{Tok, freely, freed, Allows, tokens_of, between, extent}
+use Rattle.java_parser.specs.Rules.{Rule, Empty, One, Then, Or, Made, Placed}
 use Rattle.java_parser.specs.Reading.{Reader, then_at, empty_at, one_at, consumed, placed_at, first_is, or_at, enter, held, held_at}
 
 -- ---- the laws
@@ -70,6 +70,20 @@ pub data Alike (rest rest' : List Tok) (A : Type 0) : Read Tok A → Read Tok A 
 abbrev pub Same : {A : Type 0} → Reader A → Type 0
 Same {A} r = (rest rest' us vs : List Tok) → Agree rest rest' us vs → Alike rest rest' A (r us) (r vs)
 
+-- lists that differ in their marks alone
+pub data Twins : List Tok → List Tok → Type 0 where
+  no_twins : Twins [] []
+  twins : {s t : Tok} {us vs : List Tok} → s.token ≡ t.token → Twins us vs → Twins (s ∷ us) (t ∷ vs)
+
+-- what is read of such lists differs in the marks of what is left alone
+pub data Twin (A : Type 0) : Read Tok A → Read Tok A → Type 0 where
+  both_read : {x : A} {us vs : List Tok} → Twins us vs → Twin A (Ok (x, us)) (Ok (x, vs))
+  both_stop : {e : Fault} → Twin A (Err e) (Err e)
+
+-- no mark is looked at
+abbrev pub Blind : {A : Type 0} → Reader A → Type 0
+Blind {A} r = (us vs : List Tok) → Twins us vs → Twin A (r us) (r vs)
+
 -- some tokens have it
 pub record Inhabited {A : Type 0} (G : Rule A) : Type 0 where
   pub tokens : List Tok
@@ -81,6 +95,7 @@ pub record Sound {A : Type 0} (G : Rule A) (r : Reader A) : Type 0 where
   pub stops : Stops G r
   pub stays : Stays r
   pub same : Same r
+  pub blind : Blind r
   pub some : Inhabited G
 
 -- ---- what helps
@@ -134,6 +149,44 @@ pub agree_length : (rest rest' us vs : List Tok) → Agree rest rest' us vs → 
 agree_length rest rest' _ _ (here e) = (omega arith, omega arith)
 agree_length rest rest' _ _ (later {t} {us} {vs} ag) = let h = agree_length rest rest' us vs ag in (omega (arith, h.0), omega (arith, h.1))
 
+-- ---- marks
+
+pub twins_length : (us vs : List Tok) → Twins us vs → length us ≡ length vs
+twins_length _ _ no_twins = refl
+twins_length _ _ (twins {us} {vs} e h) = let n = twins_length us vs h in omega (arith, n)
+
+twins_tokens : (us vs : List Tok) → Twins us vs → tokens_of us ≡ tokens_of vs
+twins_tokens _ _ no_twins = refl
+twins_tokens _ _ (twins {s} {t} {us} {vs} e h) = ap (λ (ks : List Token). s.token ∷ ks) (twins_tokens us vs h) ∙ ap (λ (k : Token). k ∷ tokens_of vs) e
+
+twins_take : (n : ℕ) (us vs : List Tok) → Twins us vs → Twins (take n us) (take n vs)
+twins_take zero _ _ no_twins = no_twins
+twins_take zero _ _ (twins e h) = no_twins
+twins_take (suc n) _ _ no_twins = no_twins
+twins_take (suc n) _ _ (twins {s} {t} {us} {vs} e h) = twins {s = s} {t = t} e (twins_take n us vs h)
+
+pub twins_extent : (from from' us vs : List Tok) → Twins from from' → Twins us vs → extent (consumed from us) ≡ extent (consumed from' vs)
+twins_extent from from' us vs all h =
+    let n : length from - length us ≡ length from' - length vs = ap (λ (k : ℕ). k - length us) (twins_length from from' all) ∙ ap (λ (k : ℕ). length from' - k) (twins_length us vs h) in
+    ap between (twins_tokens (consumed from us) (take (length from - length us) from') (twins_take (length from - length us) from from' all)) ∙ ap (λ (k : ℕ). extent (take k from')) n
+
+pub twins_first : (p : TokenNode → Bool) (us vs : List Tok) → Twins us vs → first_is p us ≡ first_is p vs
+twins_first p _ _ no_twins = refl
+twins_first p _ _ (twins e h) = ap (λ (k : Token). p k.node) e
+
+pub twin_stop : {A : Type 0} (fault : ℕ → Fault) (us vs : List Tok) → Twins us vs → Twin A (Err (fault (length us))) (Err (fault (length vs)))
+twin_stop {A} fault us vs h = subst (λ (n : ℕ). Twin A (Err (fault (length us))) (Err (fault n))) (twins_length us vs h) both_stop
+
+pub twin_bind : {A B : Type 0} {a b : Read Tok A} (f g : A × List Tok → Read Tok B) → Twin A a b → ((x : A) (us vs : List Tok) → Twins us vs → Twin B (f (x, us)) (g (x, vs))) → Twin B (a >>= f) (b >>= g)
+twin_bind f g (both_read h) k = k _ _ _ h
+twin_bind f g both_stop k = both_stop
+
+pub twin_cond : {A : Type 0} {x y x' y' : Read Tok A} (b b' : Bool) → b ≡ b' → Twin A x x' → Twin A y y' → Twin A (cond b x y) (cond b' x' y')
+twin_cond true true e p q = p
+twin_cond false false e p q = q
+twin_cond true false e p q = absurd cc
+twin_cond false true e p q = absurd cc
+
 -- ---- nothing, and single tokens
 
 pub empty_sound : {A : Type 0} (a : A) → Sound (Empty a) (empty_at a)
@@ -142,6 +195,7 @@ empty_sound {A} a = record {
   stops = λ ts e h. absurd cc;
   stays = λ n us le. le;
   same = λ rest rest' us vs ag. alike ag;
+  blind = λ us vs h. both_read h;
   some = record { tokens = []; value = a; has = (refl, refl) };
 }
 
@@ -194,8 +248,16 @@ module _ {A : Type 0} (f : TokenNode → Option A) (some : Passes f) where
   one_same rest rest' _ _ (here {t} {t'} e) = accepted_here (f t.token.node) (f t'.token.node) t t' rest rest' (ap (λ (s : Token). f s.node) e) e
   one_same rest rest' _ _ (later {t} {us} {vs} ag) = accepted_later (f t.token.node) t rest rest' us vs ag
 
+  accepted_blind : (o : Option A) (us vs : List Tok) → Twins us vs → Twin A (accepted o us) (accepted o vs)
+  accepted_blind None us vs h = twin_stop (λ n. Unexpected (suc n)) us vs h
+  accepted_blind (Some a) us vs h = both_read h
+
+  one_blind : Blind (one_at f)
+  one_blind _ _ no_twins = both_stop
+  one_blind _ _ (twins {s} {t} {us} {vs} e h) = subst (λ (o : Option A). Twin A (accepted (f s.token.node) us) (accepted o vs)) (ap (λ (k : Token). f k.node) e) (accepted_blind (f s.token.node) us vs h)
+
   pub one_sound : Sound (One f) (one_at f)
-  one_sound = record { found = one_finds; stops = one_stops; stays = one_stays; same = one_same; some = one_inhabited }
+  one_sound = record { found = one_finds; stops = one_stops; stays = one_stays; same = one_same; blind = one_blind; some = one_inhabited }
 
 -- one token at which something opens
 abbrev pub Held : {A : Type 0} → ℕ → (TokenNode → Option A) → Rule A
@@ -266,8 +328,20 @@ module _ {A : Type 0} (room : ℕ) (f : TokenNode → Option A) (some : Passes f
   held_same rest rest' _ _ (here {t} {t'} e) = subst (λ (o : Option A). Alike rest rest' A (held room (f t.token.node) rest) (held room o rest')) (ap (λ (s : Token). f s.node) e) (held_here (f t.token.node) t t' rest rest' e)
   held_same rest rest' _ _ (later {t} {us} {vs} ag) = held_later (f t.token.node) t rest rest' us vs ag
 
+  enter_blind : (k : ℕ) (a : A) (us vs : List Tok) → Twins us vs → Twin A (enter k a us) (enter k a vs)
+  enter_blind zero a us vs h = twin_stop (λ n. TooDeep (suc n)) us vs h
+  enter_blind (suc k) a us vs h = both_read h
+
+  held_is_blind : (o : Option A) (us vs : List Tok) → Twins us vs → Twin A (held room o us) (held room o vs)
+  held_is_blind None us vs h = twin_stop (λ n. Unexpected (suc n)) us vs h
+  held_is_blind (Some a) us vs h = enter_blind room a us vs h
+
+  held_blind : Blind (held_at room f)
+  held_blind _ _ no_twins = both_stop
+  held_blind _ _ (twins {s} {t} {us} {vs} e h) = subst (λ (o : Option A). Twin A (held room (f s.token.node) us) (held room o vs)) (ap (λ (k : Token). f k.node) e) (held_is_blind (f s.token.node) us vs h)
+
   pub held_sound : Sound (Held room f) (held_at room f)
-  held_sound = record { found = held_finds; stops = held_stops; stays = held_stays; same = held_same; some = held_inhabited }
+  held_sound = record { found = held_finds; stops = held_stops; stays = held_stays; same = held_same; blind = held_blind; some = held_inhabited }
 
 -- ---- one and then another
 
@@ -299,6 +373,8 @@ then_sound {A} {B} P Q r s p q = record {
   same = λ rest rest' us vs ag. alike_bind rest rest' (λ y. s y.0 y.1 >>= λ z. Ok ((y.0, z.0), z.1)) (λ y. s y.0 y.1 >>= λ z. Ok ((y.0, z.0), z.1)) (p.same rest rest' us vs ag)
       (λ x us' vs' ag' e e'. alike_bind rest rest' (λ z. Ok ((x, z.0), z.1)) (λ z. Ok ((x, z.0), z.1)) ((q x).same rest rest' us' vs' ag') (λ y ws zs last f f'. alike last) (λ y ws lt. lt))
       (λ x us' lt. past_bind (length rest) (s x us') (λ z. Ok ((x, z.0), z.1)) ((q x).stays (length rest) us' lt) (λ y ws le. le));
+  blind = λ us vs h. twin_bind (λ y. s y.0 y.1 >>= λ z. Ok ((y.0, z.0), z.1)) (λ y. s y.0 y.1 >>= λ z. Ok ((y.0, z.0), z.1)) (p.blind us vs h)
+      (λ x us' vs' h'. twin_bind (λ z. Ok ((x, z.0), z.1)) (λ z. Ok ((x, z.0), z.1)) ((q x).blind us' vs' h') (λ y ws zs last. both_read last));
   some = let first = p.some in let second = (q first.value).some in record { tokens = first.tokens ++ second.tokens; value = (first.value, second.value); has = (first.tokens, second.tokens, refl, first.has, second.has) };
 }
 
@@ -356,6 +432,8 @@ placed_sound {A} {B} f P r p = record {
       let path = same_consumed rest rest' one.front two.front us vs us' vs' one.parts two.parts ag' ag in
       subst (λ (ws : List Tok). Alike rest rest' B (Ok (f (extent (consumed us us')) x, us')) (Ok (f (extent ws) x, vs'))) path (alike ag'))
       (λ x us' lt. lt);
+  blind = λ us vs h. twin_bind (λ y. Ok (f (extent (consumed us y.1)) y.0, y.1)) (λ y. Ok (f (extent (consumed vs y.1)) y.0, y.1)) (p.blind us vs h)
+      (λ x us' vs' h'. subst (λ (at : Span). Twin B (Ok (f (extent (consumed us us')) x, us')) (Ok (f at x, vs'))) (twins_extent us vs us' vs' h h') (both_read h'));
   some = record { tokens = p.some.tokens; value = f (extent p.some.tokens) p.some.value; has = (p.some.value, p.some.has, refl) };
 }
 
@@ -370,6 +448,7 @@ either_sound G p r s a b = record {
   stops = λ ts fault e. elim (chosen (first_is p ts) (r ts) (s ts) (Err fault) e) [ inl h ↦ a.stops ts fault h.1 | inr h ↦ b.stops ts fault h.1 ];
   stays = λ n us le. past_cond n (first_is p us) (r us) (s us) (a.stays n us le) (b.stays n us le);
   same = λ rest rest' us vs ag. alike_cond rest rest' (first_is p us) (first_is p vs) (same_first p rest rest' us vs ag) (a.same rest rest' us vs ag) (b.same rest rest' us vs ag);
+  blind = λ us vs h. twin_cond (first_is p us) (first_is p vs) (twins_first p us vs h) (a.blind us vs h) (b.blind us vs h);
   some = a.some;
 }
 
@@ -380,6 +459,7 @@ turned_sound G H r turn p = record {
   stops = λ ts e h. let b = p.stops ts e h in record { front = b.front; rest = b.rest; parts = b.parts; left = b.left; tail = b.tail; value = b.value; has = turn (b.front ++ b.tail) b.value b.has; goes = b.goes };
   stays = p.stays;
   same = p.same;
+  blind = p.blind;
   some = record { tokens = p.some.tokens; value = p.some.value; has = turn p.some.tokens p.some.value p.some.has };
 }
 

@@ -14,7 +14,7 @@ use Rattle.java_parser.specs.Statements.{Parenthesised, Walk, Condition, Value, 
 use Rattle.java_parser.specs.Reading.{Reader, first_is, is_word, is_sign}
 use Rattle.java_parser.specs.ReadingTypes.{is_word_type}
 use Rattle.java_parser.specs.ReadingBodies.{is_name_token, block_in, is_keyword, begins_statement, alone, single_in, body_in, is_close}
-use Rattle.java_parser.proofs.Sound.{Sound, Stopped, stuck, alike_cond, past_cond, at_start, Inhabited, same_first, made_sound, or_sound, turned_sound}
+use Rattle.java_parser.proofs.Sound.{Sound, Stopped, stuck, alike_cond, past_cond, at_start, Inhabited, same_first, twins_first, twin_stop, twin_cond, made_sound, or_sound, turned_sound}
 use Rattle.java_parser.proofs.Again.{Leads, Any, made_again}
 use Rattle.java_parser.proofs.SingleLaws.{is_word_true, opening_heads}
 use Rattle.java_parser.proofs.Many.{IsOver}
@@ -195,6 +195,7 @@ shut_sound inner = record {
   stops = λ ts fault e. elim (chosen (first_is begins_statement ts) (Err (TooDeep (length ts))) (Err (Unexpected (length ts))) (Err fault) e) [ inl h ↦ single_deep ts fault h.0 h.1 | inr h ↦ single_other ts fault h.1 ];
   stays = λ n us le. past_cond n (first_is begins_statement us) (Err (TooDeep (length us))) (Err (Unexpected (length us))) le le;
   same = λ rest rest' us vs ag. alike_cond rest rest' (first_is begins_statement us) (first_is begins_statement vs) (same_first begins_statement rest rest' us vs ag) (stuck true ag) (stuck false ag);
+  blind = λ us vs h. twin_cond (first_is begins_statement us) (first_is begins_statement vs) (twins_first begins_statement us vs h) (twin_stop (λ n. TooDeep n) us vs h) (twin_stop (λ n. Unexpected n) us vs h);
   some = some_single zero;
 }
 

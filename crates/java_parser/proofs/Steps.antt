@@ -1,17 +1,16 @@
 -- What single steps of the code give, where the values are made by what is not read.
-use Rattle.std.proofs.Common.{◌≡◌, ℕ, suc, pred, ◌-◌, Bool, true, false, cond, List, Option, Some, None, Ok, codes, refl, sym, ap, ◌∙◌}
+use Rattle.std.proofs.Common.{◌≡◌, ℕ, suc, ◌-◌, Bool, true, false, cond, List, Option, None, Ok, codes, refl, ◌∙◌}
 use Rattle.std.proofs.Math.Numerals.{sub-one}
 use Rattle.qbs_base.specs.declared.span.Span.{Span}
-use Rattle.readers.specs.Reading.{◌>>=◌, Read}
 use Rattle.java_ast.specs.Tree.{Expression, Field}
 use Rattle.java_parser.specs.Marks.{Tok}
-use Rattle.java_parser.specs.Expressions.{Call, call_of, longest, name_or_none}
+use Rattle.java_parser.specs.Expressions.{call_of, longest, name_or_none}
 use Rattle.java_parser.specs.Reading.{first_is, is_sign, chain_at}
 use Rattle.java_parser.specs.ReadingExpressions.{Ranked, suffix_by, suffix_at, is_operator, operand_at, rank_in, rank_at}
 
 -- behind the first operand of a rank
 pub ranked_on : (room rank : ℕ) (ts : List Tok) (x : Expression) (rest : List Tok) → rank_at room rank ts ≡ Ok (x, rest)
-    → rank_at room (suc rank) ts ≡ chain_at (is_operator rank) (operand_at rank (rank_at room rank)) longest ts x rest
+    → rank_at room (suc rank) ts ≡ chain_at (is_operator rank) (operand_at rank (rank_at room rank)) (longest room) ts x rest
 unfolding rank_at rank_in
 ranked_on room rank ts x rest e = rw e refl
 

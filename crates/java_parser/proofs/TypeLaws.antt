@@ -1,21 +1,20 @@
 -- Types and keys are read exactly.
-use Rattle.std.proofs.Common.{◌≡◌, ℕ, Bool, true, false, cond, List, [], ◌∷◌, ◌++◌, Option, Some, None, codes, is_some, refl, sym, ap, subst, ◌∙◌, inl, inr, ◌⊎◌}
+use Rattle.std.proofs.Common.{◌≡◌, ℕ, Bool, true, false, cond, List, Option, Some, None, codes, is_some, refl, sym, ap, subst, inl, inr, ◌⊎◌}
 use Rattle.std.specs.Str.{bytes_eq}
 use Rattle.java_lex.specs.declared.token.TokenNode.{TokenNode}
 use Rattle.java_lex.specs.declared.token.TokenNode.TheVariants as tokens
 use Rattle.readers.proofs.Tools.{chosen}
 use Rattle.java_ast.specs.Tree.{Spelled}
 use Rattle.java_ast.specs.Tree as plain
-use Rattle.java_parser.specs.Marks.{Tok}
-use Rattle.java_parser.specs.Rules.{Rule, One, Word, Sign, Opening, Seq, Then, Or, Made}
+use Rattle.java_parser.specs.Rules.{One, Sign, Opening, Seq, Then, Made}
 use Rattle.java_parser.specs.Words.{is_name, by_word, name_in, table_in, word_type, element_type, collection, collection_of}
 use Rattle.java_parser.specs.Types.{Element, Spelling, KeyColumn, PlainKey, TypedKey, Key}
-use Rattle.java_parser.specs.Reading.{Reader, one_at, is_sign}
+use Rattle.java_parser.specs.Reading.{one_at, is_sign}
 use Rattle.java_parser.specs.ReadingTypes.{element_at, is_word_type, spelling_at, key_column_at, plain_key_at, closed_column_at, typed_key_at, key_at}
 use Rattle.java_parser.proofs.Sound.{Passes}
-use Rattle.java_parser.proofs.Again.{Any, Heads, one_heads, then_heads, placed_heads}
+use Rattle.java_parser.proofs.Again.{Any, one_heads, then_heads}
 use Rattle.java_parser.proofs.SingleLaws.{token_of, by_word_is, word_if_is, same_bytes, opening_heads}
-use Rattle.java_parser.proofs.Laws.{Reads, one, word, sign, opening, seq, by_value, of, either, enclosed}
+use Rattle.java_parser.proofs.Laws.{Reads, one, word, sign, opening, seq, by_value, of, either}
 
 abbrev some : {A : Type 0} → A → Option A
 some x = Some x

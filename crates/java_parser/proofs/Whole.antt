@@ -1,17 +1,17 @@
 -- Reading all of the tokens: exactly what has them is read, and a fault is the one that is kept.
-use Rattle.std.proofs.Common.{◌≡◌, ℕ, zero, suc, ◌-◌, ◌+◌, ◌≤◌, Bool, true, false, List, [], ◌∷◌, ◌++◌, length, map, Result, Ok, Err, refl, sym, ap, subst, ◌∙◌, append_assoc, arith, inl, inr, ◌⊎◌}
+use Rattle.std.proofs.Common.{◌≡◌, ℕ, suc, ◌-◌, Bool, true, false, List, [], ◌∷◌, ◌++◌, length, Result, Ok, Err, refl, sym, ap, subst, ◌∙◌, append_assoc, arith, inl, inr, ◌⊎◌}
 use Rattle.std.proofs.lemmas.List.{append-nil, length-append, length-map}
 use Rattle.java_lex.specs.declared.token.Token.{Token}
 use Rattle.readers.specs.declared.fault.Fault.{Fault}
 use Rattle.readers.specs.declared.fault.Fault.TheVariants.{Unexpected, TooDeep}
 use Rattle.readers.specs.Reading.{◌>>=◌, Read, ended, whole}
 use Rattle.readers.proofs.Tools.{bind_ok, ok_is, bind_err, failed}
-use Rattle.java_parser.specs.Marks.{Tok, strictly, freely, freed, all_strict}
+use Rattle.java_parser.specs.Marks.{Tok, strictly, freely, freed, all_strict, all_free}
 use Rattle.java_parser.specs.Rules.{Rule}
 use Rattle.java_parser.specs.Reading.{Reader}
-use Rattle.java_parser.specs.Faults.{Begins, IsUnexpected, IsTooDeep}
-use Rattle.java_parser.proofs.Sound.{Takes, Stopped, left_of, IsPast, Agree, here, later, Alike, alike, stuck, past, agree_length, fault_of}
-use Rattle.java_parser.proofs.Again.{Sunk, Leads, bind_leads}
+use Rattle.java_parser.specs.Faults.{IsUnexpected, IsTooDeep}
+use Rattle.java_parser.proofs.Sound.{Takes, Stopped, IsPast, Agree, here, later, Alike, alike, stuck, past, agree_length, fault_of, Twins, no_twins, twins, Twin, both_read, both_stop, twins_length}
+use Rattle.java_parser.proofs.Again.{Leads, bind_leads}
 use Rattle.java_parser.proofs.Laws.{Reads}
 
 -- ---- strict tokens
@@ -39,6 +39,10 @@ same_place [] (v ∷ vs) ws zs s t e n = let q : ws ≡ vs ++ t ∷ zs = cc in a
 same_place (u ∷ us) [] ws zs s t e n = let q : us ++ s ∷ ws ≡ zs = cc in absurd (omega (arith, n, ap length q, length-append us (s ∷ ws)))
 same_place (u ∷ us) (v ∷ vs) ws zs s t e n = let q : us ++ s ∷ ws ≡ vs ++ t ∷ zs = cc in same_place us vs ws zs s t q n
 
+free_twins : (ts : List Token) → Twins (all_strict ts) (all_free ts)
+free_twins [] = no_twins
+free_twins (t ∷ ts) = twins {s = strictly t} {t = freely t} refl (free_twins ts)
+
 module _ {A : Type 0} (G : Rule A) (F : List Tok → Type 0) (r : Reader A) (law : Reads G F r) (at_end : F []) where
   -- ---- what is read
 
@@ -60,6 +64,31 @@ module _ {A : Type 0} (G : Rule A) (F : List Tok → Type 0) (r : Reader A) (law
       by : Leads (whole r (all_strict ts)) (Ok x) (all_strict ts) [] → whole r (all_strict ts) ≡ Ok x
       by (inl e) = e
       by (inr s) = absurd (let e = strict_all ts s.0 s.1 s.2 s.3 in let q : true ≡ false = sym e ∙ s.4 in cc)
+
+  -- ---- marks
+
+  ended_blind : (a b : Read Tok A) → Twin A a b → (a >>= ended) ≡ (b >>= ended)
+  ended_blind _ _ (both_read no_twins) = refl
+  ended_blind _ _ (both_read (twins {us} {vs} e h)) = ap (λ (n : ℕ). Err (Unexpected (suc n))) (twins_length us vs h)
+  ended_blind _ _ both_stop = refl
+
+  pub whole_blind : (us vs : List Tok) → Twins us vs → whole r us ≡ whole r vs
+  whole_blind us vs h = ended_blind (r us) (r vs) (law.sound.blind us vs h)
+
+  -- what has the tokens, depth left aside, is read, or a token is too deep
+  pub free_read : (ts : List Token) (x : A) → G (all_free ts) x → (whole r (all_strict ts) ≡ Ok x) ⊎ ((n : ℕ) × (whole r (all_strict ts) ≡ Err (TooDeep n)))
+  free_read ts x h = by (whole_again (all_free ts) x h)
+    where
+      marks : whole r (all_strict ts) ≡ whole r (all_free ts)
+      marks = whole_blind (all_strict ts) (all_free ts) (free_twins ts)
+
+      by : Leads (whole r (all_free ts)) (Ok x) (all_free ts) [] → (whole r (all_strict ts) ≡ Ok x) ⊎ ((n : ℕ) × (whole r (all_strict ts) ≡ Err (TooDeep n)))
+      by (inl e) = inl (marks ∙ e)
+      by (inr s) = inr (suc (length (s.2 ++ [])), marks ∙ s.5)
+
+  -- what is read has the tokens, depth left aside
+  pub found_free : (ts : List Token) (x : A) → whole r (all_strict ts) ≡ Ok x → G (all_free ts) x
+  found_free ts x e = whole_found (all_free ts) x (sym (whole_blind (all_strict ts) (all_free ts) (free_twins ts)) ∙ e)
 
   -- ---- where reading stops
 

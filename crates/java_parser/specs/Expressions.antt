@@ -1,7 +1,7 @@
 -- Which tokens have an expression. Operators bind by rank, from `*` at 0 to `||` at 5, and chains of one rank are
 -- grouped from the left. `room` is how many more things may be open, and `left` how many more operators, or parts
 -- behind a dot, a chain may have, both at strict tokens.
-use Rattle.std.specs.Prelude.{◌≡◌, ℕ, ℤ, pos, negsuc, zero, suc, pred, ◌-◌, ◌^◌, List, [], ◌∷◌, ◌++◌, Bool, true, false, nat_eq, neg_ℤ, Option, Some, None, codes, if◌then◌else◌}
+use Rattle.std.specs.Prelude.{◌≡◌, ℕ, ℤ, pos, negsuc, zero, suc, pred, ◌-◌, ◌^◌, List, [], ◌∷◌, ◌++◌, Bool, true, false, nat_eq, nat_le, neg_ℤ, Option, Some, None, codes, if◌then◌else◌}
 use Rattle.std.specs.Str.{bytes_eq}
 use Rattle.qbs_base.specs.declared.span.Span.{Span}
 use Rattle.qbs_base.specs.declared.scalar.Scalar.{Scalar}
@@ -134,9 +134,11 @@ Operator left rank ts o = (t : Tok) × (ts ≡ t ∷ []) × (operator_in rank t.
 abbrev pub ranks : ℕ
 ranks = 6
 
--- so many operators, or parts behind dots, a chain may have
-abbrev pub longest : ℕ
-longest = 64
+-- So many operators, or parts behind dots, a chain may have where so many more things may be open. Within the limits of a
+-- program that is 64. Where more may be open than these limits let, it is 8192: canonical texts leave parentheses out, so that
+-- a chain may be 62 chains of a program in one.
+unfoldable pub longest : ℕ → ℕ
+longest room = if nat_le room 64 then 64 else 8192
 
 abbrev pub name_or_none : Option (List ℕ) → List ℕ
 name_or_none None = []
@@ -187,9 +189,9 @@ mutual
 
   -- anything but a name alone, with its parts behind dots, where so many more may follow
   pub data HasParts : ℕ → ℕ → List Tok → Expression → Type 0 where
-    atom : {room : ℕ} {us : List Tok} {x : Expression} → HasAtom room us x → HasParts room longest us x
+    atom : {room : ℕ} {us : List Tok} {x : Expression} → HasAtom room us x → HasParts room (longest room) us x
     dotted : {room left : ℕ} {w m : List ℕ} {us vs ws zs : List Tok} {node : Span → Expression}
-        → One variable_in us w → Sign (codes ".") vs tt → One name_in ws m → HasSuffix room (Some w) (Var (extent us) w) m longest zs node left
+        → One variable_in us w → Sign (codes ".") vs tt → One name_in ws m → HasSuffix room (Some w) (Var (extent us) w) m (longest room) zs node left
         → HasParts room left (us ++ (vs ++ (ws ++ zs))) (node (extent (us ++ (vs ++ (ws ++ zs)))))
     further : {room left after : ℕ} {m : List ℕ} {us vs ws zs : List Tok} {x : Expression} {node : Span → Expression}
         → HasParts room left us x → Opening left (codes ".") vs tt → One name_in ws m → HasSuffix room None x m left zs node after
@@ -203,7 +205,7 @@ mutual
 
   -- operands of ranks below this one, joined by operators of this rank, where so many more may follow
   pub data HasChain : ℕ → ℕ → ℕ → List Tok → Expression → Type 0 where
-    operand : {room rank : ℕ} {us : List Tok} {x : Expression} → HasRank room rank us x → HasChain room rank longest us x
+    operand : {room rank : ℕ} {us : List Tok} {x : Expression} → HasRank room rank us x → HasChain room rank (longest room) us x
     joined : {room rank left : ℕ} {us vs ws : List Tok} {x y : Expression} {o : Op} → HasChain room rank left us x → Operator left rank vs o → HasRank room rank ws y
         → HasChain room rank (pred left) (us ++ (vs ++ ws)) (Binary (extent (us ++ (vs ++ ws))) o x y)
 

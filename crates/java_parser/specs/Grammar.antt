@@ -1,5 +1,5 @@
 -- Which tokens have a program.
-use Rattle.std.specs.Prelude.{◌≡◌, ℕ, pred, List, [], ◌∷◌, ◌++◌, Bool, true, false, Option, Some, None, codes}
+use Rattle.std.specs.Prelude.{ℕ, pred, List, [], ◌∷◌, ◌++◌, Bool, true, false, Option, Some, None, codes}
 use Rattle.java_lex.specs.declared.token.Token.{Token}
 use Rattle.java_ast.specs.declared.tree.Access.{Access}
 use Rattle.java_ast.specs.declared.tree.Access.TheVariants as accesses
@@ -56,14 +56,18 @@ Package = Or (Made (λ x. Some x) (Dotted (codes "package") false)) (Empty None)
 abbrev pub Class : ℕ → Rule (List ℕ × List PlainMethod)
 Class room = Made (λ x. (x.1.0, x.1.1.1.0)) (Seq (Word (codes "class")) (Seq (One name_in) (Seq (Opening room (codes "{")) (Seq (Many (Method (pred room))) (Sign (codes "}"))))))
 
+-- a program, where so many things may be open at a token
+abbrev pub ProgramIn : ℕ → Rule PlainProgram
+ProgramIn room =
+    Made (λ x. record { «package» = x.0; imports = x.1.0; public = x.1.1.0; name = x.1.1.1.0; methods = x.1.1.1.1 })
+    (Seq Package (Seq (Many (Dotted (codes "import") true)) (Seq (Whether (codes "public")) (Class room))))
+
 -- so many things may be open at a token
 abbrev pub deepest : ℕ
 deepest = 64
 
 abbrev pub HasProgram : Rule PlainProgram
-HasProgram =
-    Made (λ x. record { «package» = x.0; imports = x.1.0; public = x.1.1.0; name = x.1.1.1.0; methods = x.1.1.1.1 })
-    (Seq Package (Seq (Many (Dotted (codes "import") true)) (Seq (Whether (codes "public")) (Class deepest))))
+HasProgram = ProgramIn deepest
 
 -- the tokens have this program, depth left aside
 abbrev pub IsProgram : List Token → PlainProgram → Type 0

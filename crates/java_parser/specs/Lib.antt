@@ -6,6 +6,7 @@ pub mod Grammar
 pub mod InGrammar
 pub mod Kept
 pub mod Marks
+pub mod Parsed
 pub mod Printed
 pub mod ReadBack
 pub mod Reading

@@ -1,5 +1,5 @@
 -- Tokens, each with a mark whether the limits of depth hold at it, and the places of parts of a text.
-use Rattle.std.specs.Prelude.{◌≡◌, ◌<◌, ◌-◌, ℕ, List, length, slice_get, map, Bool, true, false, Option, Some, None}
+use Rattle.std.specs.Prelude.{◌≡◌, ◌<◌, ◌-◌, ℕ, List, length, slice_get, map, Bool, true, false, Option, Some}
 use Rattle.qbs_base.specs.declared.span.Span.{Span}
 use Rattle.java_lex.specs.declared.token.Token.{Token}
 

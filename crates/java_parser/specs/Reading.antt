@@ -1,10 +1,9 @@
 -- Readers from left to right over marked tokens, beside those of any tokens.
-use Rattle.std.specs.Prelude.{◌≡◌, ◌-◌, ℕ, zero, suc, List, [], ◌∷◌, length, take, Bool, true, false, Option, Some, None, Result, Ok, Err, if◌then◌else◌}
+use Rattle.std.specs.Prelude.{◌-◌, ℕ, zero, suc, List, [], ◌∷◌, length, take, Bool, false, Option, Some, None, Ok, Err, if◌then◌else◌}
 use Rattle.std.specs.Str.{bytes_eq}
 use Rattle.qbs_base.specs.declared.span.Span.{Span}
 use Rattle.java_lex.specs.declared.token.TokenNode.{TokenNode}
 use Rattle.java_lex.specs.declared.token.TokenNode.TheVariants as tokens
-use Rattle.readers.specs.declared.fault.Fault.{Fault}
 use Rattle.readers.specs.declared.fault.Fault.TheVariants.{Unexpected, TooDeep}
 use Rattle.readers.specs.Reading.{◌>>=◌, Read, token_at, first_passes, many}
 use Rattle.java_parser.specs.Marks.{Tok, extent}

@@ -6,7 +6,6 @@ use Rattle.qbs_base.specs.declared.scalar.Scalar.TheVariants as scalars
 use Rattle.java_lex.specs.declared.token.TokenNode.{TokenNode}
 use Rattle.readers.specs.declared.fault.Fault.TheVariants.{TooDeep}
 use Rattle.readers.specs.Reading.{made}
-use Rattle.java_ast.specs.declared.tree.Op.{Op}
 use Rattle.java_ast.specs.Tree.{Spelled, Expression, Expressions, Lit, Var, Field, Binary, Not, Equals, Size, Get, Contains, Fetch, Query, QueryLong, QueryBoolean, NoMore, And}
 use Rattle.java_parser.specs.Marks.{nowhere}
 use Rattle.java_parser.specs.Words.{by_word, word_if, name_in, table_in, variable_in, text_in, natural_in, literal_in, is_number_type, element_type}
@@ -131,7 +130,7 @@ unfoldable pub variable_at : Reader (List ℕ × Expression)
 variable_at ts = placed_at (λ at w. (w, Var at w)) (one_at variable_in) ts
 
 unfoldable pub dotted_at : ℕ → Ranked → List ℕ × Expression → Reader ((Span → Expression) × Option ℕ)
-dotted_at room inner v ts = made (λ y. (y.1.1.0, Some y.1.1.1)) (seq_at (sign_at (codes ".")) (then_at (one_at name_in) (λ m. suffix_at room inner (Some v.0) v.1 m longest))) ts
+dotted_at room inner v ts = made (λ y. (y.1.1.0, Some y.1.1.1)) (seq_at (sign_at (codes ".")) (then_at (one_at name_in) (λ m. suffix_at room inner (Some v.0) v.1 m (longest room)))) ts
 
 unfoldable pub behind_variable_at : ℕ → Ranked → List ℕ × Expression → Reader ((Span → Expression) × Option ℕ)
 behind_variable_at room inner v ts = or_at (is_sign (codes ".")) (dotted_at room inner v) (empty_at ((λ at. Var at v.0), None)) ts
@@ -141,7 +140,7 @@ unfoldable pub named_at : ℕ → Ranked → Reader (Expression × Option ℕ)
 named_at room inner ts = placed_at (λ at x. (x.1.0 at, x.1.1)) (then_at variable_at (behind_variable_at room inner)) ts
 
 unfoldable pub head_at : ℕ → Ranked → Reader Expression → Reader (Expression × Option ℕ)
-head_at room inner query ts = or_at is_variable_token (named_at room inner) (made (λ x. (x, Some longest)) (atom_at room inner query)) ts
+head_at room inner query ts = or_at is_variable_token (named_at room inner) (made (λ x. (x, Some (longest room))) (atom_at room inner query)) ts
 
 -- one more part
 unfoldable pub part_at : ℕ → Ranked → ℕ → Expression → Reader (Span → Expression)
@@ -167,7 +166,7 @@ operand_at rank operand left x ts = made (λ y at. Binary at y.0 x y.1) (seq_at 
 
 unfoldable pub rank_in : ℕ → Ranked → Reader Expression → ℕ → Reader Expression
 rank_in room inner query zero ts = unary_at room inner query ts
-rank_in room inner query (suc rank) ts = chained_at (is_operator rank) (operand_at rank (rank_in room inner query rank)) (made (λ x. (x, Some longest)) (rank_in room inner query rank)) ts
+rank_in room inner query (suc rank) ts = chained_at (is_operator rank) (operand_at rank (rank_in room inner query rank)) (made (λ x. (x, Some (longest room))) (rank_in room inner query rank)) ts
 
 -- Behind something that opens, where as many more may be open as before it. Nothing is read where it may not open.
 unfoldable mutual

@@ -2,14 +2,14 @@
 use Rattle.std.specs.Prelude.{ℕ, suc, pred, List, [], ◌∷◌, ◌++◌, length, Bool, true, false, not, is_some, Option, Some, None, Ok, Err, codes, if◌then◌else◌}
 use Rattle.java_lex.specs.declared.token.TokenNode.{TokenNode}
 use Rattle.readers.specs.declared.fault.Fault.TheVariants.{Unexpected}
-use Rattle.readers.specs.Reading.{◌>>=◌, Read, option_cases, made}
+use Rattle.readers.specs.Reading.{◌>>=◌, option_cases, made}
 use Rattle.java_ast.specs.declared.tree.Access.{Access}
 use Rattle.java_ast.specs.declared.tree.Access.TheVariants as accesses
-use Rattle.java_ast.specs.Tree.{Spelled, Statements, PlainParam, PlainMethod, PlainProgram}
+use Rattle.java_ast.specs.Tree.{Spelled, PlainParam, PlainMethod, PlainProgram}
 use Rattle.java_parser.specs.Marks.{Tok}
 use Rattle.java_parser.specs.Words.{by_word, name_in, scalar_type}
 use Rattle.java_parser.specs.Grammar.{deepest}
-use Rattle.java_parser.specs.Reading.{Reader, then_at, seq_at, empty_at, one_at, placed_at, or_at, is_word, is_sign, word_at, sign_at, opening_at, many_at}
+use Rattle.java_parser.specs.Reading.{Reader, seq_at, empty_at, one_at, placed_at, or_at, is_word, is_sign, word_at, sign_at, opening_at, many_at}
 use Rattle.java_parser.specs.ReadingTypes.{spelling_at}
 use Rattle.java_parser.specs.ReadingExpressions.{is_no_comma}
 use Rattle.java_parser.specs.ReadingBodies.{is_close, block_at}
@@ -99,7 +99,10 @@ methods_at room ts = made (λ x. x.1.0) (seq_at (opening_at room (codes "{")) (s
 unfoldable pub class_at : ℕ → Reader (List ℕ × List PlainMethod)
 class_at room ts = made (λ x. x.1) (seq_at (word_at (codes "class")) (seq_at (one_at name_in) (methods_at room))) ts
 
-unfoldable pub program_at : Reader PlainProgram
-program_at ts =
+unfoldable pub program_in : ℕ → Reader PlainProgram
+program_in room ts =
     made (λ x. record { «package» = x.0; imports = x.1.0; public = x.1.1.0; name = x.1.1.1.0; methods = x.1.1.1.1 })
-    (seq_at package_at (seq_at imports_at (seq_at (whether_at (codes "public")) (class_at deepest)))) ts
+    (seq_at package_at (seq_at imports_at (seq_at (whether_at (codes "public")) (class_at room)))) ts
+
+abbrev pub program_at : Reader PlainProgram
+program_at ts = program_in deepest ts

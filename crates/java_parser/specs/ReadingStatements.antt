@@ -1,18 +1,16 @@
 -- Reading statements from left to right. `inner` reads statements one level deeper.
-use Rattle.std.specs.Prelude.{ℕ, zero, suc, pred, pos, List, [], ◌∷◌, length, Bool, true, false, not, ◌||◌, is_some, Option, Some, None, Err, codes, if◌then◌else◌}
+use Rattle.std.specs.Prelude.{ℕ, pred, pos, List, ◌∷◌, Bool, not, Option, Some, None, codes, if◌then◌else◌}
 use Rattle.std.specs.Str.{bytes_eq}
 use Rattle.qbs_base.specs.declared.span.Span.{Span}
 use Rattle.qbs_base.specs.declared.scalar.Scalar.TheVariants as scalars
 use Rattle.java_lex.specs.declared.token.TokenNode.{TokenNode}
-use Rattle.java_lex.specs.declared.token.TokenNode.TheVariants as tokens
-use Rattle.readers.specs.declared.fault.Fault.TheVariants.{TooDeep}
 use Rattle.readers.specs.Reading.{made}
 use Rattle.java_ast.specs.declared.tree.Op.TheVariants as ops
-use Rattle.java_ast.specs.Tree.{Spelled, Expression, Lit, Var, Binary, Statement, Statements, Declare, Assign, Add, Sort, If, IfElse, ForEach, While, Print, Return, Break, Nothing, Then as Followed}
-use Rattle.java_parser.specs.Words.{by_word, name_in, is_number_type, is_name, word_type, collection, collection_of}
-use Rattle.java_parser.specs.Statements.{is_turned, keys_in, downs_in}
-use Rattle.java_parser.specs.Reading.{Reader, then_at, seq_at, empty_at, one_at, placed_at, or_at, is_word, is_sign, word_at, sign_at, opening_at, many_at}
-use Rattle.java_parser.specs.ReadingTypes.{element_at, spelling_at, key_at}
+use Rattle.java_ast.specs.Tree.{Expression, Lit, Var, Binary, Statement, Assign, Add, Sort, Print, Return, Break}
+use Rattle.java_parser.specs.Words.{name_in, is_number_type}
+use Rattle.java_parser.specs.Statements.{keys_in, downs_in}
+use Rattle.java_parser.specs.Reading.{Reader, then_at, seq_at, one_at, placed_at, or_at, is_word, is_sign, word_at, sign_at, opening_at, many_at}
+use Rattle.java_parser.specs.ReadingTypes.{key_at}
 use Rattle.java_parser.specs.ReadingExpressions.{expression_at}
 
 -- ( expr )

@@ -6,7 +6,7 @@ use Rattle.qbs_base.specs.declared.scalar.Scalar.TheVariants as scalars
 use Rattle.java_ast.specs.declared.tree.Op.TheVariants as ops
 use Rattle.java_ast.specs.Tree.{Spelled, Expression, Lit, Var, Binary, Statement, Statements, Declare, Assign, Add, Sort, If, IfElse, ForEach, While, Print, Return, Break, Nothing, Then as Followed}
 use Rattle.java_parser.specs.Marks.{Tok, Allows, extent}
-use Rattle.java_parser.specs.Rules.{Rule, Empty, One, Word, Sign, Opening, Seq, Then, Or, Made, Placed, Many}
+use Rattle.java_parser.specs.Rules.{Rule, One, Word, Sign, Opening, Seq, Then, Or, Made, Placed, Many}
 use Rattle.java_parser.specs.Words.{name_in, is_number_type}
 use Rattle.java_parser.specs.Types.{Spelling, Key}
 use Rattle.java_parser.specs.Expressions.{HasExpression}

@@ -1,8 +1,8 @@
 -- Which tokens have a type, and which a key of a sort.
-use Rattle.std.specs.Prelude.{◌≡◌, ℕ, List, Bool, Option, Some, None, codes}
+use Rattle.std.specs.Prelude.{ℕ, List, codes}
 use Rattle.java_ast.specs.Tree.{Spelled}
-use Rattle.java_parser.specs.Rules.{Rule, Empty, One, Word, Sign, Opening, Seq, Then, Or, Made}
-use Rattle.java_parser.specs.Words.{by_word, name_in, table_in, scalar_type, word_type, element_type, collection, collection_of}
+use Rattle.java_parser.specs.Rules.{Rule, One, Word, Sign, Opening, Seq, Then, Or, Made}
+use Rattle.java_parser.specs.Words.{by_word, name_in, table_in, word_type, element_type, collection, collection_of}
 
 -- < elem >
 abbrev pub Element : Rule Spelled

@@ -6,7 +6,7 @@ ghost use Rattle.java_parser.specs.Marks.{all_strict};
 ghost use Rattle.java_parser.specs.Reading.{first_is, is_word as is_this_word, many_at};
 ghost use Rattle.java_parser.specs.ReadingExpressions.{is_no_comma};
 ghost use Rattle.java_parser.specs.ReadingBodies.{is_close};
-ghost use Rattle.java_parser.specs.ReadingPrograms.{reached_at, whether_at, result_at, parameter_at, next_parameter_at, is_scalar_type, some_parameters_at, parameters_at, parameter_part_at, method_at, methods_at, class_at, dotted_name_at, package_at, is_no_import, imports_at, program_at};
+ghost use Rattle.java_parser.specs.ReadingPrograms.{reached_at, whether_at, result_at, parameter_at, next_parameter_at, is_scalar_type, some_parameters_at, parameters_at, parameter_part_at, method_at, methods_at, class_at, dotted_name_at, package_at, is_no_import, imports_at, program_in};
 
 use crate::bodies::{block, ends_block};
 use crate::dotted::dotted_name;
@@ -263,15 +263,15 @@ fn imports(alloc: Global, tokens: &[Token]) -> Result<(Vec<Text>, &[Token]), Rea
     Ok((names, rest))
 }
 
-/// A program.
-#[tactic(auto, unfolding(crate::specs::ReadingPrograms::program_at))]
-pub fn program(alloc: Global, tokens: &[Token]) -> Result<(Program, &[Token]), ReadError>
-    ensures { Gives (λ x. (program_of x.0, all_strict x.1.now)) result (program_at (all_strict tokens.now)) }
+/// A program, where so many things may be open.
+#[tactic(auto, unfolding(crate::specs::ReadingPrograms::program_in))]
+pub fn program(alloc: Global, room: u32, tokens: &[Token]) -> Result<(Program, &[Token]), ReadError>
+    ensures { Gives (λ x. (program_of x.0, all_strict x.1.now)) result (program_in room (all_strict tokens.now)) }
 {
     let (package, rest) = package(alloc, tokens)?;
     let (imports, rest) = imports(alloc, rest)?;
     let (public, rest) = whether("public", rest)?;
-    let (name, methods, rest) = class(alloc, DEEPEST, rest)?;
+    let (name, methods, rest) = class(alloc, room, rest)?;
     let name = name.clone()?;
     let imports = Items::from_vec(imports);
     let methods = Items::from_vec(methods);

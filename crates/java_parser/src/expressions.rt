@@ -9,7 +9,7 @@ ghost use Rattle.java_parser.specs.Marks.{all_strict};
 ghost use Rattle.java_parser.specs.Calls.{seen};
 ghost use Rattle.java_parser.specs.Reading.{chain_at};
 ghost use Rattle.java_parser.specs.Reading.{is_sign as is_this_sign};
-ghost use Rattle.java_parser.specs.Expressions.{name_or_none, ranks};
+ghost use Rattle.java_parser.specs.Expressions.{name_or_none, ranks, longest as longest_of};
 ghost use Rattle.java_parser.specs.ReadingExpressions.{next_argument_at, arguments_at, query_of_element_at, query_of_long_at, query_of_truth_at, call_at, called_at, suffix_at, suffix_by, query_in, query_inside, source_at, source_end_at, new_at, grouped_at, atom_at, dotted_at, behind_variable_at, named_at, head_at, part_at, postfix_at, negation_at, unary_at, is_operator, operand_at, rank_in, rank_at, inside, expression_at};
 
 use crate::atoms::{
@@ -31,8 +31,23 @@ use std::alloc::Global;
 /// All operators have ranks below this one.
 const RANKS: u32 = 6;
 
-/// How many operators, or parts behind dots, a chain may have.
-const LONGEST: u32 = 64;
+/// How many operators, or parts behind dots, a chain of a program may have.
+const WITHIN_LIMITS: u32 = 64;
+
+/// How many it may have where the limits of a program are left aside.
+const BEYOND_LIMITS: u32 = 8192;
+
+/// How many it may have where so many more things may be open.
+#[tactic(auto, unfolding(crate::specs::Expressions::longest))]
+fn longest(room: u32) -> u32
+    ensures { result ≡ longest_of room }
+{
+    if room <= 64 {
+        WITHIN_LIMITS
+    } else {
+        BEYOND_LIMITS
+    }
+}
 
 /// An expression, where so many more things may be open.
 #[tactic(auto, unfolding(crate::specs::ReadingExpressions::expression_at))]
@@ -81,7 +96,7 @@ fn ranked(
         return unary(alloc, room, tokens);
     }
     let (first, rest) = ranked(alloc, room, rank - 1, tokens)?;
-    chain(alloc, room, rank - 1, LONGEST, tokens, first, rest)
+    chain(alloc, room, rank - 1, longest(room), tokens, first, rest)
 }
 
 /// The operators of a rank behind their first operand, and the other operands.
@@ -180,7 +195,7 @@ fn head(
         return named(alloc, room, tokens);
     }
     let (first, rest) = atom(alloc, room, tokens)?;
-    Ok((first, Some(LONGEST), rest))
+    Ok((first, Some(longest(room)), rest))
 }
 
 #[cycle(expressions)]
@@ -233,7 +248,15 @@ fn dotted<'a>(
     let (member, rest) = name(rest)?;
     let node = ExprNode::Var(variable.clone()?);
     let row = Expr { span: at, node };
-    let (node, left, rest) = suffix(alloc, room, Some(variable), row, member, LONGEST, rest)?;
+    let (node, left, rest) = suffix(
+        alloc,
+        room,
+        Some(variable),
+        row,
+        member,
+        longest(room),
+        rest,
+    )?;
     Ok((node, Some(left), rest))
 }
 

@@ -16,13 +16,15 @@ mod places;
 mod plain;
 mod printed;
 mod sorts;
+#[cfg(test)]
+mod tests;
 mod tokens;
 mod types;
 mod words;
 
 pub use fault::{ParseFault, ParseRule};
-pub use once::tokens_have_one_program;
-pub use parser::{parse, parse_expression, parse_key, parse_type};
+pub use once::{tokens_have_one_program, what_is_parsed};
+pub use parser::{parse, parse_expression, parse_grammar, parse_key, parse_type};
 pub use printed::{
     canonical_text_has_tokens, canonical_text_is_read_back, canonical_tokens_have_the_program,
     programs_of_texts_are_read_back,

@@ -1,5 +1,5 @@
 // The public readers: whole texts, and the faults that are kept.
-ghost use Rattle.std.specs.Prelude.{◌≡◌, ℕ, List, Ok, IfOk, IfErr, MatchResult};
+ghost use Rattle.std.specs.Prelude.{◌≡◌, ℕ, List, Ok, IfOk, IfErr, IfSome, IsSomeAnd, MatchResult};
 ghost use Rattle.readers.specs.Reading.{Gives, whole};
 ghost use Rattle.qbs_base.specs.Memory.{IsNoMemory};
 ghost use Rattle.java_ast.specs.Reading.{spelled, expression as expression_of, program as program_of};
@@ -9,9 +9,10 @@ ghost use Rattle.java_parser.specs.Types.{Spelling, Key};
 ghost use Rattle.java_parser.specs.Expressions.{HasExpression};
 ghost use Rattle.java_parser.specs.ReadingTypes.{spelling_at, key_at};
 ghost use Rattle.java_parser.specs.ReadingExpressions.{expression_at};
-ghost use Rattle.java_parser.specs.Grammar.{HasProgram, IsReadable};
-ghost use Rattle.java_parser.specs.ReadingPrograms.{program_at};
+ghost use Rattle.java_parser.specs.Grammar.{HasProgram, IsProgram, IsReadable};
+ghost use Rattle.java_parser.specs.ReadingPrograms.{program_in};
 ghost use Rattle.java_parser.specs.Kept.{fault_at, place_of, kept, IsKept};
+ghost use Rattle.java_parser.specs.Parsed.{parsed, Answers};
 
 use crate::classes::{DEEPEST, program};
 use crate::expressions::expression;
@@ -20,7 +21,7 @@ use crate::tokens::unexpected;
 use crate::types::{key, spelling};
 use java_ast::{Expr, JTy, Program};
 use java_lex::{Token, Tokens};
-use qbs_base::{Fail, Name, Span};
+use qbs_base::{Fail, Name, NoMemory, Span};
 use readers::{Fault, ReadError};
 use std::alloc::Global;
 
@@ -142,10 +143,10 @@ pub fn parse_expression(alloc: Global, tokens: &Tokens) -> Result<Expr, Fail<Par
     }
 }
 
-fn whole_program(alloc: Global, tokens: &[Token]) -> Result<Program, ReadError>
-    ensures { Gives (λ p. program_of p) result (whole program_at (all_strict tokens.now)) }
+fn whole_program(alloc: Global, room: u32, tokens: &[Token]) -> Result<Program, ReadError>
+    ensures { Gives (λ p. program_of p) result (whole (program_in room) (all_strict tokens.now)) }
 {
-    let (program, rest) = program(alloc, tokens)?;
+    let (program, rest) = program(alloc, room, tokens)?;
     if !rest.is_empty() {
         return Err(unexpected(rest));
     }
@@ -164,9 +165,33 @@ pub fn parse(alloc: Global, tokens: &Tokens) -> Result<Program, Fail<ParseFault>
     ensures only { (x : PlainProgram) → IsReadable tokens.now.list x → MatchResult result (λ p. program_of p ≡ x) IsNoMemory }
     // A fault is the one that is kept.
     ensures fault { IfErr result (IsKept HasProgram tokens.now) }
+    // It answers what reading from left to right gives.
+    ensures exact { Answers (λ p. program_of p) result (parsed tokens.now) }
 {
-    match whole_program(alloc, tokens.list.as_slice()) {
+    match whole_program(alloc, DEEPEST, tokens.list.as_slice()) {
         Ok(program) => Ok(program),
         Err(error) => Err(fail(tokens, error)),
+    }
+}
+
+/// How many things may be open at a token where the limits of a program are left aside.
+const ROOMIEST: u32 = 512;
+
+/// The program that the tokens are, all of them, with its places, the limits of depth left aside, and
+/// none where they are no program. It reads canonical texts again, in which one parenthesis more may
+/// be open than in the source, and chains may be longer.
+///
+/// The stack is memory too, and may want where more than 448 things are open at a token, or a chain
+/// has more than 8192 operators or parts.
+pub fn parse_grammar(alloc: Global, tokens: &Tokens) -> Result<Option<Program>, NoMemory>
+    // What is read has these tokens.
+    ensures found { IfOk result (λ r. IfSome r (λ p. IsProgram tokens.now.list (program_of p))) }
+    // What has these tokens is read, and nothing else has them.
+    ensures only { (x : PlainProgram) → IsProgram tokens.now.list x → IfOk result (λ r. IsSomeAnd r (λ p. program_of p ≡ x)) }
+{
+    match whole_program(alloc, ROOMIEST, tokens.list.as_slice()) {
+        Ok(program) => Ok(Some(program)),
+        Err(ReadError::Fault(Fault::Unexpected(_))) => Ok(None),
+        Err(_) => Err(NoMemory),
     }
 }

@@ -1,9 +1,9 @@
-use Rattle.std.proofs.Common.{◌≡◌, length, map, sym, ◌∙◌}
+use Rattle.std.proofs.Common.{length, map, sym, ◌∙◌}
 use Rattle.std.proofs.lemmas.Result.{err_from_is_err_and}
 use Rattle.java_ast.specs.Reading.{statement}
 use Rattle.java_parser.specs.Marks.{Tok, all_strict}
 use Rattle.java_parser.specs.Reading.{many_at}
-use Rattle.java_parser.specs.ReadingBodies.{is_close, item_at, statements_at}
+use Rattle.java_parser.specs.ReadingBodies.{is_close, item_at}
 use Rattle.java_parser.proofs.Listed.{items_fail, items_done}
 use Rattle.java_parser.proofs.Loops.{many_go_on, many_fail, many_stop, many_run_out, seen_more}
 use Rattle.java_parser.proofs.bodies.+bodies.Goals as goal

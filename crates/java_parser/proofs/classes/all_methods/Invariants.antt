@@ -1,5 +1,5 @@
-use Rattle.std.proofs.Common.{◌≡◌, ◌-◌, ◌∷◌, length, map}
-use Rattle.readers.specs.Reading.{up_to, made}
+use Rattle.std.proofs.Common.{◌≡◌, ◌-◌, length, map}
+use Rattle.readers.specs.Reading.{up_to}
 use Rattle.java_ast.specs.Reading.{method}
 use Rattle.java_parser.specs.ReadingBodies.{is_close}
 use Rattle.java_parser.specs.ReadingPrograms.{method_at}

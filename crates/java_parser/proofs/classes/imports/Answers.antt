@@ -1,12 +1,10 @@
-use Rattle.std.proofs.Common.{◌≡◌, ◌∷◌, List, length, map, refl, sym, ap, ◌∙◌}
+use Rattle.std.proofs.Common.{length, sym, ◌∙◌}
 use Rattle.std.proofs.lemmas.Result.{err_from_is_err_and}
 use Rattle.std.proofs.lemmas.List.{length-map}
-use Rattle.readers.specs.Reading.{made}
 use Rattle.std.proofs.Common.{true, codes}
 use Rattle.java_parser.specs.ReadingPrograms.{is_no_import, dotted_name_at, imports_at}
 use Rattle.java_parser.specs.Marks.{Tok, strictly, all_strict}
-use Rattle.java_parser.specs.Reading.{many_at}
-use Rattle.java_parser.proofs.Loops.{many_begin, many_begin_with, many_go_on, many_fail, many_stop, many_run_out, seen_more}
+use Rattle.java_parser.proofs.Loops.{many_begin, many_go_on, many_fail, many_stop, many_run_out}
 use Rattle.java_parser.proofs.classes.imports.Goals as goal
 use Rattle.java_parser.proofs.classes.imports.Goals.{else-loop-test, then-loop-test+then-ends_before_word}
 

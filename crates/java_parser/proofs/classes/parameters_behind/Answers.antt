@@ -1,4 +1,4 @@
-use Rattle.std.proofs.Common.{◌≡◌, ◌∷◌, List, length, map, refl, sym, ap, ◌∙◌}
+use Rattle.std.proofs.Common.{◌∷◌, List, length, map, sym, ◌∙◌}
 use Rattle.std.proofs.lemmas.Result.{err_from_is_err_and}
 use Rattle.std.proofs.lemmas.List.{length-map}
 use Rattle.readers.specs.Reading.{made}
@@ -8,7 +8,7 @@ use Rattle.java_parser.specs.ReadingExpressions.{is_no_comma}
 use Rattle.java_parser.specs.ReadingPrograms.{next_parameter_at}
 use Rattle.java_parser.specs.Marks.{Tok, strictly, all_strict}
 use Rattle.java_parser.specs.Reading.{many_at}
-use Rattle.java_parser.proofs.Loops.{many_begin, many_begin_with, many_go_on, many_fail, many_stop, many_run_out, seen_more}
+use Rattle.java_parser.proofs.Loops.{many_begin_with, many_go_on, many_fail, many_stop, many_run_out, seen_more}
 use Rattle.java_parser.proofs.classes.parameters_behind.Goals as goal
 use Rattle.java_parser.proofs.classes.parameters_behind.Goals.{else-loop-test, then-loop-test+then-ends_before}
 

@@ -75,7 +75,7 @@ pub ranked-returns : goal.ranked-returns
 ranked-returns t c =
     let e = ranked_on c.args.room (c.args.rank - 1) (all_strict c.args.tokens.now) (expression c.in_ok-first.first) (all_strict c.in_ok-first.rest.now) c.in_ok-first.ensures in
     let k : c.args.rank ≡ suc (c.args.rank - 1) = omega arith in
-    rw (ap (λ (n : ℕ). rank_at c.args.room n (all_strict c.args.tokens.now)) k ∙ e) c.chain.ensures
+    rw (ap (λ (n : ℕ). rank_at c.args.room n (all_strict c.args.tokens.now)) k ∙ e, sym c.longest.ensures) c.chain.ensures
 
 pub suffix-returns-then-not-is_next_sign : goal.suffix-returns-then-not-is_next_sign
 suffix-returns-then-not-is_next_sign t c =

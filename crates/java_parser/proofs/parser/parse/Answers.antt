@@ -5,6 +5,8 @@ use Rattle.java_ast.specs.Reading.{program}
 use Rattle.java_parser.specs.Marks.{all_strict}
 use Rattle.java_parser.specs.Grammar.{HasProgram}
 use Rattle.java_parser.specs.ReadingPrograms.{program_at}
+use Rattle.java_parser.proofs.ParsedLaws.{answers_program, answers_fault}
+use Rattle.java_parser.specs.Parsed.{parsed, Answers}
 use Rattle.java_parser.proofs.Again.{Any}
 use Rattle.java_parser.proofs.ProgramLaws.{program_reads}
 use Rattle.java_parser.proofs.Whole.{whole_found}
@@ -22,3 +24,9 @@ returns-in-Err-clause-only c x has = rw c.fail.ensures (is_refused HasProgram An
 
 pub returns-in-Err-clause-fault : goal.returns-in-Err-clause-fault
 returns-in-Err-clause-fault c = rw c.fail.ensures (is_kept HasProgram Any program_at program_reads tt c.args.tokens.now c.in-Err.error (subst (λ (ts : List Token). Fails c.in-Err.error (whole program_at (all_strict ts))) c.as_slice.ensures c.in-Err.ensures))
+
+pub returns-in-Ok-clause-exact : goal.returns-in-Ok-clause-exact
+returns-in-Ok-clause-exact c = answers_program c.args.tokens.now (program c.in-Ok.program) (subst (λ (ts : List Token). whole program_at (all_strict ts) ≡ Ok (program c.in-Ok.program)) c.as_slice.ensures c.in-Ok.ensures)
+
+pub returns-in-Err-clause-exact : goal.returns-in-Err-clause-exact
+returns-in-Err-clause-exact c = rw c.fail.ensures (answers_fault c.args.tokens.now c.in-Err.error (subst (λ (ts : List Token). Fails c.in-Err.error (whole program_at (all_strict ts))) c.as_slice.ensures c.in-Err.ensures))

@@ -1,4 +1,4 @@
-use Rattle.std.proofs.Common.{◌≡◌, ◌∷◌, ◌++◌, drop, Some}
+use Rattle.std.proofs.Common.{◌≡◌, ◌∷◌, ◌++◌, drop}
 use Rattle.java_parser.specs.Statements.{is_turned, keys_in, downs_in}
 use Rattle.java_parser.proofs.sorts.directed.Given as goal
 
