@@ -1,0 +1,12 @@
+pub mod Answerable
+pub mod Called
+pub mod Changed
+pub mod Columns
+pub mod Readings
+pub mod Nodes
+pub mod Occurring
+pub mod Sorted
+pub mod Stacked
+pub mod Stopped
+pub mod Stored
+pub mod Turns

@@ -1,0 +1,10 @@
+use Rattle.std.proofs.Common.{◌≡◌, ℕ, List}
+use Rattle.sql_ast.specs.Reading.{query}
+use Rattle.java_interp.specs.IsRead.{IsRead}
+use Rattle.java_interp.proofs.Readings.{kept_result}
+use Rattle.java_interp.proofs.known.Queries.keep.Goals as goal
+
+pub invariant_of-self : goal.invariant_of-self
+invariant_of-self c =
+    let i : IsRead c.self.inside.schema.now c.as_slice.result.now (query c.args.q) = rw (c.self.view_is, c.as_slice.ensures) c.requires in
+    kept_result c.insert.result c.self.inside.schema.now c.as_slice.result c.args.q c.self.inside.known.entries c.insert.new.self.entries c.insert.ensures.entries c.insert.ensures.err i c.self.invariant

@@ -1,0 +1,9 @@
+pub mod Chosen
+pub mod Ended
+pub mod Gives
+pub mod Held
+pub mod IsRead
+pub mod Reached
+pub mod Running
+pub mod Stack
+pub mod Words

@@ -1,0 +1,79 @@
+-- Parts of the meaning that functions of the interpreter give.
+use Rattle.std.specs.Prelude.{ℕ, ℤ, Bool, List, ◌++◌, Result, Ok, Err}
+use Rattle.qbs_base.specs.Named.{at_name}
+use Rattle.qbs_base.specs.Scalar.{value_before}
+use Rattle.qbs_base.specs.Sort.{turned, stable_sort}
+use Rattle.qbs_base.specs.Values.{Schema}
+use Rattle.qbs_base.specs.declared.scalar.Row.{Row}
+use Rattle.qbs_base.specs.declared.scalar.Scalar.{Scalar}
+use Rattle.qbs_base.specs.declared.scalar.Value.{Value}
+use Rattle.qbs_base.specs.declared.scalar.Value.TheVariants.{Many}
+use Rattle.qbs_base.specs.declared.span.Span.{Span}
+use Rattle.java_mean.specs.declared.ending.Ending.{Ending}
+use Rattle.java_mean.specs.Endings.{◌>>=◌, found}
+use Rattle.java_ast.specs.Tree.{Expression, Expressions}
+use Rattle.java_mean.specs.Expression.{value_of, scalars_of, answered, as_row, as_rows, cell, element, in_range, nth}
+use Rattle.java_mean.specs.Statement.{State, with_value, added, in_order}
+use Rattle.java_mean.specs.Store.{Store}
+use Rattle.java_mean.specs.World.{World}
+
+abbrev pub held_at : Store → List ℕ → Result Value Ending
+held_at s x = do
+  held ← found (at_name s x)
+  Ok held.value
+
+abbrev pub list_at : Store → List ℕ → Result (List Row) Ending
+list_at s x = do
+  held ← found (at_name s x)
+  as_rows held.value
+
+abbrev pub cell_in : World → Row → List ℕ → Result Scalar Ending
+cell_in w row name = found (cell w.schema row name)
+
+abbrev pub member_at : Span → List Row → ℤ → Result Value Ending
+member_at at rows n = do
+  row ← in_range at (nth rows n)
+  Ok (element row)
+
+abbrev pub fetched : World → List ℕ → Result Value Ending
+fetched w t = do
+  rows ← found (at_name w.db t)
+  Ok (Many rows)
+
+abbrev pub field_in : Expression → World → Store → List ℕ → Result Scalar Ending
+field_in e w s name = do
+  v ← value_of e w s
+  row ← as_row v
+  cell_in w row name
+
+-- the order of rows by one key
+abbrev pub key_before : Schema → List ℕ → Bool → Row → Row → Bool
+key_before schema key down = turned down (λ a b. value_before (cell schema a key) (cell schema b key))
+
+-- the state with a variable that holds another value
+abbrev pub assigned : State → List ℕ → Value → Result State Ending
+assigned s x v = do
+  held ← found (at_name s.store x)
+  Ok (with_value s x held v)
+
+abbrev pub added_to : State → List ℕ → Row → Result State Ending
+added_to s x row = do
+  held ← found (at_name s.store x)
+  rows ← as_rows held.value
+  Ok (with_value s x held (Many (added held.is_set rows row)))
+
+abbrev pub sorted_at : Schema → State → List ℕ → List (List ℕ) → List Bool → Result State Ending
+sorted_at schema s x keys down = do
+  held ← found (at_name s.store x)
+  rows ← as_rows held.value
+  Ok (with_value s x held (Many (stable_sort (in_order schema keys down) rows)))
+
+-- the answer of a text's query to the scalars of expressions
+abbrev pub asked_in : Expressions → World → Store → Span → List ℕ → Result Value Ending
+asked_in es w s at text = do
+  xs ← scalars_of es w s
+  answered at (w.ask text xs)
+
+-- a list with others in front
+abbrev pub prefixed : List Scalar → Result (List Scalar) Ending → Result (List Scalar) Ending
+prefixed front r = r >>= λ rest. Ok (front ++ rest)

@@ -1,0 +1,33 @@
+// What is left to do.
+use crate::held::{Held, List};
+use java_ast::{Expr, Stmt};
+use qbs_base::Name;
+
+/// What is left to do: statements, the further turns of a loop over a list, from the member with a
+/// number on, or of a loop with a test.
+#[derive(Drop)]
+pub enum Frame<'a> {
+    Run(&'a [Stmt]),
+    Each(&'a Name, List<'a>, usize, &'a [Stmt]),
+    Loop(&'a Expr, &'a [Stmt]),
+}
+
+/// How a statement goes on: behind it, out of the innermost loop, out of the method, or into
+/// statements of its own.
+#[derive(Drop)]
+pub enum Next<'a> {
+    On,
+    Leave,
+    Return(Option<Held<'a>>),
+    Enter(Frame<'a>),
+}
+
+/// What a step came to: no turn was taken, one was, there was no loop to leave, or the method
+/// returned.
+#[derive(Drop)]
+pub enum Went<'a> {
+    Still,
+    Turned,
+    Left,
+    Returned(Option<Held<'a>>),
+}

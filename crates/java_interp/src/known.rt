@@ -1,0 +1,97 @@
+// Query texts that were read.
+ghost use Rattle.std.specs.Prelude.{◌≡◌, IfOk, IfSome};
+ghost use Rattle.std.specs.Option.{option_map};
+ghost use Rattle.sql_ast.specs.Reading.{query};
+ghost use Rattle.java_types.specs.Texts.{read_by};
+ghost use Rattle.java_interp.specs.IsRead.{IsRead};
+
+use indexmap::IndexMap;
+use qbs_base::{Fail, NoMemory, Text};
+use schema::Schema;
+use sql_ast::Query;
+use sql_parse::parse_query;
+use std::alloc::Global;
+use std::marker::Model;
+
+/// The query that a text has under the schema, and none where it has none.
+#[tactic(auto, using(crate::proofs::Answerable::answerable))]
+pub fn read_query(alloc: Global, schema: &Schema, text: &Text) -> Result<Option<Query>, NoMemory>
+    ensures read { IfOk result (λ q. option_map query q ≡ read_by schema.now text.now) }
+    ensures answered { IfOk result (λ q. IfSome q (λ q. IsRead schema.now text.now (query q))) }
+{
+    let _size = text.as_str().len();
+    match parse_query(alloc, schema, text) {
+        Ok(q) => Ok(Some(q)),
+        Err(Fail::Fault(_)) => Ok(None),
+        Err(Fail::NoMemory) => Err(NoMemory),
+    }
+}
+
+/// The queries of texts under a schema, as which contracts see it: each text is read once.
+#[derive(Drop)]
+pub struct Queries<'a> {
+    alloc: Global,
+    schema: &'a Schema,
+    known: IndexMap<&'a [u8], Query>,
+}
+
+impl<'a> Model for Queries<'a> {
+    ghost use Rattle.qbs_base.specs.Values as values;
+    ghost use Rattle.java_interp.specs.IsRead.{AreRead};
+
+    ghost Value = { values.Schema };
+
+    ghost view = { λ q. q.schema.now };
+
+    ghost invariant = { λ q. AreRead q.schema.now q.known.entries };
+}
+
+impl<'a> Queries<'a> {
+    /// No texts were read.
+    pub fn new(alloc: Global, schema: &'a Schema) -> Queries<'a>
+        ensures { result ≡ schema.now }
+    {
+        Queries {
+            alloc,
+            schema,
+            known: IndexMap::new(alloc),
+        }
+    }
+
+    /// The schema.
+    pub fn schema(&self) -> &Schema
+        ensures { result.now ≡ self.now }
+    {
+        self.schema
+    }
+
+    /// The query of a text that was read and has one.
+    pub fn find(&self, text: &Text) -> Option<&Query>
+        ensures { IfSome result (λ q. IsRead self.now text.now (query q.now)) }
+    {
+        self.known.get(text.as_slice())
+    }
+
+    fn keep(&mut self, text: &'a Text, q: Query) -> Result<(), NoMemory>
+        requires { IsRead self.old text.now (query q) }
+        ensures { self.new ≡ self.old }
+    {
+        match self.known.insert(text.as_slice(), q) {
+            Ok(_) => Ok(()),
+            Err(_) => Err(NoMemory),
+        }
+    }
+
+    /// Reads a text, where it wasn't read before or has no query.
+    pub fn read(&mut self, text: &'a Text) -> Result<(), NoMemory>
+        ensures { self.new ≡ self.old }
+    {
+        if self.known.contains_key(text.as_slice()) {
+            return Ok(());
+        }
+        match read_query(self.alloc, self.schema, text)? {
+            Some(q) => self.keep(text, q),
+            None => Ok(()),
+        }
+    }
+}

@@ -1,0 +1,223 @@
+// How statements begin.
+ghost use Rattle.std.specs.Prelude.{◌≡◌, ◌≤◌, ◌+◌, IfOk, OnOk, option_map};
+ghost use Rattle.java_ast.specs.Reading.{expression, statement, statements, spelled};
+ghost use Rattle.java_mean.specs.Statement as meant;
+ghost use Rattle.java_mean.specs.Statement.{meaning, test_of};
+ghost use Rattle.java_interp.specs.Gives.{Gives, GivesBy, Leaves};
+ghost use Rattle.java_interp.specs.Held.{rows_in, value_in};
+ghost use Rattle.java_interp.specs.Running.{state, world};
+ghost use Rattle.java_interp.specs.Chosen.{chosen, count_other};
+ghost use Rattle.java_interp.specs.Stack.{Moves, weight_next, count, count_all};
+ghost use Rattle.java_interp.specs.Words.{assigned, added_to, sorted_at};
+
+use crate::asked::{bool_of, list_in, member_of, scalar_of};
+use crate::copying::copy_text;
+use crate::eval::eval;
+use crate::frame::{Frame, Next};
+use crate::held::{Held, List, Variable, list_of, own_rows, rows};
+use crate::machine::Machine;
+use crate::rows::is_among;
+use crate::sorting::sorted;
+use crate::source::Source;
+use crate::stop::Stop;
+use java_ast::{Expr, JTy, Stmt, StmtNode};
+use java_mean::Ending;
+use qbs_base::{Name, NoMemory, Row, Rows, Scalar, Text};
+use std::alloc::Global;
+
+/// The truth value of a condition.
+pub fn test<'a>(source: &Source<'a>, cond: &Expr, m: &Machine<'a>) -> Result<bool, Stop>
+    ensures { Gives result (test_of (expression cond.now) (world source.now) m.now.store) }
+{
+    bool_of(&scalar_of(eval(cond, source, &m.store)?)?)
+}
+
+/// Takes a turn.
+pub fn take_turn(m: &mut Machine) -> Result<(), Stop>
+    ensures leaves { Leaves result (state m.new) (meant.turn (state m.old)) }
+    ensures fewer { OnOk result (m.old.turns ≡ m.new.turns + 1) }
+{
+    if m.turns == 0 {
+        return Err(Stop::Ends(Ending::OutOfTurns));
+    }
+    m.turns -= 1;
+    Ok(())
+}
+
+fn is_set_type(ty: &JTy) -> bool
+    ensures { result ≡ meant.is_set_type (spelled ty.now) }
+{
+    match ty {
+        JTy::Set(_) => true,
+        _ => false,
+    }
+}
+
+// A list that holds nothing, in place of one that is being changed.
+fn nothing<'a>() -> Variable<'a> {
+    Variable {
+        held: Held::Many(List::Lent(&[])),
+        is_set: false,
+    }
+}
+
+fn assign<'a>(name: &'a Name, held: Held<'a>, m: &mut Machine<'a>) -> Result<(), Stop>
+    ensures moves { Leaves result (state m.new) (assigned (state m.old) name.now (value_in held.entry)) }
+    ensures turns { m.new.turns ≡ m.old.turns }
+{
+    let is_set = match m.store.get(name) {
+        Some(variable) => variable.is_set,
+        None => return Err(Stop::Ends(Ending::Stuck)),
+    };
+    m.store.replace(name, Variable { held, is_set })?;
+    Ok(())
+}
+
+fn with_member(alloc: Global, is_set: bool, list: List, row: Row) -> Result<Rows, NoMemory>
+    ensures { IfOk result (λ rows. rows ≡ meant.added is_set (rows_in list.entry) row) }
+{
+    if is_set && is_among(rows(&list), row.cells.as_slice()) {
+        return own_rows(alloc, list);
+    }
+    let mut rows = own_rows(alloc, list)?;
+    rows.push(row)?;
+    Ok(rows)
+}
+
+fn add<'a>(alloc: Global, name: &'a Name, row: Row, m: &mut Machine<'a>) -> Result<(), Stop>
+    ensures moves { Leaves result (state m.new) (added_to (state m.old) name.now row) }
+    ensures turns { m.new.turns ≡ m.old.turns }
+{
+    let Some(old) = m.store.replace(name, nothing())? else {
+        return Err(Stop::Ends(Ending::Stuck));
+    };
+    let is_set = old.is_set;
+    let rows = with_member(alloc, is_set, list_in(old.held)?, row)?;
+    let held = Held::Many(list_of(alloc, rows)?);
+    m.store.replace(name, Variable { held, is_set })?;
+    Ok(())
+}
+
+fn sort<'a>(
+    source: &Source<'a>,
+    name: &'a Name,
+    keys: &[Name],
+    down: &[bool],
+    m: &mut Machine<'a>,
+) -> Result<(), Stop>
+    ensures moves { Leaves result (state m.new) (sorted_at source.now.queries (state m.old) name.now keys.now down.now) }
+    ensures turns { m.new.turns ≡ m.old.turns }
+{
+    let Some(old) = m.store.replace(name, nothing())? else {
+        return Err(Stop::Ends(Ending::Stuck));
+    };
+    let is_set = old.is_set;
+    let taken = own_rows(source.alloc, list_in(old.held)?)?;
+    let ordered = sorted(source.queries.schema(), keys, down, taken)?;
+    let held = Held::Many(list_of(source.alloc, ordered)?);
+    m.store.replace(name, Variable { held, is_set })?;
+    Ok(())
+}
+
+// The text of a printed scalar.
+fn printed(alloc: Global, x: &Scalar) -> Result<Text, NoMemory>
+    ensures { IfOk result (λ t. t ≡ meant.printed x.now) }
+{
+    match x {
+        Scalar::Long(n) => Ok(Text::from_string(n.to_string(alloc)?)),
+        Scalar::Bool(true) => Ok(Text::from_str(alloc, "true")?),
+        Scalar::Bool(false) => Ok(Text::from_str(alloc, "false")?),
+        Scalar::Text(t) => copy_text(alloc, t),
+    }
+}
+
+fn print(alloc: Global, x: &Scalar, m: &mut Machine) -> Result<(), NoMemory>
+    ensures moves { OnOk result (state m.new ≡ meant.with_line (state m.old) (meant.printed x.now)) }
+    ensures turns { m.new.turns ≡ m.old.turns }
+{
+    m.lines.push(printed(alloc, x)?)?;
+    Ok(())
+}
+
+// How a return goes on.
+fn returned<'a>(
+    source: &Source<'a>,
+    value: &Option<Expr>,
+    m: &Machine<'a>,
+) -> Result<Next<'a>, Stop>
+    ensures moves { Moves (world source.now) result (state m.now) (meant.returned (option_map expression value.now) (world source.now) (state m.now)) }
+    ensures falls { IfOk result (λ next. weight_next next ≡ 0) }
+{
+    match value {
+        None => Ok(Next::Return(None)),
+        Some(e) => Ok(Next::Return(Some(eval(e, source, &m.store)?))),
+    }
+}
+
+// The branch of a condition.
+fn choose<'a>(
+    source: &Source<'a>,
+    cond: &Expr,
+    yes: &'a [Stmt],
+    other: &'a Option<Vec<Stmt>>,
+    m: &Machine<'a>,
+) -> Result<Next<'a>, Stop>
+    ensures moves { Moves (world source.now) result (state m.now) (chosen (expression cond.now) (statements yes.now) other.now (world source.now) (state m.now)) }
+    ensures falls { IfOk result (λ next. weight_next next ≤ count_all (statements yes.now) + count_other other.now) }
+{
+    if test(source, cond, m)? {
+        return Ok(Next::Enter(Frame::Run(yes)));
+    }
+    match other {
+        None => Ok(Next::On),
+        Some(other) => Ok(Next::Enter(Frame::Run(other))),
+    }
+}
+
+/// Begins a statement, and says how it goes on.
+#[tactic(auto, using(crate::proofs::Nodes::nodes, crate::proofs::Stacked::meaning_if, crate::proofs::Stacked::count_if))]
+pub fn start<'a>(source: &Source<'a>, s: &'a Stmt, m: &mut Machine<'a>) -> Result<Next<'a>, Stop>
+    ensures moves { Moves (world source.now) result (state m.new) (meaning (statement s.now) (world source.now) (state m.old)) }
+    ensures falls { IfOk result (λ next. weight_next next ≤ count (statement s.now)) }
+    ensures turns { OnOk result (m.new.turns ≡ m.old.turns) }
+{
+    match &s.node {
+        StmtNode::Declare { ty, name, value } => {
+            let held = eval(value, source, &m.store)?;
+            let is_set = is_set_type(ty);
+            m.store.replace(name, Variable { held, is_set })?;
+            Ok(Next::On)
+        }
+        StmtNode::Assign { name, value } => {
+            assign(name, eval(value, source, &m.store)?, m)?;
+            Ok(Next::On)
+        }
+        StmtNode::Add { name, value } => {
+            let row = member_of(source.alloc, eval(value, source, &m.store)?)?;
+            add(source.alloc, name, row, m)?;
+            Ok(Next::On)
+        }
+        StmtNode::Sort { name, keys, down } => {
+            sort(source, name, keys.as_slice(), down.as_slice(), m)?;
+            Ok(Next::On)
+        }
+        StmtNode::If { cond, yes, other } => choose(source, cond, yes, other, m),
+        StmtNode::ForEach {
+            ty: _,
+            name,
+            list,
+            body,
+        } => {
+            let rows = list_in(eval(list, source, &m.store)?)?;
+            Ok(Next::Enter(Frame::Each(name, rows, 0, body)))
+        }
+        StmtNode::While { cond, body } => Ok(Next::Enter(Frame::Loop(cond, body))),
+        StmtNode::Print { value } => {
+            let x = scalar_of(eval(value, source, &m.store)?)?;
+            print(source.alloc, &x, m)?;
+            Ok(Next::On)
+        }
+        StmtNode::Return { value } => returned(source, value, m),
+        StmtNode::Break => Ok(Next::Leave),
+    }
+}
