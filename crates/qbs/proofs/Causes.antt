@@ -1,164 +1,39 @@
--- What holds of each plan that a script may end with, and of what is then written.
-use Rattle.std.proofs.Common.{◌≡◌, ◌≢◌, ℕ, ◌⊎◌, inl, inr, List, [], subst, sym, refl, ap, Bool, true, false, ◌<◌, length, IfSome, Result, Ok, Err, Some, None}
+-- The causes of the statuses, and what is then written.
+use Rattle.std.proofs.Common.{◌≡◌, ◌≢◌, ℕ, ◌⊎◌, inl, inr, List, [], subst, sym, refl, ap, Some, None}
 use Rattle.std.specs.declared.option.Option.{Option}
 use Rattle.std.specs.Io.KnownBytes.{Appends}
-use Rattle.qbs_base.specs.declared.columns.Table.{Table}
 use Rattle.qbs_base.specs.declared.status.Status.{Status}
 use Rattle.qbs_base.specs.declared.status.Status.TheVariants as statuses
 use Rattle.qbs_base.specs.Outside.{AppendsPrefix}
 use Rattle.qbs_base.specs.Status.{KeepsOutput}
-use Rattle.java_lex.specs.declared.token.LexFault.{LexFault}
-use Rattle.java_lex.specs.declared.token.Tokens.{Tokens}
-use Rattle.java_lex.specs.Lexing.{lexed}
-use Rattle.schema.specs.declared.fault.SchemaFault.{SchemaFault}
-use Rattle.schema.specs.Schemas.{schema_of}
 use Rattle.words.specs.declared.command.Command.{Command}
 use Rattle.words.specs.declared.command.Command.TheVariants as commands
 use Rattle.words.specs.declared.command.Options.{Options}
 use Rattle.words.specs.Reading.{plain}
-use Rattle.qbs.specs.declared.form.FirstForm.{FirstForm}
 use Rattle.qbs.specs.declared.plan.Plan.{Plan}
 use Rattle.qbs.specs.Deliver.{Change}
-use Rattle.qbs.specs.Form.{nodes_of, first_form}
-use Rattle.qbs.specs.Lines.{schema_text, lex_text}
-use Rattle.qbs.specs.Plan.{Given, Script, ends, reads, Due, line, not_yet, read_fault, too_long}
-use Rattle.qbs.specs.Program.{program, script_for, rewrite_or_not_yet, rewriting, with_schema, with_tokens, with_form, with_column, loop_place, long_column, asks_more}
-use Rattle.qbs.specs.Statuses.{IsDue, IsDone, OfRewrite, OfTold, IsRewritten, IsNoSchema, HasNoTokens, IsOutside, CauseOf, Ended, CutShort, RefusesWords}
-use Rattle.qbs.proofs.Forms.{found, all_found}
-use Rattle.qbs.proofs.Keeping.{form_keeps}
-
--- each end of a script has P
-abbrev pub Always : Given → (Plan → Type 0) → Script → Type 0
-Always files P (ends plan) = P plan
-Always files P (reads name limit label next) =
-    (files.rose → P (read_fault name))
-    × (IfSome (files.told name) (λ all. limit < length all) → P (too_long label))
-    × ((bytes : List ℕ) → IfSome (files.told name) (λ all. bytes ≡ all) → Always files P (next bytes))
-
-pub always_due : (files : Given) (P : Plan → Type 0) (script : Script) (plan : Plan) →
-    Always files P script → Due files script plan → P plan
-always_due files P (ends due) plan always d = subst P (sym d) always
-always_due files P (reads name limit label next) plan always d =
-    elim d [
-      | inl fault ↦ subst P (sym fault.1) (always.0 fault.0)
-      | inr rest ↦ elim rest [
-        | inl long ↦ subst P (sym long.1) (always.1 long.0)
-        | inr step ↦ always_due files P (next step.0) plan (always.2 step.0 step.2) step.3
-      ]
-    ]
-
--- the plan's status has its cause
-pub record IsFair (files : Given) (command : Option Command) (plan : Plan) : Type 0 where
-  pub cause : CauseOf files command plan.status plan.out plan.rep
-
--- what is true of what was read is true of what is told
-told_is : (told : Option (List ℕ)) (bytes : List ℕ) (P : List ℕ → Type 0) → IfSome told (λ all. bytes ≡ all) → P bytes → IfSome told P
-told_is (Some all) bytes P h p = subst P h p
-told_is None bytes P h p = tt
-
-both_told : (told : List ℕ → Option (List ℕ)) (schema source s p : List ℕ) (P : List ℕ → List ℕ → Type 0) →
-    IfSome (told schema) (λ all. s ≡ all) → IfSome (told source) (λ all. p ≡ all) → P s p → OfTold told schema source P
-both_told told schema source s p P hs hp h =
-    told_is (told schema) s (λ s. IfSome (told source) (λ p. P s p)) hs (told_is (told source) p (P s) hp h)
-
--- the ends of `rewrite`, once both files are read
-module _ (files : Given) (o : Options) (schema source s p : List ℕ) (off : asks_more o ≡ false)
-    (hs : IfSome (files.told schema) (λ all. s ≡ all)) (hp : IfSome (files.told source) (λ all. p ≡ all)) where
-  Fair : Plan → Type 0
-  Fair plan = IsFair files (Some (commands.Rewrite o schema source)) plan
-
-  outside_fair : IsOutside s p → IsFair files (Some (commands.Rewrite o schema source)) not_yet
-  outside_fair h = record { cause = (inr (both_told files.told schema source s p IsOutside hs hp h), refl, refl) }
-
-  by_column : (tables : List Table) → schema_of s ≡ Ok tables → (tokens : Tokens) → lexed p ≡ Ok tokens →
-      (f : FirstForm) → first_form (nodes_of tokens.list) ≡ Some f → (place : Option (ℕ × ℕ)) → long_column tables f ≡ place →
-      IsFair files (Some (commands.Rewrite o schema source)) (with_column f (loop_place tokens.list) place)
-  by_column tables is_schema tokens has_tokens f is_form (Some place) is_column =
-      record {
-        cause = (
-          off,
-          both_told files.told schema source s p (λ s p. IsRewritten s p _ _) hs hp
-              (record {
-                tables = tables;
-                tokens = tokens;
-                form = f;
-                table = place.0;
-                column = place.1;
-                is_schema = is_schema;
-                has_tokens = has_tokens;
-                has_form = found (nodes_of tokens.list) f is_form;
-                has_column = is_column;
-                keeps = form_keeps s p tables tokens f place.0 place.1 (loop_place tokens.list) is_schema has_tokens (found (nodes_of tokens.list) f is_form) is_column;
-                text = refl;
-                report = refl;
-              }),
-        );
-      }
-  by_column tables is_schema tokens has_tokens f is_form None is_column =
-      outside_fair
-      (record {
-        tables = tables;
-        tokens = tokens;
-        is_schema = is_schema;
-        has_tokens = has_tokens;
-        outside = λ g h. let e : first_form (nodes_of tokens.list) ≡ Some g = all_found (nodes_of tokens.list) g h in
-            let same : f ≡ g = cc in subst (λ f. long_column tables f ≡ None) same is_column;
-      })
-
-  by_form : (tables : List Table) → schema_of s ≡ Ok tables → (tokens : Tokens) → lexed p ≡ Ok tokens →
-      (form : Option FirstForm) → first_form (nodes_of tokens.list) ≡ form →
-      IsFair files (Some (commands.Rewrite o schema source)) (with_form tables (loop_place tokens.list) form)
-  by_form tables is_schema tokens has_tokens (Some f) e = by_column tables is_schema tokens has_tokens f e (long_column tables f) refl
-  by_form tables is_schema tokens has_tokens None e =
-      outside_fair
-      (record {
-        tables = tables;
-        tokens = tokens;
-        is_schema = is_schema;
-        has_tokens = has_tokens;
-        outside = λ g h. let f : first_form (nodes_of tokens.list) ≡ Some g = all_found (nodes_of tokens.list) g h in absurd cc;
-      })
-
-  by_tokens : (tables : List Table) → schema_of s ≡ Ok tables → (tokens : Result Tokens LexFault) → lexed p ≡ tokens →
-      IsFair files (Some (commands.Rewrite o schema source)) (with_tokens tables tokens)
-  by_tokens tables is_schema (Ok tokens) e = by_form tables is_schema tokens e (first_form (nodes_of tokens.list)) refl
-  by_tokens tables is_schema (Err fault) e =
-      record { cause = (refl, told_is (files.told source) p (λ p. HasNoTokens p (line (lex_text fault))) hp (record { fault = fault; is = e; text = refl })) }
-
-  by_schema : (tables : Result (List Table) SchemaFault) → schema_of s ≡ tables →
-      IsFair files (Some (commands.Rewrite o schema source)) (with_schema tables p)
-  by_schema (Ok tables) e = by_tokens tables e (lexed p) refl
-  by_schema (Err fault) e =
-      record { cause = (refl, told_is (files.told schema) s (λ s. IsNoSchema s (line (schema_text fault))) hs (record { fault = fault; is = e; text = refl })) }
-
-  fair_rewriting : IsFair files (Some (commands.Rewrite o schema source)) (rewriting s p)
-  fair_rewriting = by_schema (schema_of s) refl
+use Rattle.qbs.specs.Plan.{Given, Due}
+use Rattle.qbs.specs.Program.{program, script_for, asks_more, call_of}
+use Rattle.qbs.specs.Running.{Call}
+use Rattle.qbs.specs.Statuses.{IsDue, IsDone, RewriteCause, RunCause, SqlCause, NotBuiltCause, WordsCause, PlainCause, CauseOf, Ended, CutShort, RefusesWords}
+use Rattle.qbs.proofs.Always.{Always, always_due}
+use Rattle.qbs.proofs.Fair.{IsFair}
+use Rattle.qbs.proofs.RewriteCauses.{fair_rewrite}
+use Rattle.qbs.proofs.RunCauses.{fair_run}
+use Rattle.qbs.proofs.SqlCauses.{fair_sql}
 
 -- the ends of each command
-fair_rewrite : (files : Given) (o : Options) (schema source : List ℕ) (more : Bool) → asks_more o ≡ more →
-    Always files (IsFair files (Some (commands.Rewrite o schema source))) (rewrite_or_not_yet more schema source)
-fair_rewrite files o schema source true e = record { cause = (inl e, refl, refl) }
-fair_rewrite files o schema source false e = (
-  λ r. record { cause = (r, refl, inl refl) },
-  λ long. record { cause = (refl, inl (long, refl)) },
-  λ s hs. (
-    λ r. record { cause = (r, refl, inr refl) },
-    λ long. record { cause = (refl, inr (long, refl)) },
-    λ p hp. fair_rewriting files o schema source s p e hs hp,
-  ),
-)
-
 fair_script : (files : Given) (command : Option Command) → Always files (IsFair files command) (script_for command)
-fair_script files None = record { cause = (refl, refl, refl) }
+fair_script files None = record { cause = (refl, refl) }
 fair_script files (Some (commands.Rewrite o schema source)) = fair_rewrite files o schema source (asks_more o) refl
-fair_script files (Some (commands.Prove o s p)) = record { cause = (tt, refl, refl) }
-fair_script files (Some (commands.Check s p b)) = record { cause = (tt, refl, refl) }
-fair_script files (Some (commands.Run o s p d m args)) = record { cause = (tt, refl, refl) }
-fair_script files (Some (commands.Sql s d q)) = record { cause = (tt, refl, refl) }
-fair_script files (Some (commands.Make n)) = record { cause = (tt, refl, refl) }
-fair_script files (Some (commands.Unnest o s p)) = record { cause = (tt, refl, refl) }
-fair_script files (Some (commands.Inline s p)) = record { cause = (tt, refl, refl) }
-fair_script files (Some (commands.Gather o s p)) = record { cause = (tt, refl, refl) }
+fair_script files (Some (commands.Prove o s p)) = record { cause = (refl, refl) }
+fair_script files (Some (commands.Check s p b)) = record { cause = (refl, refl) }
+fair_script files (Some (commands.Run o s p d m args)) = fair_run files o s p d m args (asks_more o) refl
+fair_script files (Some (commands.Sql s d q)) = fair_sql files s d q
+fair_script files (Some (commands.Make n)) = record { cause = (refl, refl) }
+fair_script files (Some (commands.Unnest o s p)) = record { cause = (refl, refl) }
+fair_script files (Some (commands.Inline s p)) = record { cause = (refl, refl) }
+fair_script files (Some (commands.Gather o s p)) = record { cause = (refl, refl) }
 
 fair_due : (files : Given) (words : List (List ℕ)) (plan : Plan) → IsDue files words plan → IsFair files (plain words) plan
 fair_due files words plan d =
@@ -168,40 +43,140 @@ fair_due files words plan d =
     ]
 
 -- a refusal has nothing for the output
-of_rewrite : (command : Option Command) (P : Options → List ℕ → List ℕ → Type 0) (Q : Type 0) →
-    OfRewrite command P → ((o : Options) (s p : List ℕ) → P o s p → Q) → Q
-of_rewrite (Some (commands.Rewrite o s p)) P Q h f = f o s p h
-of_rewrite (Some (commands.Prove o s p)) P Q h f = absurd h
-of_rewrite (Some (commands.Check s p b)) P Q h f = absurd h
-of_rewrite (Some (commands.Run o s p d m args)) P Q h f = absurd h
-of_rewrite (Some (commands.Sql s d q)) P Q h f = absurd h
-of_rewrite (Some (commands.Make n)) P Q h f = absurd h
-of_rewrite (Some (commands.Unnest o s p)) P Q h f = absurd h
-of_rewrite (Some (commands.Inline s p)) P Q h f = absurd h
-of_rewrite (Some (commands.Gather o s p)) P Q h f = absurd h
-of_rewrite None P Q h f = absurd h
+rewrite_no_text : (files : Given) (o : Options) (s p : List ℕ) (status : Status) (out rep : List ℕ) → RewriteCause files o s p status out rep → KeepsOutput status → out ≡ []
+rewrite_no_text files o s p statuses.Ok out rep h k = absurd k
+rewrite_no_text files o s p statuses.Refused out rep h k = absurd k
+rewrite_no_text files o s p statuses.Words out rep h k = absurd h
+rewrite_no_text files o s p statuses.ReadFault out rep h k = h.1
+rewrite_no_text files o s p statuses.WriteFault out rep h k = absurd k
+rewrite_no_text files o s p statuses.Schema out rep h k = h.0
+rewrite_no_text files o s p statuses.Source out rep h k = h.0
+rewrite_no_text files o s p statuses.Types out rep h k = h.0
+rewrite_no_text files o s p statuses.Data out rep h k = absurd h
+rewrite_no_text files o s p statuses.Faulted out rep h k = absurd h
+rewrite_no_text files o s p statuses.Bundle out rep h k = absurd h
+rewrite_no_text files o s p statuses.Turns out rep h k = absurd h
+rewrite_no_text files o s p statuses.NoMemory out rep h k = absurd h
+rewrite_no_text files o s p statuses.Limit out rep h k = h.0
+rewrite_no_text files o s p statuses.NotYet out rep h k = h.0
 
-no_text : (files : Given) (command : Option Command) (status : Status) (out rep : List ℕ) →
-    CauseOf files command status out rep → KeepsOutput status → out ≡ []
-no_text files command statuses.Ok out rep h k = absurd k
-no_text files command statuses.Refused out rep h k = absurd k
-no_text files command statuses.Words out rep h k = h.1
-no_text files command statuses.ReadFault out rep h k = of_rewrite command _ (out ≡ []) h (λ o s p x. x.1)
-no_text files command statuses.WriteFault out rep h k = absurd k
-no_text files command statuses.Schema out rep h k = of_rewrite command _ (out ≡ []) h (λ o s p x. x.0)
-no_text files command statuses.Source out rep h k = of_rewrite command _ (out ≡ []) h (λ o s p x. x.0)
-no_text files command statuses.Types out rep h k = absurd h
-no_text files command statuses.Data out rep h k = absurd h
-no_text files command statuses.Faulted out rep h k = absurd h
-no_text files command statuses.Bundle out rep h k = absurd h
-no_text files command statuses.Turns out rep h k = absurd h
-no_text files command statuses.NoMemory out rep h k = h.0
-no_text files command statuses.Limit out rep h k = of_rewrite command _ (out ≡ []) h (λ o s p x. x.0)
-no_text files command statuses.NotYet out rep h k = h.1
+sql_no_text : (files : Given) (s d q : List ℕ) (status : Status) (out rep : List ℕ) → SqlCause files s d q status out rep → KeepsOutput status → out ≡ []
+sql_no_text files s d q statuses.Ok out rep h k = absurd k
+sql_no_text files s d q statuses.Refused out rep h k = absurd k
+sql_no_text files s d q statuses.Words out rep h k = absurd h
+sql_no_text files s d q statuses.ReadFault out rep h k = h.1
+sql_no_text files s d q statuses.WriteFault out rep h k = absurd k
+sql_no_text files s d q statuses.Schema out rep h k = h.0
+sql_no_text files s d q statuses.Source out rep h k = absurd h
+sql_no_text files s d q statuses.Types out rep h k = h.0
+sql_no_text files s d q statuses.Data out rep h k = h.0
+sql_no_text files s d q statuses.Faulted out rep h k = h.0
+sql_no_text files s d q statuses.Bundle out rep h k = absurd h
+sql_no_text files s d q statuses.Turns out rep h k = absurd h
+sql_no_text files s d q statuses.NoMemory out rep h k = absurd h
+sql_no_text files s d q statuses.Limit out rep h k = h.0
+sql_no_text files s d q statuses.NotYet out rep h k = absurd h
+
+run_no_text : (files : Given) (o : Options) (s p d : List ℕ) (call : Call) (status : Status) (out rep : List ℕ) → RunCause files o s p d call status out rep → KeepsOutput status → out ≡ []
+run_no_text files o s p d call statuses.Ok out rep h k = absurd k
+run_no_text files o s p d call statuses.Refused out rep h k = absurd k
+run_no_text files o s p d call statuses.Words out rep h k = absurd h
+run_no_text files o s p d call statuses.ReadFault out rep h k = h.1
+run_no_text files o s p d call statuses.WriteFault out rep h k = absurd k
+run_no_text files o s p d call statuses.Schema out rep h k = h.0
+run_no_text files o s p d call statuses.Source out rep h k = h.0
+run_no_text files o s p d call statuses.Types out rep h k = h.0
+run_no_text files o s p d call statuses.Data out rep h k = h.0
+run_no_text files o s p d call statuses.Faulted out rep h k = h.0
+run_no_text files o s p d call statuses.Bundle out rep h k = absurd h
+run_no_text files o s p d call statuses.Turns out rep h k = h.0
+run_no_text files o s p d call statuses.NoMemory out rep h k = absurd h
+run_no_text files o s p d call statuses.Limit out rep h k = h.0
+run_no_text files o s p d call statuses.NotYet out rep h k = h.0
+
+other_no_text : (status : Status) (out rep : List ℕ) → NotBuiltCause status out rep → out ≡ []
+other_no_text statuses.NotYet out rep h = h.0
+other_no_text statuses.Ok out rep h = absurd h
+other_no_text statuses.Refused out rep h = absurd h
+other_no_text statuses.Words out rep h = absurd h
+other_no_text statuses.ReadFault out rep h = absurd h
+other_no_text statuses.WriteFault out rep h = absurd h
+other_no_text statuses.Schema out rep h = absurd h
+other_no_text statuses.Source out rep h = absurd h
+other_no_text statuses.Types out rep h = absurd h
+other_no_text statuses.Data out rep h = absurd h
+other_no_text statuses.Faulted out rep h = absurd h
+other_no_text statuses.Bundle out rep h = absurd h
+other_no_text statuses.Turns out rep h = absurd h
+other_no_text statuses.NoMemory out rep h = absurd h
+other_no_text statuses.Limit out rep h = absurd h
+
+words_no_text : (status : Status) (out rep : List ℕ) → WordsCause status out rep → out ≡ []
+words_no_text statuses.Words out rep h = h.0
+words_no_text statuses.Ok out rep h = absurd h
+words_no_text statuses.Refused out rep h = absurd h
+words_no_text statuses.ReadFault out rep h = absurd h
+words_no_text statuses.WriteFault out rep h = absurd h
+words_no_text statuses.Schema out rep h = absurd h
+words_no_text statuses.Source out rep h = absurd h
+words_no_text statuses.Types out rep h = absurd h
+words_no_text statuses.Data out rep h = absurd h
+words_no_text statuses.Faulted out rep h = absurd h
+words_no_text statuses.Bundle out rep h = absurd h
+words_no_text statuses.Turns out rep h = absurd h
+words_no_text statuses.NoMemory out rep h = absurd h
+words_no_text statuses.Limit out rep h = absurd h
+words_no_text statuses.NotYet out rep h = absurd h
+
+plain_no_text : (files : Given) (command : Option Command) (status : Status) (out rep : List ℕ) → PlainCause files command status out rep → KeepsOutput status → out ≡ []
+plain_no_text files None status out rep h k = words_no_text status out rep h
+plain_no_text files (Some (commands.Rewrite o s p)) status out rep h k = rewrite_no_text files o s p status out rep h k
+plain_no_text files (Some (commands.Prove o s p)) status out rep h k = other_no_text status out rep h
+plain_no_text files (Some (commands.Check s p b)) status out rep h k = other_no_text status out rep h
+plain_no_text files (Some (commands.Run o s p d m args)) status out rep h k = run_no_text files o s p d (call_of o m args) status out rep h k
+plain_no_text files (Some (commands.Sql s d q)) status out rep h k = sql_no_text files s d q status out rep h k
+plain_no_text files (Some (commands.Make n)) status out rep h k = other_no_text status out rep h
+plain_no_text files (Some (commands.Unnest o s p)) status out rep h k = other_no_text status out rep h
+plain_no_text files (Some (commands.Inline s p)) status out rep h k = other_no_text status out rep h
+plain_no_text files (Some (commands.Gather o s p)) status out rep h k = other_no_text status out rep h
+
+-- a cause is want of memory or one of the plain ones
+split : (files : Given) (command : Option Command) (status : Status) (out rep : List ℕ) → CauseOf files command status out rep → (out ≡ []) ⊎ PlainCause files command status out rep
+split files command statuses.NoMemory out rep h = inl h.0
+split files command statuses.Ok out rep h = inr h
+split files command statuses.Refused out rep h = inr h
+split files command statuses.Words out rep h = inr h
+split files command statuses.ReadFault out rep h = inr h
+split files command statuses.WriteFault out rep h = inr h
+split files command statuses.Schema out rep h = inr h
+split files command statuses.Source out rep h = inr h
+split files command statuses.Types out rep h = inr h
+split files command statuses.Data out rep h = inr h
+split files command statuses.Faulted out rep h = inr h
+split files command statuses.Bundle out rep h = inr h
+split files command statuses.Turns out rep h = inr h
+split files command statuses.Limit out rep h = inr h
+split files command statuses.NotYet out rep h = inr h
+
+no_text : (files : Given) (command : Option Command) (status : Status) (out rep : List ℕ) → CauseOf files command status out rep → KeepsOutput status → out ≡ []
+no_text files command status out rep h k = elim (split files command status out rep h) [ inl none ↦ none | inr plain ↦ plain_no_text files command status out rep plain k ]
+
+-- no cause is a failed write
+write_fault_has_no_cause : (files : Given) (command : Option Command) (out rep : List ℕ) → CauseOf files command statuses.WriteFault out rep → ⊥
+write_fault_has_no_cause files None out rep h = h
+write_fault_has_no_cause files (Some (commands.Rewrite o s p)) out rep h = h
+write_fault_has_no_cause files (Some (commands.Prove o s p)) out rep h = h
+write_fault_has_no_cause files (Some (commands.Check s p b)) out rep h = h
+write_fault_has_no_cause files (Some (commands.Run o s p d m args)) out rep h = h
+write_fault_has_no_cause files (Some (commands.Sql s d q)) out rep h = h
+write_fault_has_no_cause files (Some (commands.Make n)) out rep h = h
+write_fault_has_no_cause files (Some (commands.Unnest o s p)) out rep h = h
+write_fault_has_no_cause files (Some (commands.Inline s p)) out rep h = h
+write_fault_has_no_cause files (Some (commands.Gather o s p)) out rep h = h
 
 no_write_fault : (files : Given) (command : Option Command) (plan : Plan) → IsFair files command plan → plan.status ≢ statuses.WriteFault
 no_write_fault files command plan fair e =
-    let bad : ⊥ = subst (λ status. CauseOf files command status plan.out plan.rep) e fair.cause in bad
+    write_fault_has_no_cause files command plan.out plan.rep (subst (λ status. CauseOf files command status plan.out plan.rep) e fair.cause)
 
 -- the causes of the statuses, as the top call states them
 pub record HasCauses (files : Given) (words : List (List ℕ)) (out rep : Change) (result : Status) : Type 0 where

@@ -1,7 +1,15 @@
+pub mod Always
 pub mod Answered
+pub mod Asked
+pub mod Called
 pub mod Causes
 pub mod Columns
+pub mod Fair
 pub mod Forms
 pub mod Keeping
 pub mod Lexed
 pub mod Lined
+pub mod Loading
+pub mod RewriteCauses
+pub mod RunCauses
+pub mod SqlCauses

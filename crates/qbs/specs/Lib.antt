@@ -1,8 +1,16 @@
+pub mod Asking
 pub mod Deliver
 pub mod Fetch
 pub mod Form
+pub mod Found
 pub mod Lines
 pub mod Made
 pub mod Plan
 pub mod Program
+pub mod Queried
+pub mod Ran
+pub mod Results
+pub mod Running
 pub mod Statuses
+pub mod Tables
+pub mod Words

@@ -1,19 +1,18 @@
 -- The whole program: what is due for words and files.
-use Rattle.std.specs.Prelude.{ℕ, List, ◌++◌, Bool, true, false, ◌||◌, codes, Result, Ok, Err, slice_get, if◌then◌else◌}
+use Rattle.std.specs.Prelude.{ℕ, List, ◌++◌, Bool, true, false, ◌||◌, codes, Result, Ok, Err}
 use Rattle.std.specs.declared.option.Option.{Option}
 use Rattle.std.specs.declared.option.Option.TheVariants.{Some, None}
-use Rattle.qbs_base.specs.declared.columns.Column.{Column}
 use Rattle.qbs_base.specs.declared.columns.Table.{Table}
-use Rattle.qbs_base.specs.declared.scalar.Ty.{Ty}
-use Rattle.qbs_base.specs.declared.scalar.Ty.TheVariants as tys
 use Rattle.qbs_base.specs.declared.span.Span.{Span}
 use Rattle.qbs_base.specs.declared.status.Status.{Status}
 use Rattle.java_ast.specs.Canonical.{canonical}
-use Rattle.java_lex.specs.declared.token.Token.{Token}
 use Rattle.java_lex.specs.declared.token.LexFault.{LexFault}
 use Rattle.java_lex.specs.declared.token.Tokens.{Tokens}
 use Rattle.java_lex.specs.Lexing.{lexed}
-use Rattle.java_mean.specs.Expression.{table_number, column_number, columns_at}
+use Rattle.java_ast.specs.Tree.{PlainProgram}
+use Rattle.java_mean.specs.declared.rule.TypeFault.{TypeFault}
+use Rattle.java_parser.specs.declared.fault.ParseFault.{ParseFault}
+use Rattle.java_parser.specs.Parsed.{parsed}
 use Rattle.schema.specs.declared.fault.SchemaFault.{SchemaFault}
 use Rattle.schema.specs.Schemas.{schema_of}
 use Rattle.words.specs.declared.command.Command.{Command}
@@ -22,43 +21,14 @@ use Rattle.words.specs.declared.command.Options.{Options}
 use Rattle.words.specs.Reading.{plain}
 use Rattle.qbs.specs.declared.form.FirstForm.{FirstForm}
 use Rattle.qbs.specs.declared.plan.Plan.{Plan}
-use Rattle.qbs.specs.Form.{with, nodes_of, first_form}
-use Rattle.qbs.specs.Lines.{schema_text, lex_text, found_text}
+pub use Rattle.qbs.specs.Found.{place_of, loop_place, is_long_type, is_long_column, is_long_at, long_column}
+use Rattle.qbs.specs.Form.{nodes_of, first_form}
+use Rattle.qbs.specs.Asking.{sql}
+pub use Rattle.qbs.specs.Running.{fault_of}
+use Rattle.qbs.specs.Running.{Call, run}
+use Rattle.qbs.specs.Lines.{schema_text, lex_text, parse_text, type_text, found_text}
 use Rattle.qbs.specs.Made.{rewritten}
 use Rattle.qbs.specs.Plan.{Script, ends, reads, line, refusal, not_yet, bad_words}
-
--- ---- One loop of the first form
-
-abbrev pub nowhere : Span
-nowhere = record { line = 0; column = 0; start = 0; end = 0 }
-
-abbrev pub place_of : Option Token → Span
-place_of (Some token) = token.span
-place_of None = nowhere
-
--- where the `for` of the first form stands
-abbrev pub loop_place : List Token → Span
-loop_place tokens = place_of (slice_get tokens 24)
-
-abbrev pub is_long_type : Ty → Bool
-is_long_type tys.Long = true
-is_long_type tys.Bool = false
-is_long_type tys.Text = false
-
-abbrev pub is_long_column : Option Column → Bool
-is_long_column (Some column) = is_long_type column.ty
-is_long_column None = false
-
--- whether a table's column is of type Long
-abbrev pub is_long_at : List Table → ℕ → ℕ → Bool
-is_long_at tables table column = is_long_column (slice_get (columns_at tables table) column)
-
--- the numbers of the form's table and column in the schema, where there are these and the column is of type Long
-abbrev pub long_column : List Table → FirstForm → Option (ℕ × ℕ)
-long_column tables f =
-    with (table_number tables f.table) (λ table.
-    with (column_number (columns_at tables table) f.column) (λ column.
-    if is_long_at tables table column then Some (table, column) else None))
 
 -- the class with the query in place of the loop, and one line that the loop was found
 abbrev pub with_column : FirstForm → Span → Option (ℕ × ℕ) → Plan
@@ -72,9 +42,18 @@ with_form tables at (Some f) = with_column f at (long_column tables f)
 
 -- ---- The command `rewrite`
 
+-- the source is rewritten where it is well typed
+abbrev pub with_types : List Table → Tokens → Option TypeFault → Plan
+with_types tables tokens (Some fault) = refusal Status.Types (type_text fault)
+with_types tables tokens None = with_form tables (loop_place tokens.list) (first_form (nodes_of tokens.list))
+
+abbrev pub with_program : List Table → Tokens → Result PlainProgram ParseFault → Plan
+with_program tables tokens (Err fault) = refusal Status.Source (parse_text fault)
+with_program tables tokens (Ok p) = with_types tables tokens (fault_of tables p)
+
 abbrev pub with_tokens : List Table → Result Tokens LexFault → Plan
 with_tokens tables (Err fault) = refusal Status.Source (lex_text fault)
-with_tokens tables (Ok tokens) = with_form tables (loop_place tokens.list) (first_form (nodes_of tokens.list))
+with_tokens tables (Ok tokens) = with_program tables tokens (parsed tokens)
 
 abbrev pub with_schema : Result (List Table) SchemaFault → List ℕ → Plan
 with_schema (Err fault) source = refusal Status.Schema (schema_text fault)
@@ -103,9 +82,23 @@ abbrev pub rewrite_or_not_yet : Bool → List ℕ → List ℕ → Script
 rewrite_or_not_yet true schema source = ends not_yet
 rewrite_or_not_yet false schema source = rewrite schema source
 
+abbrev pub run_or_not_yet : Bool → List ℕ → List ℕ → List ℕ → Call → Script
+run_or_not_yet true schema source folder call = ends not_yet
+run_or_not_yet false schema source folder call = run schema source folder call
+
+-- the turns of a run, where the words give none
+abbrev pub turns_of : Option ℕ → ℕ
+turns_of None = 1000000
+turns_of (Some n) = n
+
+abbrev pub call_of : Options → List ℕ → List (List ℕ) → Call
+call_of o method words = record { method = method; words = words; turns = turns_of o.turns; rewritten = o.rewritten }
+
 -- what is done for a command; the other commands aren't built yet
 abbrev pub script_of : Command → Script
 script_of (commands.Rewrite o schema source) = rewrite_or_not_yet (asks_more o) schema source
+script_of (commands.Sql schema folder query) = sql schema folder query
+script_of (commands.Run o schema source folder method words) = run_or_not_yet (asks_more o) schema source folder (call_of o method words)
 script_of _ = ends not_yet
 
 -- what is done for plain words and for others

@@ -1,6 +1,7 @@
 //! The top call: words and files to a status and two texts.
 #![tactic(auto)]
 
+mod arguments;
 mod clean;
 mod deliver;
 mod fetch;
@@ -9,7 +10,12 @@ mod kept;
 mod lines;
 mod made;
 mod plan;
+mod results;
 mod rewrite;
+mod rules;
+mod run;
+mod sql;
+mod tables;
 mod top;
 
 pub use clean::qbs_main_over_clean_ends;

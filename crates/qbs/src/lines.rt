@@ -1,63 +1,21 @@
 // The lines of refusals by numbered rules, and of reports.
 ghost use Rattle.std.specs.Prelude.{◌≡◌, ◌++◌, [], IfOk, codes, string_bytes};
 ghost use Rattle.qbs.specs.Fetch.{StopsWith};
-ghost use Rattle.qbs.specs.Lines.{lex_number as number_of_lex, lex_name as name_of_lex, lex_text, schema_number as number_of_schema, schema_name as name_of_schema, schema_text, rule_text, found_text};
+ghost use Rattle.qbs.specs.Lines.{lex_text, parse_text, type_text, nowhere as no_place, word_text, data_text, row_text, fault_text, schema_text, rule_text, found_text};
 ghost use Rattle.qbs.specs.Plan.{line, refusal};
 
 use crate::Plan;
 use crate::fetch::Stop;
-use java_lex::{LexFault, LexRule};
-use qbs_base::{Bytes, Span, Status};
-use schema::{SchemaFault, SchemaRule};
+use crate::rules::{
+    data_name, data_number, lex_name, lex_number, parse_name, parse_number, run_name, run_number,
+    schema_name, schema_number, type_name, type_number,
+};
+use java_lex::LexFault;
+use java_mean::{RunFault, TypeFault, TypeRule};
+use java_parser::ParseFault;
+use qbs_base::{Bytes, Name, Span, Status};
+use schema::{DataFault, SchemaFault};
 use std::alloc::{AllocError, Global};
-
-fn lex_number(rule: LexRule) -> u64
-    ensures { result ≡ number_of_lex rule }
-{
-    match rule {
-        LexRule::BadByte => 1,
-        LexRule::OpenText => 2,
-        LexRule::OpenComment => 3,
-        LexRule::LongTooLarge => 4,
-    }
-}
-
-fn lex_name(rule: LexRule) -> &'static str
-    ensures { result.now ≡ name_of_lex rule }
-{
-    match rule {
-        LexRule::BadByte => "BadByte",
-        LexRule::OpenText => "OpenText",
-        LexRule::OpenComment => "OpenComment",
-        LexRule::LongTooLarge => "LongTooLarge",
-    }
-}
-
-fn schema_number(rule: SchemaRule) -> u64
-    ensures { result ≡ number_of_schema rule }
-{
-    match rule {
-        SchemaRule::BadToken => 1,
-        SchemaRule::DoubleTable => 2,
-        SchemaRule::DoubleColumn => 3,
-        SchemaRule::NameReserved => 4,
-        SchemaRule::TooManyTables => 5,
-        SchemaRule::TooManyColumns => 6,
-    }
-}
-
-fn schema_name(rule: SchemaRule) -> &'static str
-    ensures { result.now ≡ name_of_schema rule }
-{
-    match rule {
-        SchemaRule::BadToken => "BadToken",
-        SchemaRule::DoubleTable => "DoubleTable",
-        SchemaRule::DoubleColumn => "DoubleColumn",
-        SchemaRule::NameReserved => "NameReserved",
-        SchemaRule::TooManyTables => "TooManyTables",
-        SchemaRule::TooManyColumns => "TooManyColumns",
-    }
-}
 
 // A rule by its number and name, and its place, behind a text.
 fn rule_line(
@@ -105,6 +63,92 @@ pub fn schema_refused(alloc: Global, fault: &SchemaFault) -> Stop
     let name = schema_name(fault.rule);
     match rule_line(alloc, "qbs: schema: ", number, name, fault.at) {
         Ok(line) => stop(alloc, Status::Schema, line),
+        Err(_) => Stop::Memory,
+    }
+}
+
+/// The refusal of tokens without a program.
+pub fn parse_refused(alloc: Global, fault: &ParseFault) -> Stop
+    ensures { StopsWith (refusal Status.Source (parse_text fault.now)) result }
+{
+    let number = parse_number(fault.rule);
+    let name = parse_name(fault.rule);
+    match rule_line(alloc, "qbs: source: parse ", number, name, fault.at) {
+        Ok(line) => stop(alloc, Status::Source, line),
+        Err(_) => Stop::Memory,
+    }
+}
+
+/// The refusal of a program that breaks a type rule.
+pub fn type_refused(alloc: Global, fault: &TypeFault) -> Stop
+    ensures { StopsWith (refusal Status.Types (type_text fault.now)) result }
+{
+    let number = type_number(fault.rule);
+    let name = type_name(fault.rule);
+    match rule_line(alloc, "qbs: types: ", number, name, fault.at) {
+        Ok(line) => stop(alloc, Status::Types, line),
+        Err(_) => Stop::Memory,
+    }
+}
+
+/// The place of what stands in no text that was read.
+pub fn nowhere() -> Span
+    ensures { result ≡ no_place }
+{
+    Span {
+        line: 0,
+        column: 0,
+        start: 0,
+        end: 0,
+    }
+}
+
+/// The refusal of a word beside the source that breaks a type rule.
+pub fn word_refused(alloc: Global, rule: TypeRule) -> Stop
+    ensures { StopsWith (refusal Status.Types (word_text rule)) result }
+{
+    type_refused(
+        alloc,
+        &TypeFault {
+            rule,
+            at: nowhere(),
+        },
+    )
+}
+
+fn row_line(
+    alloc: Global,
+    table: &str,
+    number: u64,
+    name: &str,
+    row: u64,
+) -> Result<String, AllocError>
+    ensures { IfOk result (λ s. string_bytes s ≡ line (row_text table.now number name.now row)) }
+{
+    let line = format!(in alloc; "qbs: data: {table}: {number} {name} at row {row}\n")?;
+    Ok(line)
+}
+
+/// The refusal of a table's rows.
+pub fn data_refused(alloc: Global, table: &Name, fault: &DataFault) -> Stop
+    ensures { StopsWith (refusal Status.Data (data_text table.now fault.now)) result }
+{
+    let number = data_number(fault.rule);
+    let name = data_name(fault.rule);
+    match row_line(alloc, table.as_str(), number, name, fault.row) {
+        Ok(line) => stop(alloc, Status::Data, line),
+        Err(_) => Stop::Memory,
+    }
+}
+
+/// The refusal of a run that ended with a fault at this place.
+pub fn fault_refused(alloc: Global, fault: RunFault, at: Span) -> Stop
+    ensures { StopsWith (refusal Status.Faulted (fault_text fault at)) result }
+{
+    let number = run_number(fault);
+    let name = run_name(fault);
+    match rule_line(alloc, "qbs: fault: ", number, name, at) {
+        Ok(line) => stop(alloc, Status::Faulted, line),
         Err(_) => Stop::Memory,
     }
 }

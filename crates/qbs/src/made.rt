@@ -171,6 +171,20 @@ fn program_of(alloc: Global, form: &FirstForm, at: Span, text: Text) -> Result<P
     })
 }
 
+/// The class with the query in place of the loop.
+pub fn rewritten_program(
+    alloc: Global,
+    form: &FirstForm,
+    at: Span,
+    table: u32,
+    column: u32,
+) -> Result<Program, NoMemory>
+    ensures { IfOk result (λ p. program p ≡ rewritten form.now at table column) }
+{
+    let query = selection_text(alloc, form, table, column)?;
+    program_of(alloc, form, at, query)
+}
+
 /// The text of the class with the query in place of the loop.
 pub fn rewritten_text(
     alloc: Global,
@@ -181,7 +195,5 @@ pub fn rewritten_text(
 ) -> Result<Text, NoMemory>
     ensures { IfOk result (λ text. text ≡ canonical (rewritten form.now at table column)) }
 {
-    let query = selection_text(alloc, form, table, column)?;
-    let program = program_of(alloc, form, at, query)?;
-    print_program(alloc, &program)
+    print_program(alloc, &rewritten_program(alloc, form, at, table, column)?)
 }

@@ -5,15 +5,20 @@ ghost use Rattle.qbs_base.specs.Outside.{Rose};
 ghost use Rattle.qbs.specs.Fetch.{OrMemory};
 ghost use Rattle.qbs.specs.Form.{nodes_of, first_form};
 ghost use Rattle.qbs.specs.Plan.{Due, given};
-ghost use Rattle.qbs.specs.Program.{rewrite, rewriting, with_tokens, with_form, with_column, loop_place, long_column, is_long_at, is_long_type as type_is_long};
+ghost use Rattle.qbs.specs.Program.{rewrite, rewriting, with_tokens, with_program, with_types, fault_of, with_form, with_column, loop_place, long_column, is_long_at, is_long_type as type_is_long};
+ghost use Rattle.java_ast.specs.Reading.{program as program_of};
 ghost use Rattle.java_mean.specs.Expression.{columns_at};
+ghost use Rattle.java_parser.specs.Parsed.{parsed};
 
 use crate::Plan;
 use crate::fetch::{Stop, fetch, refused};
 use crate::form::{FirstForm, find_form};
-use crate::lines::{found_report, lex_refused, schema_refused};
+use crate::lines::{found_report, lex_refused, parse_refused, schema_refused, type_refused};
 use crate::made::rewritten_text;
-use java_lex::{Token, lex};
+use java_ast::Program;
+use java_lex::{Token, Tokens, lex};
+use java_parser::parse;
+use java_types::check;
 use qbs_base::{Bytes, Column, Fail, Files, NoMemory, Span, Status, Text, Ty};
 use schema::{Schema, parse_schema};
 use std::alloc::Global;
@@ -46,13 +51,38 @@ fn plan_source(alloc: Global, schema: &Schema, source: &[u8]) -> Result<Plan, St
     ensures { OrMemory result (λ plan. plan ≡ with_tokens schema.now (lexed source.now)) }
 {
     match lex(alloc, source) {
-        Ok(tokens) => plan_tokens(alloc, schema, tokens.list.as_slice()),
+        Ok(tokens) => plan_tokens(alloc, schema, &tokens),
         Err(Fail::Fault(fault)) => Err(lex_refused(alloc, &fault)),
         Err(Fail::NoMemory) => Err(Stop::Memory),
     }
 }
 
-fn plan_tokens(alloc: Global, schema: &Schema, tokens: &[Token]) -> Result<Plan, Stop>
+fn plan_tokens(alloc: Global, schema: &Schema, tokens: &Tokens) -> Result<Plan, Stop>
+    ensures { OrMemory result (λ plan. plan ≡ with_program schema.now tokens.now (parsed tokens.now)) }
+{
+    match parse(alloc, tokens) {
+        Ok(program) => plan_program(alloc, schema, tokens, &program),
+        Err(Fail::Fault(fault)) => Err(parse_refused(alloc, &fault)),
+        Err(Fail::NoMemory) => Err(Stop::Memory),
+    }
+}
+
+fn plan_program(
+    alloc: Global,
+    schema: &Schema,
+    tokens: &Tokens,
+    program: &Program,
+) -> Result<Plan, Stop>
+    ensures { OrMemory result (λ plan. plan ≡ with_types schema.now tokens.now (fault_of schema.now (program_of program.now))) }
+{
+    match check(alloc, schema, program) {
+        Ok(_) => plan_typed(alloc, schema, tokens.list.as_slice()),
+        Err(Fail::Fault(fault)) => Err(type_refused(alloc, &fault)),
+        Err(Fail::NoMemory) => Err(Stop::Memory),
+    }
+}
+
+fn plan_typed(alloc: Global, schema: &Schema, tokens: &[Token]) -> Result<Plan, Stop>
     ensures { OrMemory result (λ plan. plan ≡ with_form schema.now (loop_place tokens.now) (first_form (nodes_of tokens.now))) }
 {
     match find_form(tokens)? {
@@ -87,8 +117,8 @@ fn plan_found(
     })
 }
 
-// Where the `for` of the form stands.
-fn place_of_loop(tokens: &[Token]) -> Span
+/// Where the `for` of the form stands.
+pub fn place_of_loop(tokens: &[Token]) -> Span
     ensures { result ≡ loop_place tokens.now }
 {
     match tokens.get(24) {
@@ -102,8 +132,8 @@ fn place_of_loop(tokens: &[Token]) -> Span
     }
 }
 
-// The numbers of the form's table and of its column, which is of type Long.
-fn column_of(schema: &Schema, form: &FirstForm) -> Option<(u32, u32)>
+/// The numbers of the form's table and of its column, which is of type Long.
+pub fn column_of(schema: &Schema, form: &FirstForm) -> Option<(u32, u32)>
     ensures { result ≡ long_column schema.now form.now }
 {
     let table = schema.table(&form.table)?;

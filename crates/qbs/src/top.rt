@@ -8,13 +8,16 @@ ghost use Rattle.words.specs.Reading.{plain};
 ghost use Rattle.qbs.specs.Deliver.{change};
 ghost use Rattle.qbs.specs.Fetch.{OrMemory};
 ghost use Rattle.qbs.specs.Plan.{Due, given};
-ghost use Rattle.qbs.specs.Program.{program, script_of, rewrite_or_not_yet, asks_more as options_ask_more};
+ghost use Rattle.qbs.specs.Words.{call_in};
+ghost use Rattle.qbs.specs.Program.{program, script_of, turns_of as turns_in, run_or_not_yet, rewrite_or_not_yet, asks_more as options_ask_more};
 ghost use Rattle.qbs.specs.Statuses.{IsDone, IsAnswered, Ended, CutShort, RefusesWords};
 
 use crate::Plan;
 use crate::deliver::{deliver, deliver_plan};
 use crate::fetch::{Stop, refused};
 use crate::rewrite::plan_rewrite;
+use crate::run::{Asked, plan_run};
+use crate::sql::plan_sql;
 use qbs_base::{Files, Sink, Status, Text, Words};
 use std::alloc::Global;
 use words::{Command, Options, read_words};
@@ -51,6 +54,14 @@ pub fn qbs_main<F: Files, O: Sink, E: Sink>(
         (change O.told O.faults out.old out.new) (change E.told E.faults rep.old rep.new) Status.Schema }
     ensures source { result ≡ Status.Source → Ended (given F.told F.faults files.old files.new) words.now
         (change O.told O.faults out.old out.new) (change E.told E.faults rep.old rep.new) Status.Source }
+    ensures types { result ≡ Status.Types → Ended (given F.told F.faults files.old files.new) words.now
+        (change O.told O.faults out.old out.new) (change E.told E.faults rep.old rep.new) Status.Types }
+    ensures data { result ≡ Status.Data → Ended (given F.told F.faults files.old files.new) words.now
+        (change O.told O.faults out.old out.new) (change E.told E.faults rep.old rep.new) Status.Data }
+    ensures faulted { result ≡ Status.Faulted → Ended (given F.told F.faults files.old files.new) words.now
+        (change O.told O.faults out.old out.new) (change E.told E.faults rep.old rep.new) Status.Faulted }
+    ensures turns { result ≡ Status.Turns → Ended (given F.told F.faults files.old files.new) words.now
+        (change O.told O.faults out.old out.new) (change E.told E.faults rep.old rep.new) Status.Turns }
     ensures memory { result ≡ Status.NoMemory → Ended (given F.told F.faults files.old files.new) words.now
         (change O.told O.faults out.old out.new) (change E.told E.faults rep.old rep.new) Status.NoMemory }
     ensures limit { result ≡ Status.Limit → Ended (given F.told F.faults files.old files.new) words.now
@@ -112,6 +123,31 @@ fn plan_rewrite_if_built<F: Files>(
     plan_rewrite(alloc, files, schema, source)
 }
 
+// The turns of a run, where the words give none.
+fn turns_of(options: &Options) -> u64
+    ensures { result ≡ turns_in options.now.turns }
+{
+    options.turns.unwrap_or(1000000)
+}
+
+// What is due for `run`.
+fn plan_run_if_built<F: Files>(
+    alloc: Global,
+    files: &mut F,
+    options: &Options,
+    schema: &Text,
+    source: &Text,
+    folder: &Text,
+    call: &Asked,
+) -> Result<Plan, Stop>
+    ensures { OrMemory result (Due (given F.told F.faults files.old files.new) (run_or_not_yet (options_ask_more options.now) schema.now source.now folder.now (call_in call.now))) }
+{
+    if asks_more(options) {
+        return Err(refused(alloc, Status::NotYet, "qbs: not yet", ""));
+    }
+    plan_run(alloc, files, schema, source, folder, call)
+}
+
 // What is due for a command.
 fn plan_command<F: Files>(alloc: Global, files: &mut F, command: &Command) -> Result<Plan, Stop>
     ensures { OrMemory result (Due (given F.told F.faults files.old files.new) (script_of command.now)) }
@@ -122,6 +158,27 @@ fn plan_command<F: Files>(alloc: Global, files: &mut F, command: &Command) -> Re
             schema,
             source,
         } => plan_rewrite_if_built(alloc, files, options, schema, source),
+        Command::Sql {
+            schema,
+            folder,
+            query,
+        } => plan_sql(alloc, files, schema, folder, query),
+        Command::Run {
+            options,
+            schema,
+            source,
+            folder,
+            method,
+            arguments,
+        } => {
+            let call = Asked {
+                method,
+                words: arguments,
+                turns: turns_of(options),
+                rewritten: options.rewritten,
+            };
+            plan_run_if_built(alloc, files, options, schema, source, folder, &call)
+        }
         _ => Err(refused(alloc, Status::NotYet, "qbs: not yet", "")),
     }
 }

@@ -45,7 +45,7 @@ const REWRITE: &[&str] = &["rewrite", "s.sql", "A.java"];
 
 const NONE: [Option<u32>; 3] = [None, None, None];
 
-const CASES: [Case; 30] = [
+static CASES: [Case; 31] = [
     Case {
         words: REWRITE,
         files: BOTH,
@@ -87,36 +87,36 @@ const CASES: [Case; 30] = [
         files: &[("s.sql", SCHEMA), ("A.java", BY_NAME)],
         fails: NONE,
         room: 1000,
-        code: 14,
+        code: 7,
         out: "",
-        rep: "qbs: not yet\n",
+        rep: "qbs: types: 2 Mismatch at 1:89\n",
     },
     Case {
         words: REWRITE,
         files: &[("s.sql", SCHEMA), ("A.java", BY_PAY)],
         fails: NONE,
         room: 1000,
-        code: 14,
+        code: 7,
         out: "",
-        rep: "qbs: not yet\n",
+        rep: "qbs: types: 1 Unknown at 1:9\n",
     },
     Case {
         words: REWRITE,
         files: &[("s.sql", SCHEMA), ("A.java", SAME_NAMES)],
         fails: NONE,
         room: 1000,
-        code: 14,
+        code: 7,
         out: "",
-        rep: "qbs: not yet\n",
+        rep: "qbs: types: 3 DoubleName at 1:53\n",
     },
     Case {
         words: REWRITE,
         files: &[("s.sql", SCHEMA), ("A.java", "")],
         fails: NONE,
         room: 1000,
-        code: 14,
+        code: 6,
         out: "",
-        rep: "qbs: not yet\n",
+        rep: "qbs: source: parse 1 Unexpected at 1:1\n",
     },
     Case {
         words: REWRITE,
@@ -316,6 +316,235 @@ const CASES: [Case; 30] = [
         out: "",
         rep: "qbs: source: lex 4 LongTooLarge at 1:1\n",
     },
+    Case {
+        words: REWRITE,
+        files: &[("s.sql", SCHEMA), ("A.java", "class A {\n")],
+        fails: NONE,
+        room: 1000,
+        code: 6,
+        out: "",
+        rep: "qbs: source: parse 1 Unexpected at 2:1\n",
+    },
+];
+
+const USERS: &str =
+    "id,name,roleId,age,active\n1,ann,2,30,true\n2,bob,1,25,false\n3,cat,2,41,true\n4,ann,3,19,true\n5,dan,1,25,false\n";
+
+const ROLES: &str = "id,label\n1,admin\n2,staff\n2,crew\n";
+
+const METHODS: &str =
+    "class M {\n    long oldest() {\n        long best = 10;\n        for (User u : db.fetch(User.class)) {\n            if (u.age > best) {\n                best = u.age;\n            }\n        }\n        return best;\n    }\n    void show() {\n        for (User u : db.fetch(User.class)) {\n            long n = 0;\n            for (Role r : db.fetch(Role.class)) {\n                if (r.id == u.roleId) {\n                    n = n + 1;\n                }\n            }\n            System.out.println(n);\n        }\n    }\n    Set<String> names() {\n        Set<String> names = new LinkedHashSet<>();\n        for (User u : db.fetch(User.class)) {\n            names.add(u.name);\n        }\n        return names;\n    }\n    User at(int i) {\n        List<User> users = db.fetch(User.class);\n        users.sort(Comparator.comparing(x -> x.name));\n        System.out.println(\"lost\");\n        User u = users.get(i);\n        return u;\n    }\n    int count() {\n        int i = 0;\n        while (i < 3) {\n            i = i + 1;\n        }\n        return i;\n    }\n    String quoted(String a) {\n        return a;\n    }\n    long doubled(long a) {\n        return a + a;\n    }\n    List<User> of(long role) {\n        List<User> out = db.query(User.class, \"SELECT t1.* FROM User t1 WHERE t1.roleId = ?1 ORDER BY t1._pos\", role);\n        return out;\n    }\n}\n";
+
+const TABLES: &[(&str, &str)] = &[
+    ("s.sql", SCHEMA),
+    ("A.java", STAFF),
+    ("M.java", METHODS),
+    ("d/User.csv", USERS),
+    ("d/Role.csv", ROLES),
+];
+
+const SHORT_ROLES: &[(&str, &str)] = &[
+    ("s.sql", SCHEMA),
+    ("A.java", STAFF),
+    ("d/User.csv", USERS),
+    ("d/Role.csv", "id,label\n1,admin\n2\n"),
+];
+
+/// Words over some files, and the status, `out` and `rep` that come of them.
+struct Row {
+    words: &'static [&'static str],
+    files: &'static [(&'static str, &'static str)],
+    code: u8,
+    out: &'static str,
+    rep: &'static str,
+}
+
+static ROWS: [Row; 24] = [
+    Row {
+        words: &["run", "s.sql", "A.java", "d", "staff"],
+        files: TABLES,
+        code: 0,
+        out: "return list 2\nUser(1, \"ann\", 2, 30, true)\nUser(3, \"cat\", 2, 41, true)\n",
+        rep: "",
+    },
+    Row {
+        words: &["run", "--rewritten", "s.sql", "A.java", "d", "staff"],
+        files: TABLES,
+        code: 0,
+        out: "return list 2\nUser(1, \"ann\", 2, 30, true)\nUser(3, \"cat\", 2, 41, true)\n",
+        rep: "",
+    },
+    Row {
+        words: &["run", "s.sql", "M.java", "d", "oldest"],
+        files: TABLES,
+        code: 0,
+        out: "return 41\n",
+        rep: "",
+    },
+    Row {
+        words: &["run", "--rewritten", "s.sql", "M.java", "d", "oldest"],
+        files: TABLES,
+        code: 14,
+        out: "",
+        rep: "qbs: not yet\n",
+    },
+    Row {
+        words: &["run", "s.sql", "M.java", "d", "show"],
+        files: TABLES,
+        code: 0,
+        out: "2\n1\n2\n0\n1\n",
+        rep: "",
+    },
+    Row {
+        words: &["run", "s.sql", "M.java", "d", "names"],
+        files: TABLES,
+        code: 0,
+        out: "return list 4\n\"ann\"\n\"bob\"\n\"cat\"\n\"dan\"\n",
+        rep: "",
+    },
+    Row {
+        words: &["run", "s.sql", "M.java", "d", "at", "1"],
+        files: TABLES,
+        code: 0,
+        out: "lost\nreturn User(4, \"ann\", 3, 19, true)\n",
+        rep: "",
+    },
+    Row {
+        words: &["run", "s.sql", "M.java", "d", "at", "5"],
+        files: TABLES,
+        code: 9,
+        out: "",
+        rep: "qbs: fault: 2 OutOfRange at 33:18\n",
+    },
+    Row {
+        words: &["run", "--turns", "3", "s.sql", "M.java", "d", "count"],
+        files: TABLES,
+        code: 0,
+        out: "return 3\n",
+        rep: "",
+    },
+    Row {
+        words: &["run", "--turns=2", "s.sql", "M.java", "d", "count"],
+        files: TABLES,
+        code: 11,
+        out: "",
+        rep: "qbs: turns\n",
+    },
+    Row {
+        words: &["run", "s.sql", "M.java", "d", "quoted", "a\"b\nc"],
+        files: TABLES,
+        code: 0,
+        out: "return \"a\\\"b\\nc\"\n",
+        rep: "",
+    },
+    Row {
+        words: &[
+            "run",
+            "s.sql",
+            "M.java",
+            "d",
+            "doubled",
+            "4611686018427387904",
+        ],
+        files: TABLES,
+        code: 9,
+        out: "",
+        rep: "qbs: fault: 1 Overflow at 47:16\n",
+    },
+    Row {
+        words: &["run", "s.sql", "M.java", "d", "of", "1"],
+        files: TABLES,
+        code: 0,
+        out: "return list 2\nUser(2, \"bob\", 1, 25, false)\nUser(5, \"dan\", 1, 25, false)\n",
+        rep: "",
+    },
+    Row {
+        words: &["run", "s.sql", "A.java", "d", "nobody"],
+        files: TABLES,
+        code: 7,
+        out: "",
+        rep: "qbs: types: 1 Unknown at 0:0\n",
+    },
+    Row {
+        words: &["run", "s.sql", "M.java", "d", "at"],
+        files: TABLES,
+        code: 7,
+        out: "",
+        rep: "qbs: types: 10 Arity at 0:0\n",
+    },
+    Row {
+        words: &["run", "s.sql", "M.java", "d", "at", "one"],
+        files: TABLES,
+        code: 7,
+        out: "",
+        rep: "qbs: types: 2 Mismatch at 0:0\n",
+    },
+    Row {
+        words: &["run", "s.sql", "A.java", "d", "staff"],
+        files: SHORT_ROLES,
+        code: 8,
+        out: "",
+        rep: "qbs: data: Role: 2 Width at row 2\n",
+    },
+    Row {
+        words: &["run", "s.sql", "A.java", "e", "staff"],
+        files: TABLES,
+        code: 3,
+        out: "",
+        rep: "qbs: read e/User.csv\n",
+    },
+    Row {
+        words: &["run", "--size", "4", "s.sql", "A.java", "d", "staff"],
+        files: TABLES,
+        code: 14,
+        out: "",
+        rep: "qbs: not yet\n",
+    },
+    Row {
+        words: &[
+            "sql",
+            "s.sql",
+            "d",
+            "SELECT name FROM User WHERE age = 25 ORDER BY _pos",
+        ],
+        files: TABLES,
+        code: 0,
+        out: "return list 2\n\"bob\"\n\"dan\"\n",
+        rep: "",
+    },
+    Row {
+        words: &["sql", "s.sql", "d", "SELECT COUNT(*) FROM User"],
+        files: TABLES,
+        code: 0,
+        out: "return 5\n",
+        rep: "",
+    },
+    Row {
+        words: &["sql", "s.sql", "d", "SELECT COUNT(*) FROM User, Role"],
+        files: TABLES,
+        code: 7,
+        out: "",
+        rep: "qbs: types: 7 BadQuery at 0:0\n",
+    },
+    Row {
+        words: &["sql", "s.sql", "d", "SELECT name FROM User"],
+        files: TABLES,
+        code: 7,
+        out: "",
+        rep: "qbs: types: 8 UnorderedQuery at 0:0\n",
+    },
+    Row {
+        words: &[
+            "sql",
+            "s.sql",
+            "d",
+            "SELECT COUNT(*) FROM User WHERE age = ?1",
+        ],
+        files: TABLES,
+        code: 7,
+        out: "",
+        rep: "qbs: types: 10 Arity at 0:0\n",
+    },
 ];
 
 fn words_of(alloc: Global, words: &[&str]) -> Result<Words, AllocError> {
@@ -358,6 +587,29 @@ fn each_case_has_its_status_and_texts(rt: HostRuntime) -> Result<(), Fail> {
         assert_eq!(rt; status.code(), case.code);
         assert_eq!(rt; out.bytes(), case.out.as_bytes());
         assert_eq!(rt; rep.bytes(), case.rep.as_bytes());
+    }
+    Ok(())
+}
+
+// Whether the status and both texts of a row come of its words and files.
+fn is_so(alloc: Global, row: &Row) -> Result<bool, Fail> {
+    let words = words_of(alloc, row.words)?;
+    let mut files = files_of(alloc, row.files)?;
+    let mut out = MemSink::with_room(alloc, 1000)?;
+    let mut rep = MemSink::with_room(alloc, 100)?;
+    let status = qbs_main(alloc, &words, &mut files, &mut out, &mut rep);
+    Ok(
+        status.code() == row.code
+            && out.bytes() == row.out.as_bytes()
+            && rep.bytes() == row.rep.as_bytes(),
+    )
+}
+
+#[test]
+fn methods_run_and_queries_are_answered(rt: HostRuntime) -> Result<(), Fail> {
+    let alloc = rt.alloc();
+    for row in &ROWS {
+        assert!(rt; is_so(alloc, row)?);
     }
     Ok(())
 }

@@ -38,3 +38,15 @@ returns-clause-limit g c = (causes _ _ _ _ _ c.carry_out.ensures).ended statuses
 
 pub returns-clause-not_yet : goal.returns-clause-not_yet
 returns-clause-not_yet g c = (causes _ _ _ _ _ c.carry_out.ensures).ended statuses.NotYet (λ e. cc)
+
+pub returns-clause-types : goal.returns-clause-types
+returns-clause-types g c = (causes _ _ _ _ _ c.carry_out.ensures).ended statuses.Types (λ e. cc)
+
+pub returns-clause-data : goal.returns-clause-data
+returns-clause-data g c = (causes _ _ _ _ _ c.carry_out.ensures).ended statuses.Data (λ e. cc)
+
+pub returns-clause-faulted : goal.returns-clause-faulted
+returns-clause-faulted g c = (causes _ _ _ _ _ c.carry_out.ensures).ended statuses.Faulted (λ e. cc)
+
+pub returns-clause-turns : goal.returns-clause-turns
+returns-clause-turns g c = (causes _ _ _ _ _ c.carry_out.ensures).ended statuses.Turns (λ e. cc)

@@ -1,0 +1,148 @@
+-- The tables of a schema, as files of a folder.
+use Rattle.std.specs.Prelude.{◌≡◌, ℕ, suc, ◌<◌, ◌≤◌, ◌-◌, ◌^◌, ◌⊎◌, List, [], ◌∷◌, ◌++◌, length, codes, IfSome, Result, Ok, Err, ⊤, slice_get}
+use Rattle.std.specs.List.{AllByRecursion}
+use Rattle.std.specs.declared.option.Option.{Option}
+use Rattle.std.specs.declared.option.Option.TheVariants.{Some, None}
+use Rattle.qbs_base.specs.declared.status.Status.{Status}
+use Rattle.qbs_base.specs.Named.{at_name}
+use Rattle.qbs_base.specs.Tables.{with_row}
+use Rattle.qbs_base.specs.declared.columns.Table.{Table}
+use Rattle.qbs_base.specs.declared.scalar.Row.{Row}
+use Rattle.qbs_base.specs.Values.{Schema, Database, IsRowOf}
+use Rattle.schema.specs.declared.fault.DataFault.{DataFault}
+use Rattle.schema.specs.Rows.{table_rows}
+use Rattle.schema.specs.Schemas.{schema_of}
+use Rattle.qbs.specs.declared.plan.Plan.{Plan}
+use Rattle.qbs.specs.declared.fetch.Stop.{Stop}
+use Rattle.qbs.specs.Lines.{data_text}
+use Rattle.qbs.specs.Plan.{Given, Script, reads, Due, refusal}
+
+-- the file of a table in a folder
+abbrev pub table_file : List ℕ → List ℕ → List ℕ
+table_file folder table = folder ++ codes "/" ++ table ++ codes ".csv"
+
+-- all tables together have 32 MiB
+abbrev pub most_bytes : ℕ
+most_bytes = 33554432
+
+-- The files of tables are read in order, so many bytes in all, and the script goes on with their texts.
+unfoldable pub read_tables : List ℕ → List Table → ℕ → (List (List ℕ) → Script) → Script
+read_tables folder [] left next = next []
+read_tables folder (table ∷ tables) left next =
+    reads (table_file folder table.name) left (codes "tables") (λ text. read_tables folder tables (left - length text) (λ texts. next (text ∷ texts)))
+
+-- what is wrong with the rows of a table of this name
+pub record TableFault : Type 0 where
+  pub table : List ℕ
+  pub fault : DataFault
+
+abbrev pub with_rows : List ℕ → Result (List Row) DataFault → Result Database TableFault → Result Database TableFault
+with_rows name (Err fault) further = Err (record { table = name; fault = fault })
+with_rows name (Ok rows) (Err fault) = Err fault
+with_rows name (Ok rows) (Ok db) = Ok ((name, rows) ∷ db)
+
+-- the tables from this number on with the rows that their texts have, or the first fault
+unfoldable pub loaded_from : Schema → ℕ → List Table → List (List ℕ) → Result Database TableFault
+loaded_from schema n (table ∷ tables) (text ∷ texts) = with_rows table.name (table_rows schema n text) (loaded_from schema (suc n) tables texts)
+loaded_from schema n _ _ = Ok []
+
+-- the database of a schema that the texts of its tables have
+abbrev pub loaded : Schema → List (List ℕ) → Result Database TableFault
+loaded schema texts = loaded_from schema 0 schema texts
+
+-- the texts are those of the tables' files, as far as these are told
+abbrev pub AreTexts : (List ℕ → Option (List ℕ)) → List ℕ → List Table → List (List ℕ) → Type 0
+AreTexts told folder [] [] = Unit {0}
+AreTexts told folder (table ∷ tables) (text ∷ texts) = IfSome (told (table_file folder table.name)) (λ all. text ≡ all) × AreTexts told folder tables texts
+AreTexts told folder _ _ = ⊥
+
+-- a file is one of the tables' files
+abbrev pub IsFileOf : List ℕ → List Table → List ℕ → Type 0
+IsFileOf folder [] name = ⊥
+IsFileOf folder (table ∷ tables) name = (name ≡ table_file folder table.name) ⊎ IsFileOf folder tables name
+
+-- the file of one of the tables is longer than what those before it leave of so many bytes
+abbrev pub PassesTables : (List ℕ → Option (List ℕ)) → List ℕ → List Table → ℕ → Type 0
+PassesTables told folder [] left = ⊥
+PassesTables told folder (table ∷ tables) left =
+    IfSome (told (table_file folder table.name)) (λ all. left < length all)
+    ⊎ ((text : List ℕ) × IfSome (told (table_file folder table.name)) (λ all. text ≡ all) × PassesTables told folder tables (left - length text))
+
+-- a schema and the texts of its tables, as far as their files are told
+pub record HasTables (told : List ℕ → Option (List ℕ)) (schema folder : List ℕ) (tables : List Table) (texts : List (List ℕ)) : Type 0 where
+  pub bytes : List ℕ
+  pub read : IfSome (told schema) (λ all. bytes ≡ all)
+  pub is_schema : schema_of bytes ≡ Ok tables
+  pub has_texts : AreTexts told folder tables texts
+
+-- a file of the tables of a schema was not read
+pub record IsTableFile (told : List ℕ → Option (List ℕ)) (schema folder name : List ℕ) : Type 0 where
+  pub bytes : List ℕ
+  pub tables : List Table
+  pub read : IfSome (told schema) (λ all. bytes ≡ all)
+  pub is_schema : schema_of bytes ≡ Ok tables
+  pub file : IsFileOf folder tables name
+
+-- the files of the tables of a schema have more than 32 MiB
+pub record TablesPass (told : List ℕ → Option (List ℕ)) (schema folder : List ℕ) : Type 0 where
+  pub bytes : List ℕ
+  pub tables : List Table
+  pub read : IfSome (told schema) (λ all. bytes ≡ all)
+  pub is_schema : schema_of bytes ≡ Ok tables
+  pub passes : PassesTables told folder tables most_bytes
+
+abbrev pub data_refusal : TableFault → Plan
+data_refusal fault = refusal Status.Data (data_text fault.table fault.fault)
+
+-- ---- What the readers of tables promise
+
+-- each text is that of its table's file, and no longer than what is left of the limit
+abbrev pub AreRead : Given → List ℕ → List Table → ℕ → List (List ℕ) → Type 0
+AreRead files folder [] left [] = Unit {0}
+AreRead files folder (table ∷ tables) left (text ∷ texts) =
+    (length text ≤ left) × IfSome (files.told (table_file folder table.name)) (λ all. text ≡ all) × AreRead files folder tables (left - length text) texts
+AreRead files folder _ left _ = ⊥
+
+-- texts were put behind those that were there, or what is due is so however the script goes on
+abbrev pub Reads : {A : Type 0} → Given → List ℕ → List Table → ℕ → List (List ℕ) → List (List ℕ) → Result A Stop → Type 0
+Reads files folder tables left old new (Ok done) = (more : List (List ℕ)) × (new ≡ old ++ more) × AreRead files folder tables left more
+Reads files folder tables left old new (Err (Stop.Due plan)) = (next : List (List ℕ) → Script) → Due files (read_tables folder tables left next) plan
+Reads files folder tables left old new (Err Stop.Memory) = ⊤
+
+-- with these rows more in the table with that number
+abbrev pub with_rows_at : Database → ℕ → List Row → Database
+with_rows_at db number [] = db
+with_rows_at db number (row ∷ rows) = with_rows_at (with_row db number row) number rows
+
+-- no table has the name of the schema's table with that number
+abbrev pub IsFresh : Schema → ℕ → Database → Type 0
+IsFresh schema number db = (table : Table) → slice_get schema number ≡ Some table → at_name db table.name ≡ None
+
+-- the next table, with rows of it
+pub record IsNext (schema : Schema) (number : ℕ) (text : List ℕ) (old new : Database) : Type 0 where
+  pub table : Table
+  pub rows : List Row
+  pub held : slice_get schema number ≡ Some table
+  pub read : table_rows schema number text ≡ Ok rows
+  pub added : new ≡ old ++ (table.name, rows) ∷ []
+  pub typed : AllByRecursion (IsRowOf number table.columns) rows
+  pub few : length rows < 2 ^ 63
+
+-- the refusal of the next table's rows
+pub record IsNoNext (schema : Schema) (number : ℕ) (text : List ℕ) (plan : Plan) : Type 0 where
+  pub table : Table
+  pub fault : DataFault
+  pub held : slice_get schema number ≡ Some table
+  pub read : table_rows schema number text ≡ Err fault
+  pub due : plan ≡ data_refusal (record { table = table.name; fault = fault })
+
+abbrev pub LoadsNext : {A : Type 0} → Schema → ℕ → List ℕ → Database → Database → Result A Stop → Type 0
+LoadsNext schema number text old new (Ok done) = IsNext schema number text old new
+LoadsNext schema number text old new (Err (Stop.Due plan)) = IsNoNext schema number text plan
+LoadsNext schema number text old new (Err Stop.Memory) = ⊤
+
+-- the database of the texts, or the refusal of the first table whose text isn't one
+abbrev pub Loads : Schema → List (List ℕ) → Result Database Stop → Type 0
+Loads schema texts (Ok db) = loaded schema texts ≡ Ok db
+Loads schema texts (Err (Stop.Due plan)) = (fault : TableFault) × (loaded schema texts ≡ Err fault) × (plan ≡ data_refusal fault)
+Loads schema texts (Err Stop.Memory) = ⊤

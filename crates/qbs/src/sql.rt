@@ -1,0 +1,115 @@
+// The command `sql`.
+ghost use Rattle.std.specs.Prelude.{◌≡◌, ◌≤◌, Some, Ok, length};
+ghost use Rattle.qbs_base.specs.Outside.{Rose};
+ghost use Rattle.java_mean.specs.Rules.{has_order as query_has_order};
+ghost use Rattle.sql_ast.specs.Reading.{query as query_of};
+ghost use Rattle.sql_ast.specs.Meaning.{Answered, query_answer};
+ghost use Rattle.sql_ast.specs.Valid.{params_in as params_of};
+ghost use Rattle.sql_exec.specs.Answered.{answered as meaning_of, IsAnswerable};
+ghost use Rattle.qbs.specs.Asking.{sql, over_schema, asked, with_order, with_params, over_rows, answered};
+ghost use Rattle.qbs.specs.Fetch.{OrMemory};
+ghost use Rattle.qbs.specs.Plan.{Due, given};
+ghost use Rattle.qbs.specs.Tables.{loaded};
+
+use crate::Plan;
+use crate::fetch::{Stop, fetch};
+use crate::lines::{fault_refused, nowhere, schema_refused, word_refused};
+use crate::results::output;
+use crate::tables::{TableTexts, fetch_tables, load_tables};
+use java_mean::{RunFault, TypeRule};
+use qbs_base::{Fail, Files, Scalars, Table, Text, Ty, Value};
+use schema::{Schema, parse_schema};
+use sql_ast::{Query, order_complete};
+use sql_exec::{Answer, answer};
+use sql_parse::parse_query;
+use std::alloc::Global;
+
+/// What is due for a schema, the files of its tables in a folder, and a query.
+pub fn plan_sql<F: Files>(
+    alloc: Global,
+    files: &mut F,
+    schema: &Text,
+    folder: &Text,
+    query: &Text,
+) -> Result<Plan, Stop>
+    ensures { OrMemory result (Due (given F.told F.faults files.old files.new) (sql schema.now folder.now query.now)) }
+{
+    let bytes = fetch(alloc, files, schema, 262144, "schema")?;
+    match parse_schema(alloc, bytes.as_slice()) {
+        Ok(schema) => plan_tables(alloc, files, &schema, folder, query),
+        Err(Fail::Fault(fault)) => Err(schema_refused(alloc, &fault)),
+        Err(Fail::NoMemory) => Err(Stop::Memory),
+    }
+}
+
+fn plan_tables<F: Files>(
+    alloc: Global,
+    files: &mut F,
+    schema: &Schema,
+    folder: &Text,
+    query: &Text,
+) -> Result<Plan, Stop>
+    ensures same { F.told files.new ≡ F.told files.old }
+    ensures later { F.faults files.old ≤ F.faults files.new }
+    ensures due { OrMemory result (Due (given F.told F.faults files.old files.new) (over_schema folder.now query.now (Ok schema.now))) }
+{
+    let mut texts = TableTexts::new(alloc);
+    fetch_tables(schema.tables(), alloc, files, folder, 33554432, &mut texts)?;
+    plan_query(alloc, schema, &texts, query)
+}
+
+#[tactic(auto, using(crate::proofs::Asked::answerable))]
+fn plan_query(alloc: Global, schema: &Schema, texts: &TableTexts, text: &Text) -> Result<Plan, Stop>
+    requires { length texts.now ≡ length schema.now }
+    ensures { OrMemory result (λ plan. plan ≡ asked schema.now texts.now text.now) }
+{
+    let _size = text.as_str().len();
+    match parse_query(alloc, schema, text) {
+        Ok(q) => plan_ordered(alloc, schema, texts, &q),
+        Err(Fail::Fault(_)) => Err(word_refused(alloc, TypeRule::BadQuery)),
+        Err(Fail::NoMemory) => Err(Stop::Memory),
+    }
+}
+
+// Whether a list query has a complete order.
+fn has_order(q: &Query) -> bool
+    ensures { result ≡ query_has_order (Some (query_of q.now)) }
+{
+    order_complete(q)
+}
+
+fn params_in(q: &Query) -> &[Ty]
+    ensures { result.now ≡ params_of (query_of q.now) }
+{
+    match q {
+        Query::Listing(q) => q.params.as_slice(),
+        Query::Number(q) => q.params.as_slice(),
+        Query::Truth(q) => q.params.as_slice(),
+    }
+}
+
+fn plan_ordered(alloc: Global, schema: &Schema, texts: &TableTexts, q: &Query) -> Result<Plan, Stop>
+    requires tables { length texts.now ≡ length schema.now }
+    requires answerable { IsAnswerable (query_of q.now) }
+    ensures { OrMemory result (λ plan. plan ≡ with_order schema.now texts.now (query_of q.now) (query_has_order (Some (query_of q.now)))) }
+{
+    if !has_order(q) {
+        return Err(word_refused(alloc, TypeRule::UnorderedQuery));
+    }
+    if !params_in(q).is_empty() {
+        return Err(word_refused(alloc, TypeRule::Arity));
+    }
+    let db = load_tables(alloc, schema, texts.as_slice())?;
+    let found = answer(alloc, q, &db, &Scalars::new(alloc))?;
+    plan_answer(alloc, schema.tables(), found)
+}
+
+fn plan_answer(alloc: Global, tables: &[Table], found: Answer) -> Result<Plan, Stop>
+    ensures { OrMemory result (λ plan. plan ≡ answered tables.now (meaning_of found)) }
+{
+    match found {
+        Answer::Rows(rows) => Ok(output(alloc, tables, &[], &Some(Value::Many(rows)))?),
+        Answer::One(x) => Ok(output(alloc, tables, &[], &Some(Value::One(x)))?),
+        Answer::SumTooLarge => Err(fault_refused(alloc, RunFault::SumTooLarge, nowhere())),
+    }
+}
