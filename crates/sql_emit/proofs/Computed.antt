@@ -1,0 +1,65 @@
+-- The worked queries, computed.
+use Rattle.std.proofs.Common.{refl}
+use Rattle.std.specs.Fmt.{digits}
+use Rattle.sql_emit.specs.Worked.{WorkedLists, WorkedFlags, WorkedNumbers, WorkedParameters, WorkedQueries}
+
+lists : WorkedLists
+unfolding digits
+lists =
+    record {
+      selected = record { text_is = refl; entries_are = refl };
+      others = record { text_is = refl; entries_are = refl };
+      all = record { text_is = refl; entries_are = refl };
+      joined = record { text_is = refl; entries_are = refl };
+      three = record { text_is = refl; entries_are = refl };
+      two = record { text_is = refl; entries_are = refl };
+      two_opposites = record { text_is = refl; entries_are = refl };
+      sorted = record { text_is = refl; entries_are = refl };
+      sorted_down = record { text_is = refl; entries_are = refl };
+      sorted_none = record { text_is = refl; entries_are = refl };
+      first = record { text_is = refl; entries_are = refl };
+      first_none = record { text_is = refl; entries_are = refl };
+      first_nine = record { text_is = refl; entries_are = refl };
+      set = record { text_is = refl; entries_are = refl };
+      quotes = record { text_is = refl; entries_are = refl };
+      tests = record { text_is = refl; entries_are = refl };
+      opposite_tests = record { text_is = refl; entries_are = refl };
+      either_under_both = record { text_is = refl; entries_are = refl };
+      both_under_either = record { text_is = refl; entries_are = refl };
+      both = record { text_is = refl; entries_are = refl };
+    }
+
+flags : WorkedFlags
+unfolding digits
+flags =
+    record {
+      flagged = record { text_is = refl; entries_are = refl };
+      not_flagged = record { text_is = refl; entries_are = refl };
+      guarded = record { text_is = refl; entries_are = refl };
+      in_its_nest = record { text_is = refl; entries_are = refl };
+    }
+
+numbers : WorkedNumbers
+unfolding digits
+numbers =
+    record {
+      greatest = record { text_is = refl; entries_are = refl };
+      smallest = record { text_is = refl; entries_are = refl };
+      sum = record { text_is = refl; entries_are = refl };
+      count = record { text_is = refl; entries_are = refl };
+      opposite = record { text_is = refl; entries_are = refl };
+    }
+
+parameters : WorkedParameters
+unfolding digits
+parameters =
+    record {
+      known = record { text_is = refl; entries_are = refl };
+      not_known = record { text_is = refl; entries_are = refl };
+      known_entry = record { text_is = refl; entries_are = refl };
+      twice = record { text_is = refl; entries_are = refl };
+      second_first = record { text_is = refl; entries_are = refl };
+    }
+
+pub worked : WorkedQueries
+worked = record { lists = lists; flags = flags; numbers = numbers; parameters = parameters }

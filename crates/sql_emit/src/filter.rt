@@ -1,0 +1,335 @@
+// FROM and WHERE of accumulators and flags.
+ghost use Rattle.std.specs.Prelude.{◌≡◌, ◌+◌, ◌<◌, ◌≤◌, ◌^◌, [], length, map, nat_eq, drop, IfOk, OnOk, Some, None, Option, option_map, slice_get};
+ghost use Rattle.std.specs.List.{list_any};
+ghost use Rattle.tor_terms.specs.Plain.{form_of, forms_of};
+ghost use Rattle.kernel_lang.specs.Plain.{accumulator};
+ghost use Rattle.kernel_lang.specs.Pools.{chosen, members_from};
+ghost use Rattle.sql_ast.specs.Reading.{condition, filter_of};
+ghost use Rattle.sql_emit.specs.Emitted as spec;
+ghost use Rattle.sql_emit.specs.Scopes.{list_of};
+ghost use Rattle.sql_emit.specs.Reading.{ground_of, scope_of, scope_by, IsSmall, AreShort, with_also, all_also, number_first};
+
+use crate::build::{both, either, exists};
+use crate::ground::{Ground, Scope, column, from_items, number_in, position};
+use crate::literal::{fixed, quiet_atom, quiet_formula, signed};
+use crate::within::sum;
+use kernel_lang::{Acc, ListDef, Update};
+use qbs_base::{NoMemory, Scalar};
+use sql_ast::{Cmp, Cond, SqlCol, SqlOpnd};
+use std::alloc::Global;
+use tor_terms::{Atom, Elem, Formula, Way};
+
+/// A WHERE with one condition more.
+fn also(alloc: Global, filter: Option<Cond>, c: Cond) -> Result<Option<Cond>, NoMemory>
+    ensures { IfOk result (λ f. filter_of f ≡ with_also (filter_of filter) (condition c)) }
+{
+    match filter {
+        None => Ok(Some(c)),
+        Some(a) => Ok(Some(both(alloc, a, c)?)),
+    }
+}
+
+/// The first rows of a list without keys.
+fn limit_of_list(
+    alloc: Global,
+    n: u32,
+    list: &ListDef,
+    filter: Option<Cond>,
+) -> Result<Option<Cond>, NoMemory>
+    ensures { IfOk result (λ f. filter_of f ≡ all_also (filter_of filter) (spec.limit_tests n list.now.keys list.now.limit)) }
+{
+    if !list.keys.is_empty() {
+        return Ok(filter);
+    }
+    let limit = match list.limit {
+        Some(limit) => limit,
+        None => return Ok(filter),
+    };
+    let limit = match i64::try_from(limit) {
+        Ok(limit) => limit,
+        Err(_) => return Err(NoMemory),
+    };
+    let first = SqlOpnd::Column(position(n));
+    also(
+        alloc,
+        filter,
+        Cond::Compare(Cmp::Lt, first, SqlOpnd::Lit(Scalar::Long(limit))),
+    )
+}
+
+fn limit_of_loop(
+    alloc: Global,
+    g: Ground,
+    n: u32,
+    j: u32,
+    filter: Option<Cond>,
+) -> Result<Option<Cond>, NoMemory>
+    ensures { IfOk result (λ f. filter_of f ≡ all_also (filter_of filter) (spec.limit_tests n (list_of (ground_of g.entry) j).keys (list_of (ground_of g.entry) j).limit)) }
+{
+    match g.lists.get(j as usize) {
+        Some(list) => limit_of_list(alloc, n, list, filter),
+        None => Ok(filter),
+    }
+}
+
+#[tactic(auto, using(crate::proofs::Also::also_append))]
+fn limits(
+    alloc: Global,
+    g: Ground,
+    n: u32,
+    loops: &[u32],
+    filter: Option<Cond>,
+) -> Result<Option<Cond>, NoMemory>
+    requires { n + length loops.now < 2 ^ 32 }
+    ensures { IfOk result (λ f. filter_of f ≡ all_also (filter_of filter) (spec.limits (ground_of g.entry) n loops.now)) }
+{
+    match loops.split_first() {
+        None => Ok(filter),
+        Some((j, rest)) => {
+            let filter = limit_of_loop(alloc, g, n + 1, *j, filter)?;
+            limits(alloc, g, n + 1, rest, filter)
+        }
+    }
+}
+
+fn has_number(cand: &[u32], n: u32) -> bool
+    ensures { result ≡ list_any (nat_eq n) cand.now }
+{
+    cand.iter().any(|m| n == *m)
+}
+
+pub fn elem_col(alloc: Global, g: Ground, s: Scope, e: &Elem) -> Result<SqlCol, NoMemory>
+    requires { IsSmall s }
+    ensures { IfOk result (λ col. col ≡ spec.elem_col (ground_of g.entry) (scope_of s.entry) e.now) }
+{
+    match e {
+        Elem::Whole(j) => Ok(position(number_in(s, *j))),
+        Elem::Field(j, c) => column(alloc, g, number_in(s, *j), *j, *c),
+    }
+}
+
+fn way_test(way: Way) -> Cmp
+    ensures { result ≡ spec.way_test way }
+{
+    match way {
+        Way::Max => Cmp::Gt,
+        Way::Min => Cmp::Lt,
+    }
+}
+
+/// What is better than the start.
+fn better(
+    alloc: Global,
+    g: Ground,
+    s: Scope,
+    acc: &Acc,
+    filter: Option<Cond>,
+) -> Result<Option<Cond>, NoMemory>
+    requires { IsSmall s }
+    ensures { IfOk result (λ f. filter_of f ≡ all_also (filter_of filter) (spec.best_tests (ground_of g.entry) (scope_of s.entry) acc.now.update acc.now.start)) }
+{
+    let (way, e) = match &acc.update {
+        Update::Best(way, e) => (*way, e),
+        _ => return Ok(filter),
+    };
+    let start = match &acc.start {
+        Some(start) => start,
+        None => return Ok(filter),
+    };
+    let col = SqlOpnd::Column(elem_col(alloc, g, s, e)?);
+    let start = SqlOpnd::Lit(start.clone()?);
+    also(alloc, filter, Cond::Compare(way_test(way), col, start))
+}
+
+/// The chosen ones of formulas that read no flag; the first has the number `first`.
+fn quiet_formulas(
+    alloc: Global,
+    g: Ground,
+    s: Scope,
+    first: u32,
+    pool: &[Formula],
+    filter: Option<Cond>,
+) -> Result<Option<Cond>, NoMemory>
+    requires small { IsSmall s }
+    requires room { first + length pool.now < 2 ^ 32 }
+    ensures { IfOk result (λ f. filter_of f ≡ all_also (filter_of filter) (map (spec.formula spec.no_flag (ground_of g.entry) (scope_of s.entry)) (chosen g.entry.cand.now first (forms_of pool.now)))) }
+{
+    match pool.split_first() {
+        None => Ok(filter),
+        Some((f, rest)) => {
+            if has_number(g.cand, first) {
+                let c = quiet_formula(alloc, g, s, f)?;
+                let filter = also(alloc, filter, c)?;
+                quiet_formulas(alloc, g, s, first + 1, rest, filter)
+            } else {
+                quiet_formulas(alloc, g, s, first + 1, rest, filter)
+            }
+        }
+    }
+}
+
+/// The WHERE of a flag, whose own loops have the FROM items after `n`.
+#[tactic(auto, using(crate::proofs::Also::also))]
+fn quiet_filter(
+    alloc: Global,
+    g: Ground,
+    s: Scope,
+    n: u32,
+    acc: &Acc,
+    first: u32,
+) -> Result<Option<Cond>, NoMemory>
+    requires small { IsSmall s }
+    requires place { n ≤ 6 }
+    requires room { first + length acc.now.pool < 2 ^ 32 }
+    ensures { IfOk result (λ f. filter_of f ≡ spec.joined (spec.conditions spec.no_flag (ground_of g.entry) (scope_of s.entry) n s.entry.own.now (accumulator acc.now, chosen g.entry.cand.now first (forms_of acc.now.pool)))) }
+{
+    let filter = limits(alloc, g, n, s.own, None)?;
+    let filter = quiet_formulas(alloc, g, s, first, acc.pool.as_slice(), filter)?;
+    better(alloc, g, s, acc, filter)
+}
+
+/// The number of the first formula of an accumulator, where the first of all has the number `first`.
+/// A number past 32 bits wants more memory than there is.
+fn first_number(first: u32, accs: &[Acc], k: usize) -> Result<u32, NoMemory>
+    ensures { IfOk result (λ n. n ≡ number_first first (map accumulator accs.now) k) }
+{
+    match accs.split_first() {
+        None => Ok(first),
+        Some((acc, rest)) => {
+            if k == 0 {
+                return Ok(first);
+            }
+            let count = match u32::try_from(acc.pool.len()) {
+                Ok(count) => count,
+                Err(_) => return Err(NoMemory),
+            };
+            first_number(sum(first, count)?, rest, k - 1)
+        }
+    }
+}
+
+/// Whether so many formulas can be counted on from a number. More want more memory than there is.
+fn with_room(first: u32, count: usize) -> Result<(), NoMemory>
+    ensures { OnOk result (first + count < 2 ^ 32) }
+{
+    match u32::try_from(count) {
+        Ok(count) => match first.checked_add(count) {
+            Some(_) => Ok(()),
+            None => Err(NoMemory),
+        },
+        Err(_) => Err(NoMemory),
+    }
+}
+
+/// The own loops of a flag.
+fn flag_loops(acc: &Acc) -> &[u32]
+    ensures { result.now ≡ drop acc.now.base acc.now.chain }
+{
+    let chain = acc.chain.as_slice();
+    &chain[(acc.base as usize).min(chain.len())..]
+}
+
+/// Some combination of the rows of a flag's own loops.
+#[tactic(auto, using(crate::proofs::Also::also))]
+fn flag_exists(alloc: Global, g: Ground, s: Scope, acc: &Acc, first: u32) -> Result<Cond, NoMemory>
+    requires outermost { s.outer.now ≡ [] }
+    requires some { 0 < length s.own.now }
+    requires few { length s.own.now ≤ 3 }
+    requires short { length acc.now.chain ≤ 3 }
+    ensures { IfOk result (λ c. condition c ≡ spec.flag_exists (ground_of g.entry) (scope_of s.entry) (Some (accumulator acc.now, chosen g.entry.cand.now first (forms_of acc.now.pool)))) }
+{
+    let own = flag_loops(acc);
+    with_room(first, acc.pool.len())?;
+    let inner = Scope { own, outer: s.own };
+    let filter = quiet_filter(alloc, g, inner, s.own.len() as u32, acc, first)?;
+    let from = from_items(alloc, g, own)?;
+    exists(alloc, from, filter)
+}
+
+/// A flag's truth, by its number.
+#[tactic(auto, using(crate::proofs::Flagged::member_is))]
+fn flag(alloc: Global, g: Ground, s: Scope, k: u32) -> Result<Cond, NoMemory>
+    requires outermost { s.outer.now ≡ [] }
+    requires some { 0 < length s.own.now }
+    requires few { length s.own.now ≤ 3 }
+    requires short { AreShort g }
+    ensures { IfOk result (λ c. condition c ≡ spec.flag_condition (ground_of g.entry) (scope_of s.entry) k) }
+{
+    match g.accs.get(k as usize) {
+        None => Ok(fixed(false)),
+        Some(acc) => {
+            let first = first_number(0, g.accs, k as usize)?;
+            flag_exists(alloc, g, s, acc, first)
+        }
+    }
+}
+
+/// An atom, by its number.
+fn literal(alloc: Global, g: Ground, s: Scope, k: u32, holds: bool) -> Result<Cond, NoMemory>
+    requires outermost { s.outer.now ≡ [] }
+    requires some { 0 < length s.own.now }
+    requires few { length s.own.now ≤ 3 }
+    requires short { AreShort g }
+    ensures { IfOk result (λ c. condition c ≡ spec.literal (spec.flag_condition (ground_of g.entry)) (ground_of g.entry) (scope_of s.entry) (slice_get g.entry.atoms.now k) holds) }
+{
+    match g.atoms.get(k as usize) {
+        None => Ok(fixed(!holds)),
+        Some(Atom::Flag(number, _)) => {
+            let c = flag(alloc, g, s, *number)?;
+            signed(alloc, holds, c)
+        }
+        Some(atom) => quiet_atom(alloc, g, s, atom, holds),
+    }
+}
+
+fn formula(alloc: Global, g: Ground, s: Scope, f: &Formula) -> Result<Cond, NoMemory>
+    requires outermost { s.outer.now ≡ [] }
+    requires some { 0 < length s.own.now }
+    requires few { length s.own.now ≤ 3 }
+    requires short { AreShort g }
+    ensures { IfOk result (λ c. condition c ≡ spec.formula (spec.flag_condition (ground_of g.entry)) (ground_of g.entry) (scope_of s.entry) (form_of f.now)) }
+{
+    match f {
+        Formula::Is(k, holds) => literal(alloc, g, s, *k, *holds),
+        Formula::Both(a, b) => {
+            let a = formula(alloc, g, s, a)?;
+            let b = formula(alloc, g, s, b)?;
+            both(alloc, a, b)
+        }
+        Formula::Either(a, b) => {
+            let a = formula(alloc, g, s, a)?;
+            let b = formula(alloc, g, s, b)?;
+            either(alloc, a, b)
+        }
+    }
+}
+
+/// The chosen ones of formulas; the first has the number `first`.
+fn formulas(
+    alloc: Global,
+    g: Ground,
+    s: Scope,
+    first: u32,
+    pool: &[Formula],
+    filter: Option<Cond>,
+) -> Result<Option<Cond>, NoMemory>
+    requires outermost { s.outer.now ≡ [] }
+    requires some { 0 < length s.own.now }
+    requires few { length s.own.now ≤ 3 }
+    requires short { AreShort g }
+    requires room { first + length pool.now < 2 ^ 32 }
+    ensures { IfOk result (λ f. filter_of f ≡ all_also (filter_of filter) (map (spec.formula (spec.flag_condition (ground_of g.entry)) (ground_of g.entry) (scope_of s.entry)) (chosen g.entry.cand.now first (forms_of pool.now)))) }
+{
+    match pool.split_first() {
+        None => Ok(filter),
+        Some((f, rest)) => {
+            if has_number(g.cand, first) {
+                let c = formula(alloc, g, s, f)?;
+                let filter = also(alloc, filter, c)?;
+                formulas(alloc, g, s, first + 1, rest, filter)
+            } else {
+                formulas(alloc, g, s, first + 1, rest, filter)
+            }
+        }
+    }
+}
