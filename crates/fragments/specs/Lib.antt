@@ -1,0 +1,4 @@
+pub mod Fragment
+pub mod Loops
+pub mod Names
+pub mod Worked
