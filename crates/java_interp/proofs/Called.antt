@@ -1,5 +1,5 @@
 -- The store of a method's arguments.
-use Rattle.std.proofs.Common.{◌≡◌, ℕ, zero, suc, ◌+◌, ◌<◌, ◌≤◌, List, [], ◌∷◌, length, drop, map, min, refl, sym, ap, ◌∙◌, subst, get_or, arith, Option, Some, IfSome, slice_get}
+use Rattle.std.proofs.Common.{◌≡◌, ℕ, zero, suc, ◌+◌, ◌<◌, List, [], ◌∷◌, length, drop, map, min, refl, sym, ap, ◌∙◌, subst, get_or, arith, Option, Some, IfSome, slice_get}
 use Rattle.qbs_base.specs.declared.scalar.Scalar.{Scalar}
 use Rattle.qbs_base.specs.declared.scalar.Value.TheVariants.{One}
 use Rattle.qbs_base.specs.Values.{Schema, Database, IsDatabaseOf}

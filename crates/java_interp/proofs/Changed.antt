@@ -1,8 +1,7 @@
 -- A list that is taken out of its variable, changed and put back.
-use Rattle.std.proofs.Common.{◌≡◌, ℕ, Bool, true, false, List, [], ◌∷◌, Option, Some, None, Result, Ok, refl, sym, ap, ap₂, ◌∙◌}
+use Rattle.std.proofs.Common.{◌≡◌, ℕ, Bool, true, false, List, [], ◌∷◌, Some, Result, Ok, refl, sym, ap, ◌∙◌}
 use Rattle.std.specs.Prelude.{bytes_eq, if◌then◌else◌}
 use Rattle.qbs_base.specs.declared.scalar.Row.{Row}
-use Rattle.qbs_base.specs.declared.scalar.Value.{Value}
 use Rattle.qbs_base.specs.declared.scalar.Value.TheVariants.{Many}
 use Rattle.qbs_base.specs.Named.{at_name}
 use Rattle.java_mean.specs.declared.ending.Ending.{Ending}

@@ -2,9 +2,11 @@ pub mod Answerable
 pub mod Called
 pub mod Changed
 pub mod Columns
+pub mod Placing
 pub mod Readings
 pub mod Nodes
 pub mod Occurring
+pub mod Seen
 pub mod Sorted
 pub mod Stacked
 pub mod Stopped

@@ -2,10 +2,9 @@
 use Rattle.std.specs.Prelude.{ℕ, List, Vec, Option, Some, None}
 use Rattle.std.proofs.Common.{◌≡◌, refl, ap, ◌∙◌}
 use Rattle.std.specs.declared.alloc.Global.{Global}
-use Rattle.qbs_base.specs.declared.span.Span.{Span}
 use Rattle.java_ast.specs.declared.tree.JTy.{JTy}
 use Rattle.java_ast.specs.declared.tree.Expr.{Expr, out-Expr}
-use Rattle.java_ast.specs.declared.tree.ExprNode.{ExprNode, Query, QueryLong, QueryBoolean, Row_of-Expr, end_of-Expr, more_of-Expr, items-the_row-Expr, items_hidden-the_row-Expr-0}
+use Rattle.java_ast.specs.declared.tree.ExprNode.{Query, QueryLong, QueryBoolean, Row_of-Expr, end_of-Expr, more_of-Expr, items-the_row-Expr, items_hidden-the_row-Expr-0}
 use Rattle.java_ast.specs.declared.tree.ExprNode.TheBlock.{hidden-the_row-Expr-0}
 use Rattle.java_ast.specs.declared.tree.Stmt.{Stmt, out-Stmt}
 use Rattle.java_ast.specs.declared.tree.StmtNode.{If, ForEach, While, Row_of-Stmt, end_of-Stmt, more_of-Stmt, items-the_row-Stmt, items_hidden-the_row-Stmt-0}

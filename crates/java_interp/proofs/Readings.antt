@@ -4,14 +4,12 @@ use Rattle.std.specs.Prelude.{bytes_eq, if◌then◌else◌, option_map, option_
 use Rattle.std.specs.Map.{lookup}
 use Rattle.indexmap.specs.IndexMap.{insert_entry}
 use Rattle.qbs_base.specs.declared.scalar.Scalar.{Scalar}
-use Rattle.qbs_base.specs.declared.scalar.Value.{Value}
 use Rattle.qbs_base.specs.declared.span.Span.{Span}
-use Rattle.qbs_base.specs.Values.{Schema, Database}
+use Rattle.qbs_base.specs.Values.{Schema}
 use Rattle.sql_ast.specs.declared.tree.Query.{Query}
 use Rattle.sql_ast.specs.Meaning.{Answered, query_answer}
 use Rattle.sql_ast.specs.Reading.{query}
 use Rattle.sql_ast.specs.Tree.{PlainQuery}
-use Rattle.java_mean.specs.declared.ending.Ending.{Ending}
 use Rattle.java_mean.specs.declared.ending.Ending.TheVariants.{Stuck}
 use Rattle.java_mean.specs.Expression as meant
 use Rattle.java_mean.proofs.Puts.{names_equal}
@@ -20,18 +18,13 @@ use Rattle.java_interp.specs.declared.held.Held.{Held}
 use Rattle.java_interp.specs.declared.source.Source.{Source}
 use Rattle.java_interp.specs.declared.stop.Stop.{Stop}
 use Rattle.java_interp.specs.Gives.{GivesBy}
+use Rattle.java_interp.specs.Placed.{test, same}
 use Rattle.java_interp.specs.Held.{value_in}
 use Rattle.java_interp.specs.IsRead.{IsRead, AreRead}
 use Rattle.java_interp.specs.Running.{world}
 
 abbrev pub Entries : Type 0
 Entries = List (Bor (List ℕ) × Query)
-
-abbrev pub test : List ℕ → Bor (List ℕ) → Bool
-test x k = bytes_eq x k.now
-
-abbrev pub same : Bor (List ℕ) → Bor (List ℕ) → Bool
-same j k = bytes_eq j.now k.now
 
 found_by : (schema : Schema) (x : List ℕ) (e : Bor (List ℕ) × Query) (r : Option Query) (b : Bool) → bytes_eq x e.0.now ≡ b → IsRead schema e.0.now (query e.1) → IfSome r (λ q. IsRead schema x (query q)) → IfSome (cond b (Some e.1) r) (λ q. IsRead schema x (query q))
 found_by schema x e r true h i k = subst (λ y. IsRead schema y (query e.1)) (sym (names_equal x e.0.now h)) i

@@ -1,11 +1,10 @@
 -- Rows in the order of keys.
-use Rattle.std.proofs.Common.{◌≡◌, ℕ, suc, ◌+◌, ◌<◌, ◌≤◌, Bool, true, false, cond, not, ◌&&◌, ◌||◌, List, [], ◌∷◌, length, drop, get_or, refl, sym, ap, ◌∙◌, arith, OnOk, Result, Ok, Err}
+use Rattle.std.proofs.Common.{◌≡◌, ℕ, ◌+◌, ◌<◌, Bool, false, not, ◌&&◌, ◌||◌, List, [], ◌∷◌, length, drop, get_or, refl, ap, OnOk, Result, Ok, Err}
 use Rattle.std.specs.Cmp.{IsStrictWeakOrder}
 use Rattle.std.specs.List.Sorted.{IsSortedBy, IsStableBy}
-use Rattle.std.proofs.lemmas.Grind.{common_steps}
 use Rattle.qbs_base.specs.declared.scalar.Row.{Row}
 use Rattle.qbs_base.specs.Scalar.{value_before}
-use Rattle.qbs_base.specs.Sort.{stable_sort, then_by, turned}
+use Rattle.qbs_base.specs.Sort.{stable_sort}
 use Rattle.qbs_base.specs.Values.{Schema}
 use Rattle.qbs_base.proofs.Order.{stable_sort_is}
 use Rattle.qbs_base.proofs.Scalars.{value_order}

@@ -1,5 +1,5 @@
 -- Pushes and pops of the stack of what is left to do.
-use Rattle.std.proofs.Common.{◌≡◌, ℕ, suc, ◌+◌, ◌<◌, ◌≤◌, Bool, true, false, List, [], ◌∷◌, ◌++◌, length, drop, get_or, Option, Some, None, Result, Ok, Err, OnOk, IfOk, refl, sym, ap, ◌∙◌, subst, arith, add-one}
+use Rattle.std.proofs.Common.{◌≡◌, ℕ, ◌+◌, ◌<◌, ◌≤◌, true, false, List, [], ◌∷◌, ◌++◌, length, drop, get_or, Option, Some, None, Result, Ok, Err, OnOk, IfOk, refl, sym, ap, ◌∙◌, subst, arith}
 use Rattle.std.specs.Prelude.{Vec}
 use Rattle.std.specs.Borrow.{Bor}
 use Rattle.std.specs.Option.{option_map}
@@ -11,15 +11,12 @@ use Rattle.java_ast.specs.declared.tree.Expr.{Expr}
 use Rattle.java_ast.specs.declared.tree.Stmt.{Stmt, out-Stmt}
 use Rattle.java_ast.specs.declared.tree.StmtNode as stmts
 use Rattle.java_ast.specs.Reading.{expression, statement, statements}
-use Rattle.java_ast.specs.Tree as plain
-use Rattle.java_ast.specs.Tree.{Expression, Statement, Statements}
 use Rattle.java_mean.specs.declared.ending.Ending.{Ending}
-use Rattle.java_mean.specs.Endings.{◌>>=◌}
 use Rattle.java_mean.specs.Expression.{element}
-use Rattle.java_mean.specs.Statement.{State, Passed, GoesOn, Leaves, Returns, Does, done, then_do, then_turn, branch, turn, with_variable, each, repeat, test_of, meaning, meanings}
+use Rattle.java_mean.specs.Statement.{State, Passed, GoesOn, Leaves, Returns, Does, then_do, then_turn, turn, with_variable, each, test_of, meaning, meanings}
 use Rattle.java_mean.specs.Store.{plainly}
 use Rattle.java_mean.specs.World.{World}
-use Rattle.java_interp.proofs.Nodes.{if_is, if_else_is, for_each_is, while_is}
+use Rattle.java_interp.proofs.Nodes.{if_is, if_else_is}
 use Rattle.java_interp.proofs.Columns.{next_item}
 use Rattle.java_interp.specs.declared.frame.Frame.{Frame}
 use Rattle.java_interp.specs.declared.frame.Frame.TheVariants as frames
@@ -29,6 +26,7 @@ use Rattle.java_interp.specs.declared.frame.Went.{Went}
 use Rattle.java_interp.specs.declared.frame.Went.TheVariants as wents
 use Rattle.java_interp.specs.declared.held.List as Held
 use Rattle.java_interp.specs.declared.held.Held as CodeHeld
+use Rattle.java_interp.specs.declared.numbers.Slot.{Slot}
 use Rattle.java_interp.specs.declared.stop.Stop.{Stop}
 use Rattle.java_interp.specs.declared.stop.Stop.TheVariants as stops
 use Rattle.java_interp.specs.Gives.{Stops}
@@ -36,7 +34,7 @@ use Rattle.java_interp.specs.Held.{rows_in, value_in}
 use Rattle.java_interp.specs.Stack.{into, after, entered, went, Moves, IfStill, IfTurned, is_loop_frame, count, count_all, weight, weight_all}
 use Rattle.java_interp.proofs.Stopped.{stops_same}
 use Rattle.java_interp.proofs.Turns.{repeat_unrolled, repeat_over, repeat_out, repeat_stops}
-use Rattle.java_interp.specs.Chosen.{chosen, otherwise, count_other}
+use Rattle.java_interp.specs.Chosen.{chosen, count_other}
 
 -- ---- Branches
 
@@ -148,9 +146,9 @@ each_out rows i row x body s e lt at out = ap (λ l. each l x body s) (next_item
 pub each_turn : (rows : List Row) (i : ℕ) (row : Row) (x : List ℕ) (body : Does) (s t : State) → i < length rows → row ≡ get_or rows i row → turn s ≡ Ok t → each (drop i rows) x body s ≡ then_turn (body (with_variable t x (plainly (element row)))) (each (drop (i + 1) rows) x body)
 each_turn rows i row x body s t lt at tick = ap (λ l. each l x body s) (next_item rows i row lt at) ∙ rw tick refl
 
-pub each_began : (w : World) (x : Bor (List ℕ)) (list : Held.List) (i : ℕ) (row : Row) (body : Bor (List Stmt)) (s t u : State) (fs mid new : List Frame) → i < length (rows_in list) → row ≡ get_or (rows_in list) i row → turn s ≡ Ok t → u ≡ with_variable t x.now (plainly (element row)) → mid ≡ fs ++ frames.Each x list (i + 1) body ∷ [] → new ≡ mid ++ frames.Run body ∷ [] → after w fs (into w (frames.Each x list i body) (Ok (GoesOn s))) ≡ after w new (Ok (GoesOn u))
+pub each_began : (w : World) (x : Slot) (list : Held.List) (i : ℕ) (row : Row) (body : Bor (List Stmt)) (s t u : State) (fs mid new : List Frame) → i < length (rows_in list) → row ≡ get_or (rows_in list) i row → turn s ≡ Ok t → u ≡ with_variable t x.name.now (plainly (element row)) → mid ≡ fs ++ frames.Each x list (i + 1) body ∷ [] → new ≡ mid ++ frames.Run body ∷ [] → after w fs (into w (frames.Each x list i body) (Ok (GoesOn s))) ≡ after w new (Ok (GoesOn u))
 each_began w x list i row body s t u fs mid new lt at tick store p q =
-    ap (after w fs) (each_turn (rows_in list) i row x.now (meanings (statements body.now) w) s t lt at tick ∙ ap (λ (z : State). then_turn (meanings (statements body.now) w z) (each (drop (i + 1) (rows_in list)) x.now (meanings (statements body.now) w))) (sym store))
+    ap (after w fs) (each_turn (rows_in list) i row x.name.now (meanings (statements body.now) w) s t lt at tick ∙ ap (λ (z : State). then_turn (meanings (statements body.now) w z) (each (drop (i + 1) (rows_in list)) x.name.now (meanings (statements body.now) w))) (sym store))
     ∙ two_pushed w fs mid new (frames.Each x list (i + 1) body) (frames.Run body) (Ok (GoesOn u)) p q
 
 pub loop_began : (w : World) (cond : Bor Expr) (body : Bor (List Stmt)) (s t : State) (fs mid new : List Frame) → test_of (expression cond.now) w s.store ≡ Ok true → turn s ≡ Ok t → mid ≡ fs ++ frames.Loop cond body ∷ [] → new ≡ mid ++ frames.Run body ∷ [] → after w fs (into w (frames.Loop cond body) (Ok (GoesOn s))) ≡ after w new (Ok (GoesOn t))
@@ -166,9 +164,9 @@ pub goes_out : (w : World) (fs : List Frame) (r : Result Passed Ending) (e : End
 goes_out w fs r e h = ap (after w fs) h ∙ after_err w fs e
 
 -- a loop stops where no turn is left, or its test stops
-pub each_stops : (w : World) (fs : List Frame) (x : Bor (List ℕ)) (list : Held.List) (i : ℕ) (row : Row) (body : Bor (List Stmt)) (s : State) (stop : Stop) → i < length (rows_in list) → row ≡ get_or (rows_in list) i row → Stops stop (turn s) → Stops stop (after w fs (into w (frames.Each x list i body) (Ok (GoesOn s))))
+pub each_stops : (w : World) (fs : List Frame) (x : Slot) (list : Held.List) (i : ℕ) (row : Row) (body : Bor (List Stmt)) (s : State) (stop : Stop) → i < length (rows_in list) → row ≡ get_or (rows_in list) i row → Stops stop (turn s) → Stops stop (after w fs (into w (frames.Each x list i body) (Ok (GoesOn s))))
 each_stops w fs x list i row body s stops.Memory lt at h = tt
-each_stops w fs x list i row body s (stops.Ends e) lt at h = goes_out w fs (into w (frames.Each x list i body) (Ok (GoesOn s))) e (each_out (rows_in list) i row x.now (meanings (statements body.now) w) s e lt at h)
+each_stops w fs x list i row body s (stops.Ends e) lt at h = goes_out w fs (into w (frames.Each x list i body) (Ok (GoesOn s))) e (each_out (rows_in list) i row x.name.now (meanings (statements body.now) w) s e lt at h)
 
 pub loop_stops : (w : World) (fs : List Frame) (cond : Bor Expr) (body : Bor (List Stmt)) (s : State) (stop : Stop) → test_of (expression cond.now) w s.store ≡ Ok true → Stops stop (turn s) → Stops stop (after w fs (into w (frames.Loop cond body) (Ok (GoesOn s))))
 loop_stops w fs cond body s stops.Memory t h = tt
@@ -181,8 +179,8 @@ test_stops w fs cond body s (stops.Ends e) h = goes_out w fs (into w (frames.Loo
 pub loop_over : (w : World) (fs : List Frame) (cond : Bor Expr) (body : Bor (List Stmt)) (s : State) → test_of (expression cond.now) w s.store ≡ Ok false → after w fs (into w (frames.Loop cond body) (Ok (GoesOn s))) ≡ after w fs (Ok (GoesOn s))
 loop_over w fs cond body s t = goes_over w fs (into w (frames.Loop cond body) (Ok (GoesOn s))) s (repeat_over s.turns (test_of (expression cond.now) w) (meanings (statements body.now) w) s t)
 
-pub list_over : (w : World) (fs : List Frame) (x : Bor (List ℕ)) (list : Held.List) (i : ℕ) (body : Bor (List Stmt)) (s : State) → length (rows_in list) ≤ i → after w fs (into w (frames.Each x list i body) (Ok (GoesOn s))) ≡ after w fs (Ok (GoesOn s))
-list_over w fs x list i body s le = goes_over w fs (into w (frames.Each x list i body) (Ok (GoesOn s))) s (each_over (rows_in list) i x.now (meanings (statements body.now) w) s le)
+pub list_over : (w : World) (fs : List Frame) (x : Slot) (list : Held.List) (i : ℕ) (body : Bor (List Stmt)) (s : State) → length (rows_in list) ≤ i → after w fs (into w (frames.Each x list i body) (Ok (GoesOn s))) ≡ after w fs (Ok (GoesOn s))
+list_over w fs x list i body s le = goes_over w fs (into w (frames.Each x list i body) (Ok (GoesOn s))) s (each_over (rows_in list) i x.name.now (meanings (statements body.now) w) s le)
 
 pub moves_same : (w : World) (r : Result Next Stop) (s : State) (run other : Result Passed Ending) → other ≡ run → Moves w r s run → Moves w r s other
 moves_same w (Ok next) s run other e m = e ∙ m

@@ -1,5 +1,5 @@
 -- The variables in the entries of an IndexMap, and rows of different lengths.
-use Rattle.std.proofs.Common.{◌≡◌, ℕ, suc, length, List, [], ◌∷◌, Bool, true, false, cond, refl, ap, sym, ◌∙◌, subst, Option, Some, None, map, Bor, arith}
+use Rattle.std.proofs.Common.{◌≡◌, ℕ, suc, length, List, [], ◌∷◌, Bool, true, false, cond, refl, ap, sym, ◌∙◌, subst, Option, Some, map, Bor}
 use Rattle.std.specs.Prelude.{bytes_eq, ◌&&◌, if◌then◌else◌}
 use Rattle.std.specs.Map.{lookup}
 use Rattle.std.specs.Option.{option_map}
@@ -11,6 +11,7 @@ use Rattle.java_mean.specs.Store as meant
 use Rattle.java_mean.specs.Store.{put}
 use Rattle.java_mean.proofs.Puts.{names_equal, name_same}
 use Rattle.java_interp.specs.declared.held.Variable.{Variable}
+use Rattle.java_interp.specs.Placed.{test, same}
 use Rattle.java_interp.specs.Held.{variable_in}
 
 abbrev pub Entries : Type 0
@@ -18,12 +19,6 @@ Entries = List (Bor (List ℕ) × Variable)
 
 abbrev pub seen : Entries → meant.Store
 seen es = map (λ p. (p.0.now, variable_in p.1)) es
-
-abbrev pub test : List ℕ → Bor (List ℕ) → Bool
-test x k = bytes_eq x k.now
-
-abbrev pub same : Bor (List ℕ) → Bor (List ℕ) → Bool
-same j k = bytes_eq j.now k.now
 
 back_true : (x y : List ℕ) → bytes_eq x y ≡ true → bytes_eq y x ≡ true
 back_true x y e = subst (λ z. bytes_eq z x ≡ true) (names_equal x y e) (name_same x)

@@ -1,5 +1,5 @@
 -- What a condition chooses.
-use Rattle.std.specs.Prelude.{ℕ, Vec, Option, Some, None, ◌+◌}
+use Rattle.std.specs.Prelude.{ℕ, Vec, Option, Some, None}
 use Rattle.std.specs.declared.alloc.Global.{Global}
 use Rattle.java_ast.specs.declared.tree.Stmt.{Stmt}
 use Rattle.java_ast.specs.Reading.{statements}

@@ -5,7 +5,7 @@ use Rattle.qbs_base.specs.declared.scalar.Value.{Value}
 use Rattle.qbs_base.specs.declared.scalar.Value.TheVariants as values
 use Rattle.java_mean.specs.Store as meant
 use Rattle.java_interp.specs.declared.held.List.{List}
-use Rattle.java_interp.specs.declared.held.List.TheVariants.{Lent, Shared}
+use Rattle.java_interp.specs.declared.held.List.TheVariants.{Lent, Shared, Distinct}
 use Rattle.java_interp.specs.declared.held.Held.{Held}
 use Rattle.java_interp.specs.declared.held.Held.TheVariants.{One, Whole, Many}
 use Rattle.java_interp.specs.declared.held.Variable.{Variable}
@@ -13,6 +13,7 @@ use Rattle.java_interp.specs.declared.held.Variable.{Variable}
 abbrev pub rows_in : List → Items Row
 rows_in (Lent rows) = rows.now
 rows_in (Shared rows) = rows.value
+rows_in (Distinct members) = members.value
 
 abbrev pub value_in : Held → Value
 value_in (One x) = values.One x

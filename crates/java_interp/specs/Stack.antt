@@ -19,7 +19,7 @@ use Rattle.java_interp.specs.Held.{rows_in, value_in}
 -- what a frame makes of how the run came to it
 abbrev pub into : World → Frame → Result Passed Ending → Result Passed Ending
 into w (frames.Run p) r = then_do r (meanings (statements p.now) w)
-into w (frames.Each x rows i body) r = then_turn r (each (drop i (rows_in rows)) x.now (meanings (statements body.now) w))
+into w (frames.Each x rows i body) r = then_turn r (each (drop i (rows_in rows)) x.name.now (meanings (statements body.now) w))
 into w (frames.Loop cond body) r = then_turn r (λ s. repeat s.turns (test_of (expression cond.now) w) (meanings (statements body.now) w) s)
 
 -- what all frames make of it, the last one first

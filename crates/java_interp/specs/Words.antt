@@ -1,5 +1,5 @@
 -- Parts of the meaning that functions of the interpreter give.
-use Rattle.std.specs.Prelude.{ℕ, ℤ, Bool, List, ◌++◌, Result, Ok, Err}
+use Rattle.std.specs.Prelude.{ℕ, ℤ, Bool, List, ◌++◌, Result, Ok}
 use Rattle.qbs_base.specs.Named.{at_name}
 use Rattle.qbs_base.specs.Scalar.{value_before}
 use Rattle.qbs_base.specs.Sort.{turned, stable_sort}

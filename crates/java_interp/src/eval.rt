@@ -27,21 +27,21 @@ use java_mean::{Ending, RunFault};
 use qbs_base::{Name, Row, Scalar, Scalars, Span, Text};
 use std::alloc::Global;
 
-// The variable of this name.
-fn held<'b, 'a>(store: &'b Store<'a>, name: &Name) -> Result<&'b Held<'a>, Stop>
+// What the variable of this name holds.
+fn held<'b, 'a>(store: &'b Store<'a>, number: usize, name: &Name) -> Result<&'b Held<'a>, Stop>
     ensures { GivesBy (λ h. value_in h.now) result (held_at store.now name.now) }
 {
-    match store.get(name) {
+    match store.get(number, name) {
         Some(variable) => Ok(&variable.held),
         None => Err(Stop::Ends(Ending::Stuck)),
     }
 }
 
 // The rows of a list or a set by its name.
-fn list<'b, 'a>(store: &'b Store<'a>, name: &Name) -> Result<&'b [Row], Stop>
+fn list<'b, 'a>(store: &'b Store<'a>, number: usize, name: &Name) -> Result<&'b [Row], Stop>
     ensures { GivesBy (λ rows. rows.now) result (list_at store.now name.now) }
 {
-    match held(store, name)? {
+    match held(store, number, name)? {
         Held::One(_) => Err(Stop::Ends(Ending::Stuck)),
         Held::Whole(_) => Err(Stop::Ends(Ending::Stuck)),
         Held::Many(list) => Ok(rows(list)),
@@ -83,7 +83,7 @@ fn field(row: &Expr, source: &Source, store: &Store, name: &Name) -> Result<Scal
     ensures { Gives result (field_in (expression row.now) (world source.now) store.now name.now) }
 {
     if let ExprNode::Var(x) = &row.node {
-        if let Held::Whole(row) = held(store, x)? {
+        if let Held::Whole(row) = held(store, source.numbers.at(row.span), x)? {
             return cell_of(source, row, name);
         }
         return Err(Stop::Ends(Ending::Stuck));
@@ -103,7 +103,7 @@ pub fn eval<'a>(e: &Expr, source: &Source<'a>, store: &Store<'a>) -> Result<Held
     let at = e.span;
     match &e.node {
         ExprNode::Lit(x) => Ok(Held::One(copy_scalar(source.alloc, x)?)),
-        ExprNode::Var(x) => Ok(held_again(source.alloc, held(store, x)?)?),
+        ExprNode::Var(x) => Ok(held_again(source.alloc, held(store, source.numbers.at(at), x)?)?),
         ExprNode::Field(row, name) => Ok(Held::One(field(row, source, store, name)?)),
         ExprNode::Binary(op, a, b) => {
             let x = scalar_of(eval(a, source, store)?)?;
@@ -122,14 +122,17 @@ pub fn eval<'a>(e: &Expr, source: &Source<'a>, store: &Store<'a>) -> Result<Held
             let y = scalar_of(eval(b, source, store)?)?;
             Ok(Held::One(Scalar::Bool(same_texts(&x, &y)?)))
         }
-        ExprNode::Size(x) => Ok(Held::One(size_number(at, list(store, x)?.len())?)),
+        ExprNode::Size(x) => Ok(Held::One(size_number(
+            at,
+            list(store, source.numbers.at(at), x)?.len(),
+        )?)),
         ExprNode::Get(x, a) => {
-            let rows = list(store, x)?;
+            let rows = list(store, source.numbers.at(at), x)?;
             let y = scalar_of(eval(a, source, store)?)?;
             member(source.alloc, rows, long_of(&y)?, at)
         }
         ExprNode::Contains(x, a) => {
-            let rows = list(store, x)?;
+            let rows = list(store, source.numbers.at(at), x)?;
             let y = scalar_of(eval(a, source, store)?)?;
             Ok(Held::One(Scalar::Bool(is_among(rows, &[y]))))
         }

@@ -1,14 +1,14 @@
 // What is left to do.
 use crate::held::{Held, List};
+use crate::numbers::Slot;
 use java_ast::{Expr, Stmt};
-use qbs_base::Name;
 
 /// What is left to do: statements, the further turns of a loop over a list, from the member with a
 /// number on, or of a loop with a test.
 #[derive(Drop)]
 pub enum Frame<'a> {
     Run(&'a [Stmt]),
-    Each(&'a Name, List<'a>, usize, &'a [Stmt]),
+    Each(Slot<'a>, List<'a>, usize, &'a [Stmt]),
     Loop(&'a Expr, &'a [Stmt]),
 }
 

@@ -5,6 +5,7 @@ ghost use Rattle.sql_ast.specs.Reading.{query};
 ghost use Rattle.java_types.specs.Texts.{read_by};
 ghost use Rattle.java_interp.specs.IsRead.{IsRead};
 
+use crate::placed::at_place;
 use indexmap::IndexMap;
 use qbs_base::{Fail, NoMemory, Text};
 use schema::Schema;
@@ -65,33 +66,34 @@ impl<'a> Queries<'a> {
         self.schema
     }
 
-    /// The query of a text that was read and has one.
-    pub fn find(&self, text: &Text) -> Option<&Query>
+    /// The query of a text that was read and has one, which is looked for by its number first.
+    pub fn find(&self, number: usize, text: &Text) -> Option<&Query>
         ensures { IfSome result (λ q. IsRead self.now text.now (query q.now)) }
     {
-        self.known.get(text.as_slice())
+        at_place(&self.known, number, text.as_slice())
     }
 
-    fn keep(&mut self, text: &'a Text, q: Query) -> Result<(), NoMemory>
+    fn keep(&mut self, text: &'a Text, q: Query) -> Result<usize, NoMemory>
         requires { IsRead self.old text.now (query q) }
         ensures { self.new ≡ self.old }
     {
-        match self.known.insert(text.as_slice(), q) {
-            Ok(_) => Ok(()),
+        match self.known.insert_full(text.as_slice(), q) {
+            Ok((number, _)) => Ok(number),
             Err(_) => Err(NoMemory),
         }
     }
 
-    /// Reads a text, where it wasn't read before or has no query.
-    pub fn read(&mut self, text: &'a Text) -> Result<(), NoMemory>
+    /// Reads a text, where it wasn't read before or has no query, and gives its number, which means
+    /// nothing where it has none.
+    pub fn read(&mut self, text: &'a Text) -> Result<usize, NoMemory>
         ensures { self.new ≡ self.old }
     {
-        if self.known.contains_key(text.as_slice()) {
-            return Ok(());
+        if let Some(number) = self.known.get_index_of(text.as_slice()) {
+            return Ok(number);
         }
         match read_query(self.alloc, self.schema, text)? {
             Some(q) => self.keep(text, q),
-            None => Ok(()),
+            None => Ok(0),
         }
     }
 }

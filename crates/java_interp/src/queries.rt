@@ -50,7 +50,7 @@ fn answer_of<'a>(
 pub fn ask<'a>(source: &Source, at: Span, text: &Text, args: &Scalars) -> Result<Held<'a>, Stop>
     ensures { GivesBy value_in result (meant.answered at ((world source.now).ask text.now args.now)) }
 {
-    if let Some(q) = source.queries.find(text) {
+    if let Some(q) = source.queries.find(source.numbers.at(at), text) {
         return answer_of(source, at, text, q, args);
     }
     match read_query(source.alloc, source.queries.schema(), text)? {

@@ -15,6 +15,7 @@ use crate::gather::gather;
 use crate::held::{Held, Variable, value};
 use crate::known::Queries;
 use crate::machine::Machine;
+use crate::numbers::Numbers;
 use crate::source::Source;
 use crate::stack::{Ended, run_all};
 use crate::stop::Stop;
@@ -48,22 +49,23 @@ enum Reached {
     Stuck,
 }
 
-// The parameters with the arguments' values.
+// The parameters with the arguments' values, in a store for so many names.
 #[tactic(auto, using(crate::proofs::Called::store_step, crate::proofs::Called::store_none))]
 fn parameters<'a>(
     alloc: Global,
     params: &'a [Param],
     args: &[Scalar],
+    size: usize,
 ) -> Result<Store<'a>, NoMemory>
     ensures { IfOk result (λ store. store ≡ store_of (map plain_param params.now) args.now) }
 {
-    let mut store = Store::new(alloc);
+    let mut store = Store::new(alloc, size)?;
     let mut i = params.len().min(args.len());
     while i > 0 {
         i -= 1;
         let held = Held::One(copy_scalar(alloc, &args[i])?);
         let is_set = false;
-        store.replace(&params[i].name, Variable { held, is_set })?;
+        store.replace(size, &params[i].name, Variable { held, is_set })?;
     }
     Ok(store)
 }
@@ -88,7 +90,12 @@ fn reach<'a>(
 {
     let alloc = source.alloc;
     let mut machine = Machine {
-        store: parameters(alloc, m.params.as_slice(), args.as_slice())?,
+        store: parameters(
+            alloc,
+            m.params.as_slice(),
+            args.as_slice(),
+            source.numbers.len(),
+        )?,
         lines: Texts::new(alloc),
         turns,
     };
@@ -107,7 +114,7 @@ fn reach<'a>(
     }
 }
 
-// Reads the query texts of a method, each once, and runs it.
+// Reads the query texts of a method, each once, notes the numbers of its names, and runs it.
 fn call<'a>(
     alloc: Global,
     schema: &'a Schema,
@@ -119,8 +126,14 @@ fn call<'a>(
     ensures { IfOk result (λ r. reached r ≡ outcome (world_with schema.now (read_by schema.now) db.now) (plain_method m.now) args.now turns) }
 {
     let mut queries = Queries::new(alloc, schema);
-    gather(m.body.as_slice(), &mut queries)?;
-    let source = Source { alloc, queries, db };
+    let mut numbers = Numbers::new(alloc);
+    gather(m.body.as_slice(), &mut queries, &mut numbers)?;
+    let source = Source {
+        alloc,
+        queries,
+        numbers,
+        db,
+    };
     reach(&source, m, args, turns)
 }
 

@@ -1,12 +1,14 @@
 // What a method runs on.
 use crate::known::Queries;
+use crate::numbers::Numbers;
 use qbs_base::Db;
 use std::alloc::Global;
 
-/// What a method runs on. The queries know the schema.
+/// What a method runs on, and the numbers of its names and texts. The queries know the schema.
 #[derive(Drop)]
 pub struct Source<'a> {
     pub alloc: Global,
     pub queries: Queries<'a>,
+    pub numbers: Numbers<'a>,
     pub db: &'a Db,
 }

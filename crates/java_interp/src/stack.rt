@@ -10,12 +10,13 @@ ghost use Rattle.java_interp.specs.Stack.{into, after, entered, went, Leads, Lea
 use crate::frame::{Frame, Next, Went};
 use crate::held::{Held, List, Variable, rows};
 use crate::machine::Machine;
+use crate::numbers::Slot;
 use crate::rows::element;
 use crate::source::Source;
 use crate::steps::{start, take_turn, test};
 use crate::stop::Stop;
 use java_ast::{Expr, Stmt};
-use qbs_base::{Name, NoMemory};
+use qbs_base::NoMemory;
 use std::alloc::AllocError;
 
 // One more frame on top.
@@ -111,7 +112,7 @@ fn step_run<'a>(
 #[tactic(auto, using(crate::proofs::Stacked::list_over))]
 fn step_each<'a>(
     source: &Source<'a>,
-    x: &'a Name,
+    x: Slot<'a>,
     list: List<'a>,
     i: usize,
     body: &'a [Stmt],
@@ -129,7 +130,8 @@ fn step_each<'a>(
     let held = element(source.alloc, &rows[i])?;
     take_turn(m)?;
     m.store.replace(
-        x,
+        x.number,
+        x.name,
         Variable {
             held,
             is_set: false,

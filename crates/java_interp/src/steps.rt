@@ -14,15 +14,15 @@ use crate::asked::{bool_of, list_in, member_of, scalar_of};
 use crate::copying::copy_text;
 use crate::eval::eval;
 use crate::frame::{Frame, Next};
-use crate::held::{Held, List, Variable, list_of, own_rows, rows};
+use crate::held::{Held, List, Variable, list_of, list_of_members, own_members, own_rows};
 use crate::machine::Machine;
-use crate::rows::is_among;
+use crate::numbers::Slot;
 use crate::sorting::sorted;
 use crate::source::Source;
 use crate::stop::Stop;
 use java_ast::{Expr, JTy, Stmt, StmtNode};
 use java_mean::Ending;
-use qbs_base::{Name, NoMemory, Row, Rows, Scalar, Text};
+use qbs_base::{Name, NoMemory, Row, Scalar, Text};
 use std::alloc::Global;
 
 /// The truth value of a condition.
@@ -61,45 +61,58 @@ fn nothing<'a>() -> Variable<'a> {
     }
 }
 
-fn assign<'a>(name: &'a Name, held: Held<'a>, m: &mut Machine<'a>) -> Result<(), Stop>
+fn assign<'a>(
+    number: usize,
+    name: &'a Name,
+    held: Held<'a>,
+    m: &mut Machine<'a>,
+) -> Result<(), Stop>
     ensures moves { Leaves result (state m.new) (assigned (state m.old) name.now (value_in held.entry)) }
     ensures turns { m.new.turns ≡ m.old.turns }
 {
-    let is_set = match m.store.get(name) {
+    let is_set = match m.store.get(number, name) {
         Some(variable) => variable.is_set,
         None => return Err(Stop::Ends(Ending::Stuck)),
     };
-    m.store.replace(name, Variable { held, is_set })?;
+    m.store.replace(number, name, Variable { held, is_set })?;
     Ok(())
 }
 
-fn with_member(alloc: Global, is_set: bool, list: List, row: Row) -> Result<Rows, NoMemory>
-    ensures { IfOk result (λ rows. rows ≡ meant.added is_set (rows_in list.entry) row) }
+fn with_member<'a>(alloc: Global, is_set: bool, list: List, row: Row) -> Result<List<'a>, NoMemory>
+    ensures { IfOk result (λ l. rows_in l ≡ meant.added is_set (rows_in list.entry) row) }
 {
-    if is_set && is_among(rows(&list), row.cells.as_slice()) {
-        return own_rows(alloc, list);
+    if is_set {
+        let members = own_members(alloc, list)?;
+        return list_of_members(alloc, members.with_row(alloc, row)?);
     }
     let mut rows = own_rows(alloc, list)?;
     rows.push(row)?;
-    Ok(rows)
+    list_of(alloc, rows)
 }
 
-fn add<'a>(alloc: Global, name: &'a Name, row: Row, m: &mut Machine<'a>) -> Result<(), Stop>
+fn add<'a>(
+    alloc: Global,
+    number: usize,
+    name: &'a Name,
+    row: Row,
+    m: &mut Machine<'a>,
+) -> Result<(), Stop>
     ensures moves { Leaves result (state m.new) (added_to (state m.old) name.now row) }
     ensures turns { m.new.turns ≡ m.old.turns }
 {
-    let Some(old) = m.store.replace(name, nothing())? else {
+    let Some(old) = m.store.replace(number, name, nothing())? else {
         return Err(Stop::Ends(Ending::Stuck));
     };
     let is_set = old.is_set;
-    let rows = with_member(alloc, is_set, list_in(old.held)?, row)?;
-    let held = Held::Many(list_of(alloc, rows)?);
-    m.store.replace(name, Variable { held, is_set })?;
+    let list = with_member(alloc, is_set, list_in(old.held)?, row)?;
+    let held = Held::Many(list);
+    m.store.replace(number, name, Variable { held, is_set })?;
     Ok(())
 }
 
 fn sort<'a>(
     source: &Source<'a>,
+    number: usize,
     name: &'a Name,
     keys: &[Name],
     down: &[bool],
@@ -108,14 +121,14 @@ fn sort<'a>(
     ensures moves { Leaves result (state m.new) (sorted_at source.now.queries (state m.old) name.now keys.now down.now) }
     ensures turns { m.new.turns ≡ m.old.turns }
 {
-    let Some(old) = m.store.replace(name, nothing())? else {
+    let Some(old) = m.store.replace(number, name, nothing())? else {
         return Err(Stop::Ends(Ending::Stuck));
     };
     let is_set = old.is_set;
     let taken = own_rows(source.alloc, list_in(old.held)?)?;
     let ordered = sorted(source.queries.schema(), keys, down, taken)?;
     let held = Held::Many(list_of(source.alloc, ordered)?);
-    m.store.replace(name, Variable { held, is_set })?;
+    m.store.replace(number, name, Variable { held, is_set })?;
     Ok(())
 }
 
@@ -181,24 +194,25 @@ pub fn start<'a>(source: &Source<'a>, s: &'a Stmt, m: &mut Machine<'a>) -> Resul
     ensures falls { IfOk result (λ next. weight_next next ≤ count (statement s.now)) }
     ensures turns { OnOk result (m.new.turns ≡ m.old.turns) }
 {
+    let number = source.numbers.at(s.span);
     match &s.node {
         StmtNode::Declare { ty, name, value } => {
             let held = eval(value, source, &m.store)?;
             let is_set = is_set_type(ty);
-            m.store.replace(name, Variable { held, is_set })?;
+            m.store.replace(number, name, Variable { held, is_set })?;
             Ok(Next::On)
         }
         StmtNode::Assign { name, value } => {
-            assign(name, eval(value, source, &m.store)?, m)?;
+            assign(number, name, eval(value, source, &m.store)?, m)?;
             Ok(Next::On)
         }
         StmtNode::Add { name, value } => {
             let row = member_of(source.alloc, eval(value, source, &m.store)?)?;
-            add(source.alloc, name, row, m)?;
+            add(source.alloc, number, name, row, m)?;
             Ok(Next::On)
         }
         StmtNode::Sort { name, keys, down } => {
-            sort(source, name, keys.as_slice(), down.as_slice(), m)?;
+            sort(source, number, name, keys.as_slice(), down.as_slice(), m)?;
             Ok(Next::On)
         }
         StmtNode::If { cond, yes, other } => choose(source, cond, yes, other, m),
@@ -209,7 +223,8 @@ pub fn start<'a>(source: &Source<'a>, s: &'a Stmt, m: &mut Machine<'a>) -> Resul
             body,
         } => {
             let rows = list_in(eval(list, source, &m.store)?)?;
-            Ok(Next::Enter(Frame::Each(name, rows, 0, body)))
+            let slot = Slot { number, name };
+            Ok(Next::Enter(Frame::Each(slot, rows, 0, body)))
         }
         StmtNode::While { cond, body } => Ok(Next::Enter(Frame::Loop(cond, body))),
         StmtNode::Print { value } => {

@@ -1,7 +1,6 @@
-use Rattle.std.proofs.Common.{◌≡◌, take}
-use Rattle.sql_ast.specs.Grouped.{firsts}
-use Rattle.java_mean.specs.Expression.{same_member}
+use Rattle.std.proofs.Common.{take}
+use Rattle.java_interp.specs.Met.{AreFirsts}
 use Rattle.java_interp.proofs.firsts.firsts_of.Given as goal
 
-abbrev pub invariant-loop-i : goal.invariant-loop-i
-invariant-loop-i l = l.list.items ≡ firsts same_member (take l.i l.rows)
+abbrev pub invariant-loop-row : goal.invariant-loop-row
+invariant-loop-row l = AreFirsts l.met l.list.items (take l.row-index l.rows)

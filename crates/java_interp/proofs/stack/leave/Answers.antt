@@ -1,6 +1,5 @@
-use Rattle.std.proofs.Common.{◌≡◌, ◌∙◌, sym, Ok, arith}
-use Rattle.java_mean.specs.Statement.{State, Leaves}
-use Rattle.java_mean.specs.World.{World}
+use Rattle.std.proofs.Common.{◌∙◌, sym, Ok, arith}
+use Rattle.java_mean.specs.Statement.{Leaves}
 use Rattle.java_interp.specs.Stack.{after}
 use Rattle.java_interp.proofs.Stacked.{found_loop, passed_by, after_none, weight_pushed}
 use Rattle.java_interp.proofs.stack.leave.Goals as goal

@@ -1,4 +1,4 @@
-use Rattle.std.proofs.Common.{◌≡◌, ◌∙◌, ◌<◌, ap, false, Ok, List, length, get_or, subst, arith}
+use Rattle.std.proofs.Common.{◌≡◌, ◌∙◌, ◌<◌, ap, List, length, get_or, subst, arith}
 use Rattle.std.proofs.lemmas.Result.{err_from_is_err_and}
 use Rattle.qbs_base.specs.declared.scalar.Row.{Row}
 use Rattle.qbs_base.specs.declared.scalar.Value.{Value}
@@ -23,5 +23,5 @@ returns-clause-leads c =
     let lt : c.args.i < length (rows_in c.args.list) = subst (λ (l : List Row). c.args.i < length l) c.rows-rows.ensures here in
     let at : c.index-rows-i.result ≡ get_or (rows_in c.args.list) c.args.i c.index-rows-i.result = subst (λ (l : List Row). c.index-rows-i.result ≡ get_or l c.args.i c.index-rows-i.result) c.rows-rows.ensures c.index-rows-i.is in
     let u : State = record { store = c.replace.new.self; lines = c.take_turn.new.m.lines; turns = c.take_turn.new.m.turns } in
-    let stored = ap (λ (l : Store). record { store = l; lines = c.take_turn.new.m.lines; turns = c.take_turn.new.m.turns }) (c.in_ok-replace.ensures.stored ∙ ap (λ (v : Value). put c.take_turn.new.m.store c.args.x.now (plainly v)) c.in_ok-held.ensures) in
+    let stored = ap (λ (l : Store). record { store = l; lines = c.take_turn.new.m.lines; turns = c.take_turn.new.m.turns }) (c.in_ok-replace.ensures.stored ∙ ap (λ (v : Value). put c.take_turn.new.m.store c.args.x.name.now (plainly v)) c.in_ok-held.ensures) in
     each_began (world c.args.source.now) c.args.x c.args.list c.args.i c.index-rows-i.result c.args.body (state c.args.m.now) (state c.take_turn.new.m) u c.args.stack.now.items c.push.new.stack.items c.push-2.new.stack.items lt at c.in_ok-take_turn.ensures.leaves stored c.in_ok-push.ensures c.in_ok-push-2.ensures
