@@ -1,5 +1,5 @@
 -- Conditions one after the other.
-use Rattle.std.proofs.Common.{◌≡◌, List, [], ◌∷◌, ◌++◌, map, length, slice_get, Option, Some, None, option_map, refl, sym, ap, ◌∙◌, ℕ, zero, suc}
+use Rattle.std.proofs.Common.{◌≡◌, List, [], ◌∷◌, ◌++◌, map, slice_get, option_map, refl, ℕ, zero, suc}
 use Rattle.sql_ast.specs.Tree.{Condition, Both, Filter, Everything, Where}
 use Rattle.sql_emit.specs.Emitted.{joined_from, joined}
 use Rattle.sql_emit.specs.Reading.{with_also, all_also}

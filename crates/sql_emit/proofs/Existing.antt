@@ -1,6 +1,7 @@
 -- A flag's condition, as the code makes it.
-use Rattle.std.proofs.Common.{◌≡◌, ℕ, ◌<◌, List, [], ◌∷◌, ◌++◌, map, length, Option, Result, Ok, Err, IfOk, Some, refl, sym, ap, ap₂, ◌∙◌, arith}
+use Rattle.std.proofs.Common.{◌≡◌, ℕ, ◌<◌, List, [], ◌∷◌, ◌++◌, map, length, Option, Result, Ok, Err, IfOk, Some, refl, sym, ap, ap₂, ◌∙◌, subst, arith}
 use Rattle.qbs_base.specs.declared.memory.NoMemory.{NoMemory}
+use Rattle.tor_terms.specs.Plain.{Form}
 use Rattle.kernel_lang.specs.Pools.{Member}
 use Rattle.sql_ast.specs.declared.tree.Cond.{Cond}
 use Rattle.sql_ast.specs.declared.tree.FromItem.{FromItem}
@@ -23,7 +24,7 @@ exists_ok g own outer round m n from f (Ok c) none some loops number filter_is f
     (filter_is ∙ ap₂ (λ (s : Scope) k. joined (conditions no_flag g s k own m)) (inner_is own outer some) number ∙ ap (λ (ks : List ℕ). joined (conditions no_flag g (inner (outermost outer) ks) (length outer) ks m)) loops)
     ∙ ap (λ (ks : List ℕ). flag_exists g (scope_by outer ks) (Some m)) (sym none)
 
-pub where_ok : (g : Ground) (m : Member) (f h : Filter) (r : Result (Option Cond) NoMemory) → f ≡ all_also Everything (limits g 0 m.0.chain) → h ≡ all_also f (map (formula (flag_condition g) g (outermost m.0.chain)) m.1)
+where_ok : (g : Ground) (m : Member) (f h : Filter) (r : Result (Option Cond) NoMemory) → f ≡ all_also Everything (limits g 0 m.0.chain) → h ≡ all_also f (map (formula (flag_condition g) g (outermost m.0.chain)) m.1)
     → IfOk r (λ o. filter_of o ≡ all_also h (best_tests g (outermost m.0.chain) m.0.update m.0.start)) → IfOk r (λ o. filter_of o ≡ where_of g m)
 where_ok g m f h (Err e) first second third = tt
 where_ok g m f h (Ok o) first second third =
@@ -32,3 +33,10 @@ where_ok g m f h (Ok o) first second third =
     ∙ sym (also_append Everything (limits g 0 m.0.chain) (map (formula (flag_condition g) g (outermost m.0.chain)) m.1 ++ best_tests g (outermost m.0.chain) m.0.update m.0.start)
     ∙ also_append (all_also Everything (limits g 0 m.0.chain)) (map (formula (flag_condition g) g (outermost m.0.chain)) m.1) (best_tests g (outermost m.0.chain) m.0.update m.0.start))
     ∙ also_joined (limits g 0 m.0.chain ++ (map (formula (flag_condition g) g (outermost m.0.chain)) m.1 ++ best_tests g (outermost m.0.chain) m.0.update m.0.start))
+
+pub where_from : (g : Ground) (m : Member) (js : List ℕ) (fs : List Form) (f h : Filter) (r : Result (Option Cond) NoMemory) → js ≡ m.0.chain → fs ≡ m.1 → f ≡ all_also Everything (limits g 0 js)
+    → h ≡ all_also f (map (formula (flag_condition g) g (outermost js)) fs) → IfOk r (λ o. filter_of o ≡ all_also h (best_tests g (outermost js) m.0.update m.0.start)) → IfOk r (λ o. filter_of o ≡ where_of g m)
+where_from g m js fs f h r loops choice first second third =
+    where_ok g m f h r (first ∙ ap (λ (ks : List ℕ). all_also Everything (limits g 0 ks)) loops)
+    (second ∙ ap₂ (λ (ks : List ℕ) (xs : List Form). all_also f (map (formula (flag_condition g) g (outermost ks)) xs)) loops choice)
+    (subst (λ (ks : List ℕ). IfOk r (λ o. filter_of o ≡ all_also h (best_tests g (outermost ks) m.0.update m.0.start))) loops third)

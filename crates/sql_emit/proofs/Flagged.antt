@@ -1,6 +1,5 @@
 -- The accumulators of members, by their numbers.
 use Rattle.std.proofs.Common.{◌≡◌, ℕ, zero, suc, ◌+◌, ◌<◌, ◌≤◌, arith, List, [], ◌∷◌, length, map, get_or, slice_get, Option, Some, None, option_map, Result, Ok, Err, IfOk, false, refl, sym, ap, ◌∙◌}
-use Rattle.std.specs.List.{AllByRecursion}
 use Rattle.kernel_lang.specs.declared.parts.Acc.{Acc}
 use Rattle.kernel_lang.specs.Plain.{Accumulator, accumulator}
 use Rattle.kernel_lang.specs.Pools.{Member, chosen, members_from}

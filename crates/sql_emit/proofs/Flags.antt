@@ -1,6 +1,6 @@
 -- Flags: a condition on an inner SELECT is the flag's truth at the outer rows. And so what a WHERE asks is
 -- what the formulas ask.
-use Rattle.std.proofs.Common.{◌≡◌, ℕ, zero, suc, ◌+◌, ◌<◌, Bool, true, false, cond, ◌&&◌, ◌||◌, List, [], ◌∷◌, ◌++◌, map, drop, length, slice_get, refl, ap, ap₂, subst, arith, nat_eq, nat_lt}
+use Rattle.std.proofs.Common.{◌≡◌, ℕ, zero, suc, ◌<◌, Bool, true, false, cond, ◌&&◌, ◌||◌, List, [], ◌∷◌, ◌++◌, map, drop, length, slice_get, refl, ap, ap₂, subst, arith, nat_eq, nat_lt}
 use Rattle.std.specs.List.{AllByRecursion, list_all}
 use Rattle.std.specs.Prelude.{◌^◌}
 use Rattle.std.specs.declared.option.Option.{Option}
@@ -26,7 +26,6 @@ use Rattle.kernel_lang.specs.Typed.{atom_is_typed, members_agree, update_is_type
 use Rattle.kernel_lang.specs.Fitting.{named_places}
 use Rattle.kernel_lang.specs.Validity.{is_mark, is_flag, names_a_flag, flags_are_flags, start_is_valid, takes_a_column, starts_rightly, limits_are_valid, limit_is_valid, rises, rises_after}
 use Rattle.sql_emit.specs.Scopes.{Ground, numbered, number_in, def_of, list_of}
-use Rattle.sql_emit.specs.Emitted.{limits}
 use Rattle.sql_emit.proofs.Tools.{and_left, and_right, eq_true, lt_of}
 
 -- ---- what is typed

@@ -28,7 +28,6 @@ use Rattle.kernel_lang.specs.declared.parts.ListDef.{ListDef}
 use Rattle.kernel_lang.specs.declared.parts.Update.{Update}
 use Rattle.kernel_lang.specs.declared.parts.Update.TheVariants as updates
 use Rattle.kernel_lang.specs.Plain.{Fragment}
-use Rattle.kernel_lang.specs.Pools.{Member, members}
 use Rattle.kernel_lang.specs.Sentences.{IsValid}
 use Rattle.kernel_lang.specs.Fitting.{named_places}
 use Rattle.kernel_lang.specs.Typed.{column_type, scalar_type, operand_type, place_type, same_type, is_type, atom_is_typed, members_agree, update_is_typed, place_is_there, is_typed}

@@ -1,3 +1,5 @@
+pub mod Emitting
+pub mod Outside
 pub mod Computed
 pub mod Uses
 pub mod Flagged

@@ -1,5 +1,5 @@
 -- The query of an accumulator answers what its postcondition claims.
-use Rattle.std.proofs.Common.{◌≡◌, ℕ, ℤ, zero, suc, ◌+◌, ◌<◌, pos, negsuc, ◌+ℤ◌, int_lt, Bool, true, false, cond, ◌&&◌, ◌||◌, List, [], ◌∷◌, ◌++◌, map, take, drop, length, slice_get, refl, sym, ap, ap₂, ◌∙◌, subst, arith, nat_eq, is_none}
+use Rattle.std.proofs.Common.{◌≡◌, ℕ, ℤ, zero, suc, ◌<◌, pos, negsuc, ◌+ℤ◌, int_lt, Bool, true, false, cond, ◌&&◌, ◌||◌, List, [], ◌∷◌, ◌++◌, map, take, drop, length, slice_get, refl, sym, ap, ap₂, ◌∙◌, subst, arith, nat_eq, is_none}
 use Rattle.std.specs.Ordering.{int_cmp, is_lt}
 use Rattle.std.specs.declared.cmp.Ordering.TheVariants.{Less, Equal, Greater}
 use Rattle.std.specs.List.{AllByRecursion, filter, flat_map, list_all}
@@ -22,7 +22,7 @@ use Rattle.tor_terms.specs.declared.term.Elem.TheVariants as elems
 use Rattle.tor_terms.specs.declared.term.Way.{Way}
 use Rattle.tor_terms.specs.declared.term.Way.TheVariants as ways
 use Rattle.tor_terms.specs.Fits.{row_of}
-use Rattle.tor_terms.specs.Plain.{Tree, Walk, Nil, Lit, Proj, Best}
+use Rattle.tor_terms.specs.Plain.{Tree, Walk, Nil, Lit, Proj}
 use Rattle.tor_terms.specs.Truth.{Datum, Tup, Element, World, row_at, rows_at, all_hold, has_loop, form_within}
 use Rattle.tor_terms.specs.Value.{elem_at, value, only, only_number, not_empty, first_ones, total, best, added}
 use Rattle.tor_terms.specs.Valid.{elem_loop}

@@ -1,5 +1,5 @@
 -- The tuples of a nest of loops are the combinations of its lists' places, without their positions.
-use Rattle.std.proofs.Common.{◌≡◌, ℕ, zero, suc, ◌+◌, ◌<◌, Bool, true, false, cond, ◌||◌, List, [], ◌∷◌, ◌++◌, map, take, drop, length, slice_get, refl, sym, ap, ap₂, ◌∙◌, subst, arith, nat_eq, nat_lt}
+use Rattle.std.proofs.Common.{◌≡◌, ℕ, zero, suc, ◌<◌, Bool, true, false, cond, ◌||◌, List, [], ◌∷◌, ◌++◌, map, take, drop, length, slice_get, refl, sym, ap, ap₂, ◌∙◌, subst, arith, nat_eq, nat_lt}
 use Rattle.std.specs.List.{AllByRecursion, filter, flat_map, list_all, enumerate_from}
 use Rattle.std.specs.declared.option.Option.{Option}
 use Rattle.std.specs.declared.option.Option.TheVariants.{Some, None}

@@ -28,7 +28,6 @@ use Rattle.kernel_lang.specs.Sentences.{IsValid}
 use Rattle.kernel_lang.specs.Fitting.{named_places}
 use Rattle.kernel_lang.specs.Typed.{place_type, is_type, atom_is_typed, members_agree, update_is_typed, place_is_there, is_typed}
 use Rattle.kernel_lang.specs.Validity.{is_number, element_of, element_within, start_is_valid, takes_a_column}
-use Rattle.sql_ast.specs.declared.tree.Cmp.TheVariants as tests
 use Rattle.sql_ast.specs.declared.tree.FromItem.{FromItem}
 use Rattle.sql_ast.specs.Meaning.{nth}
 use Rattle.sql_ast.specs.Tree.{Filter, PlainQuery}
@@ -91,7 +90,7 @@ drop_short zero js h = h
 drop_short (suc n) [] h = h
 drop_short (suc n) (j ∷ js) h = drop_short n js (omega (arith, h))
 
-le_of : (m n : ℕ) → nat_le m n ≡ true → m ≤ n
+pub le_of : (m n : ℕ) → nat_le m n ≡ true → m ≤ n
 le_of m n h = grind (arith, nat_tests)
 
 -- ---- places that are named

@@ -1,7 +1,7 @@
 -- Numbers of loops, as the code finds them.
-use Rattle.std.proofs.Common.{◌≡◌, ℕ, suc, ◌+◌, Bool, true, false, cond, List, [], ◌∷◌, ◌++◌, length, refl, sym, ap, ◌∙◌, nat_eq}
+use Rattle.std.proofs.Common.{◌≡◌, ℕ, suc, cond, List, [], ◌∷◌, ◌++◌, length, refl, ap, ◌∙◌, nat_eq}
 use Rattle.sql_emit.specs.Reading.{scope_by, number_or}
-use Rattle.sql_emit.specs.Scopes.{Scope, numbered, number_in}
+use Rattle.sql_emit.specs.Scopes.{numbered, number_in}
 
 or_in : (n : ℕ) (js : List ℕ) (j : ℕ) (others : List (ℕ × ℕ)) → number_or n js j (number_in others j) ≡ number_in (numbered n js ++ others) j
 or_in n [] j others = refl

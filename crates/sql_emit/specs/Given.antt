@@ -105,6 +105,10 @@ abbrev pub SaysWhatIsClaimed : Schema → Fragment → List ℕ → List PlainQu
 SaysWhatIsClaimed schema f cand known args m e =
     (db : Database) (entry : Entry) → IsGiven schema f known args db entry → query_answer db (values_at entry.values e.entries) e.query ≡ answered (claimed f (members f cand) (world_given f db entry) m)
 
+-- of the accumulator of this number, with what the candidate chooses for it
+abbrev pub AnswersWhatIsClaimed : Schema → Fragment → List ℕ → ℕ → List PlainQuery → List (List ℕ) → Emission → Type 0
+AnswersWhatIsClaimed schema f cand acc known args e = (m : Member) → slice_get (members f cand) acc ≡ Some m → SaysWhatIsClaimed schema f cand known args m e
+
 -- ---- What code alone can hold: numbers of 64 bits, and FROM items that can be counted
 
 abbrev pub OperandIsHeld : Operand → Type 0

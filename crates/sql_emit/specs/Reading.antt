@@ -5,8 +5,10 @@ use Rattle.kernel_lang.specs.Plain.{Accumulator, accumulator}
 use Rattle.kernel_lang.specs.Pools.{members_from}
 use Rattle.sql_ast.specs.Reading.{query}
 use Rattle.sql_ast.specs.Tree.{Condition, Both, Filter, Everything, Where}
+use Rattle.sql_emit.specs.declared.emission.Emitted.{Emitted}
 use Rattle.sql_emit.specs.declared.ground.Ground.{Ground as CodeGround}
 use Rattle.sql_emit.specs.declared.ground.Scope.{Scope as CodeScope}
+use Rattle.sql_emit.specs.Numbered.{Emission}
 use Rattle.sql_emit.specs.Scopes.{Ground, Scope, outermost, inner}
 
 abbrev pub ground_of : CodeGround → Ground
@@ -54,3 +56,6 @@ abbrev pub number_first : ℕ → List Accumulator → ℕ → ℕ
 number_first n [] k = n
 number_first n (a ∷ accs) zero = n
 number_first n (a ∷ accs) (suc k) = number_first (n + length a.pool) accs k
+
+abbrev pub emission_of : Emitted → Emission
+emission_of e = record { query = query e.query; entries = e.entries }

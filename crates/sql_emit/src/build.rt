@@ -40,6 +40,14 @@ pub fn exists(alloc: Global, from: FromItems, filter: Option<Cond>) -> Result<Co
     }
 }
 
+/// EXISTS over a copy of FROM items.
+pub fn exists_in(alloc: Global, from: &FromItems, filter: Option<Cond>) -> Result<Cond, NoMemory>
+    ensures { IfOk result (λ c. condition c ≡ plain.Exists from.now (filter_of filter)) }
+{
+    let from = from.clone()?;
+    exists(alloc, from, filter)
+}
+
 pub fn within(
     alloc: Global,
     opnd: SqlOpnd,

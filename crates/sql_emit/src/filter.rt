@@ -190,7 +190,7 @@ fn quiet_filter(
 
 /// The number of the first formula of an accumulator, where the first of all has the number `first`.
 /// A number past 32 bits wants more memory than there is.
-fn first_number(first: u32, accs: &[Acc], k: usize) -> Result<u32, NoMemory>
+pub fn first_number(first: u32, accs: &[Acc], k: usize) -> Result<u32, NoMemory>
     ensures { IfOk result (λ n. n ≡ number_first first (map accumulator accs.now) k) }
 {
     match accs.split_first() {
@@ -332,4 +332,28 @@ fn formulas(
             }
         }
     }
+}
+
+/// The WHERE of an accumulator that stands outside all loops, whose first formula has the number
+/// `first`.
+#[tactic(auto, using(crate::proofs::Also::also))]
+pub fn accumulator_filter(
+    alloc: Global,
+    g: Ground,
+    acc: &Acc,
+    first: u32,
+) -> Result<Option<Cond>, NoMemory>
+    requires some { 0 < length acc.now.chain }
+    requires few { length acc.now.chain ≤ 3 }
+    requires short { AreShort g }
+    ensures { IfOk result (λ f. filter_of f ≡ spec.where_of (ground_of g.entry) (accumulator acc.now, chosen g.entry.cand.now first (forms_of acc.now.pool))) }
+{
+    with_room(first, acc.pool.len())?;
+    let s = Scope {
+        own: acc.chain.as_slice(),
+        outer: &[],
+    };
+    let limited = limits(alloc, g, 0, s.own, None)?;
+    let selected = formulas(alloc, g, s, first, acc.pool.as_slice(), limited)?;
+    better(alloc, g, s, acc, selected)
 }

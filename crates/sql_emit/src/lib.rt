@@ -2,9 +2,19 @@
 #![tactic(auto)]
 
 mod build;
+mod counted;
+mod emission;
 mod filter;
 mod ground;
+mod held;
+mod keys;
 pub mod laws;
 mod literal;
 mod numbered;
+mod query;
 mod within;
+
+pub use emission::{Emitted, emit};
+
+#[cfg(test)]
+mod tests;

@@ -1,14 +1,14 @@
 // Parameters numbered by their first occurrence.
-ghost use Rattle.std.specs.Prelude.{◌≡◌, ◌+◌, ◌<◌, ◌^◌, IfOk, OnOk, length, pred, map, nat_eq, slice_get};
+ghost use Rattle.std.specs.Prelude.{◌≡◌, ◌+◌, [], IfOk, OnOk, length, pred, map, nat_eq, slice_get};
 ghost use Rattle.std.specs.List.{list_any};
 ghost use Rattle.sql_ast.specs.Reading.{condition, filter_of};
 ghost use Rattle.sql_ast.specs.Tree as plain;
 ghost use Rattle.sql_emit.specs.Numbered as spec;
 
-use crate::build::{both, either, exists, opposite, within};
-use crate::within::next;
+use crate::build::{both, either, exists_in, opposite, within};
+use crate::within::{Membership, next};
 use qbs_base::{Items, NoMemory, Numbers, Ty, Tys};
-use sql_ast::{Cmp, Cond, FromItems, SqlCol, SqlOpnd};
+use sql_ast::{Cmp, Cond, SqlOpnd};
 use std::alloc::Global;
 
 fn is_among(seen: &[u64], n: u64) -> bool
@@ -40,7 +40,7 @@ fn enter_opnd(seen: &mut Numbers, opnd: &SqlOpnd) -> Result<(), NoMemory>
 
 /// The entries that a condition uses, each where it is used first, after those that were seen.
 #[tactic(auto, using(crate::proofs::Uses::uses_append))]
-pub fn enter_uses(seen: &mut Numbers, cond: &Cond) -> Result<(), NoMemory>
+fn enter_uses(seen: &mut Numbers, cond: &Cond) -> Result<(), NoMemory>
     ensures { OnOk result (seen.new ≡ spec.first_uses seen.old (spec.uses (condition cond.now))) }
 {
     match cond {
@@ -112,4 +112,152 @@ fn renumbered_opnd(order: &[u64], opnd: &SqlOpnd) -> Result<SqlOpnd, NoMemory>
             Ok(SqlOpnd::Param(number_among(order, n)?))
         }
     }
+}
+
+fn renumbered_compare(order: &[u64], cmp: Cmp, a: &SqlOpnd, b: &SqlOpnd) -> Result<Cond, NoMemory>
+    ensures { IfOk result (λ c. condition c ≡ plain.Compare cmp (spec.renumbered_opnd order.now a.now) (spec.renumbered_opnd order.now b.now)) }
+{
+    let a = renumbered_opnd(order, a)?;
+    let b = renumbered_opnd(order, b)?;
+    Ok(Cond::Compare(cmp, a, b))
+}
+
+fn renumbered_within(
+    alloc: Global,
+    order: &[u64],
+    parts: Membership,
+    filter: Option<Cond>,
+) -> Result<Cond, NoMemory>
+    ensures { IfOk result (λ c. condition c ≡ plain.Within (spec.renumbered_opnd order.now parts.entry.opnd.now) parts.entry.negated parts.entry.col.now parts.entry.from.now (filter_of filter)) }
+{
+    let opnd = renumbered_opnd(order, parts.opnd)?;
+    let col = parts.col.clone()?;
+    let from = parts.from.clone()?;
+    within(alloc, opnd, parts.negated, col, from, filter)
+}
+
+/// A condition whose parameters are numbered by the order of their entries.
+fn renumbered(alloc: Global, order: &[u64], cond: &Cond) -> Result<Cond, NoMemory>
+    ensures { IfOk result (λ c. condition c ≡ spec.renumbered order.now (condition cond.now)) }
+{
+    match cond {
+        Cond::Both(a, b) => {
+            let a = renumbered(alloc, order, a)?;
+            let b = renumbered(alloc, order, b)?;
+            both(alloc, a, b)
+        }
+        Cond::Either(a, b) => {
+            let a = renumbered(alloc, order, a)?;
+            let b = renumbered(alloc, order, b)?;
+            either(alloc, a, b)
+        }
+        Cond::Not(a) => {
+            let a = renumbered(alloc, order, a)?;
+            opposite(alloc, a)
+        }
+        Cond::Compare(cmp, a, b) => renumbered_compare(order, *cmp, a, b),
+        Cond::Bare(col) => Ok(Cond::Bare(col.clone()?)),
+        Cond::Exists { from, filter: None } => exists_in(alloc, from, None),
+        Cond::Exists {
+            from,
+            filter: Some(a),
+        } => {
+            let a = renumbered(alloc, order, a)?;
+            exists_in(alloc, from, Some(a))
+        }
+        Cond::Within {
+            opnd,
+            negated,
+            col,
+            from,
+            filter: None,
+        } => {
+            let negated = *negated;
+            renumbered_within(
+                alloc,
+                order,
+                Membership {
+                    opnd,
+                    negated,
+                    col,
+                    from,
+                },
+                None,
+            )
+        }
+        Cond::Within {
+            opnd,
+            negated,
+            col,
+            from,
+            filter: Some(a),
+        } => {
+            let negated = *negated;
+            let a = renumbered(alloc, order, a)?;
+            renumbered_within(
+                alloc,
+                order,
+                Membership {
+                    opnd,
+                    negated,
+                    col,
+                    from,
+                },
+                Some(a),
+            )
+        }
+    }
+}
+
+/// A WHERE whose parameters are numbered by the order of their entries.
+pub fn renumbered_filter(
+    alloc: Global,
+    order: &[u64],
+    filter: &Option<Cond>,
+) -> Result<Option<Cond>, NoMemory>
+    ensures { IfOk result (λ f. filter_of f ≡ spec.renumbered_filter order.now (filter_of filter.now)) }
+{
+    match filter {
+        None => Ok(None),
+        Some(a) => Ok(Some(renumbered(alloc, order, a)?)),
+    }
+}
+
+fn enter_filter(seen: &mut Numbers, filter: &Option<Cond>) -> Result<(), NoMemory>
+    ensures { OnOk result (seen.new ≡ spec.first_uses seen.old (spec.filter_uses (filter_of filter.now))) }
+{
+    match filter {
+        None => Ok(()),
+        Some(a) => enter_uses(seen, a),
+    }
+}
+
+/// The entries that a WHERE uses, each where it is used first.
+pub fn order_of(alloc: Global, filter: &Option<Cond>) -> Result<Numbers, NoMemory>
+    ensures { IfOk result (λ order. order ≡ spec.first_uses [] (spec.filter_uses (filter_of filter.now))) }
+{
+    let mut order = Items::new(alloc);
+    enter_filter(&mut order, filter)?;
+    Ok(order)
+}
+
+/// The type of an entry. An entry that isn't there is a Long.
+fn type_of(types: &[Ty], k: u64) -> Ty
+    ensures { result ≡ spec.type_of (slice_get types.now k) }
+{
+    match types.get(k as usize) {
+        Some(ty) => *ty,
+        None => Ty::Long,
+    }
+}
+
+/// The types of the entries of parameters.
+pub fn types_in(alloc: Global, types: &[Ty], order: &[u64]) -> Result<Tys, NoMemory>
+    ensures { IfOk result (λ tys. tys ≡ map (λ k. spec.type_of (slice_get types.now k)) order.now) }
+{
+    let mut all = Items::new(alloc);
+    for k in order {
+        all.push(type_of(types, *k))?;
+    }
+    Ok(all)
 }

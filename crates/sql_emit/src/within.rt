@@ -5,7 +5,7 @@ ghost use Rattle.sql_ast.specs.Reading.{condition, filter_of};
 ghost use Rattle.sql_ast.specs.Tree as plain;
 ghost use Rattle.sql_emit.specs.Emitted as spec;
 
-use crate::build::{both, either, exists, opposite, within};
+use crate::build::{both, either, exists_in, opposite, within};
 use qbs_base::NoMemory;
 use sql_ast::{Cmp, Cond, FromItems, SqlCol, SqlOpnd};
 use std::alloc::Global;
@@ -78,20 +78,13 @@ fn moved_compare(n: u32, args: &[u64], cmp: Cmp, a: &SqlOpnd, b: &SqlOpnd) -> Re
     Ok(Cond::Compare(cmp, a, b))
 }
 
-fn moved_exists(alloc: Global, from: &FromItems, filter: Option<Cond>) -> Result<Cond, NoMemory>
-    ensures { IfOk result (λ c. condition c ≡ plain.Exists from.now (filter_of filter)) }
-{
-    let from = from.clone()?;
-    exists(alloc, from, filter)
-}
-
 /// The parts of IN, without its filter.
 #[derive(Clone, Copy)]
-struct Membership<'a> {
-    opnd: &'a SqlOpnd,
-    negated: bool,
-    col: &'a SqlCol,
-    from: &'a FromItems,
+pub struct Membership<'a> {
+    pub opnd: &'a SqlOpnd,
+    pub negated: bool,
+    pub col: &'a SqlCol,
+    pub from: &'a FromItems,
 }
 
 fn moved_within(
@@ -130,13 +123,13 @@ pub fn moved(alloc: Global, n: u32, args: &[u64], cond: &Cond) -> Result<Cond, N
         }
         Cond::Compare(cmp, a, b) => moved_compare(n, args, *cmp, a, b),
         Cond::Bare(col) => Ok(Cond::Bare(moved_col(n, col)?)),
-        Cond::Exists { from, filter: None } => moved_exists(alloc, from, None),
+        Cond::Exists { from, filter: None } => exists_in(alloc, from, None),
         Cond::Exists {
             from,
             filter: Some(a),
         } => {
             let a = moved(alloc, n, args, a)?;
-            moved_exists(alloc, from, Some(a))
+            exists_in(alloc, from, Some(a))
         }
         Cond::Within {
             opnd,
