@@ -1,16 +1,13 @@
 -- A fragment: a loop and the statements before it that lead up to it. What of it is needed, and which
 -- of those statements a rewrite keeps.
-use Rattle.std.specs.Prelude.{◌≡◌, ℕ, pos, Bool, true, false, not, ◌&&◌, ◌||◌, List, [], ◌∷◌, filter, slice_get, if◌then◌else◌}
+use Rattle.std.specs.Prelude.{◌≡◌, ℕ, Bool, true, false, not, ◌&&◌, ◌||◌, List, [], ◌∷◌, filter, slice_get, if◌then◌else◌}
 use Rattle.std.specs.Str.{bytes_eq}
 use Rattle.std.specs.declared.option.Option.{Option}
 use Rattle.std.specs.declared.option.Option.TheVariants.{Some, None}
-use Rattle.qbs_base.specs.declared.scalar.Scalar.{Scalar}
-use Rattle.qbs_base.specs.declared.scalar.Scalar.TheVariants as scalars
-use Rattle.java_ast.specs.declared.tree.Op.{Op}
-use Rattle.java_ast.specs.declared.tree.Op.TheVariants as ops
 use Rattle.java_ast.specs.Tree.{Expression, Statement, Statements, Nothing, Then, PlainProgram}
 use Rattle.java_ast.specs.Tree as plain
 use Rattle.java_ast.specs.Path.{found_in, numbered, branch_of, first_of, behind_of}
+use Rattle.fragments.specs.Counting.{Counting, counting}
 use Rattle.fragments.specs.Loops.{is_loop}
 use Rattle.fragments.specs.Names.{Names, is_among, with_names, mentioned_in, mentioned_among, updated_in, declared_among, walking, names_of_params}
 
@@ -70,63 +67,12 @@ fragment_at _ p = None
 
 -- ---- Accumulators
 
-abbrev pub is_less : Op → Bool
-is_less ops.Lt = true
-is_less _ = false
-
-abbrev pub is_and : Op → Bool
-is_and ops.And = true
-is_and _ = false
-
-abbrev pub variable_of : Expression → Option (List ℕ)
-variable_of (plain.Var at x) = Some x
-variable_of _ = None
-
-abbrev pub is_size : Expression → Bool
-is_size (plain.Size at xs) = true
-is_size _ = false
-
--- a number of 0 or more
-abbrev pub is_natural : Scalar → Bool
-is_natural (scalars.Long (pos n)) = true
-is_natural _ = false
-
-abbrev pub is_count : Expression → Bool
-is_count (plain.Lit at value) = is_natural value
-is_count _ = false
-
-abbrev pub variable_where : Bool → Expression → Option (List ℕ)
-variable_where true e = variable_of e
-variable_where false e = None
-
--- `i < xs.size()`, and `i < c`
-abbrev pub below_size : Expression → Option (List ℕ)
-below_size (plain.Binary at op a b) = variable_where (is_less op && is_size b) a
-below_size _ = None
-
-abbrev pub below_count : Expression → Option (List ℕ)
-below_count (plain.Binary at op a b) = variable_where (is_less op && is_count b) a
-below_count _ = None
-
-abbrev pub same_name : Option (List ℕ) → Option (List ℕ) → Option (List ℕ)
-same_name (Some i) (Some j) = if bytes_eq i j then Some i else None
-same_name _ _ = None
-
-abbrev pub first_found : Option (List ℕ) → Option (List ℕ) → Option (List ℕ)
-first_found (Some i) o = Some i
-first_found None o = o
-
--- both conjuncts bound one variable, one of them by a size
-abbrev pub counter_between : Expression → Expression → Option (List ℕ)
-counter_between a b = first_found (same_name (below_size a) (below_count b)) (same_name (below_size b) (below_count a))
-
--- The counter of a condition of a loop that counts: `i < xs.size()`, also with `i < c` on either side.
-abbrev pub counter_of : Expression → Option (List ℕ)
-counter_of (plain.Binary at op a b) = if is_and op then counter_between a b else variable_where (is_less op && is_size b) a
-counter_of _ = None
+abbrev pub counter_named : Option Counting → Option (List ℕ)
+counter_named (Some k) = Some k.counter
+counter_named None = None
 
 abbrev pub counter : Statement → Option (List ℕ)
-counter (plain.While at c b) = counter_of c
+counter (plain.While at c b) = counter_named (counting c)
 counter _ = None
 
 abbrev pub is_name : Option (List ℕ) → List ℕ → Bool

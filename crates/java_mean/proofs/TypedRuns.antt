@@ -92,7 +92,7 @@ made_distinct : (o : Option Single) (k : JavaType) → made_of Distinct o ≡ So
 made_distinct (Some a) k e = let same : Distinct a ≡ k = cc in ap is_distinct same
 made_distinct None k e = absurd cc
 
-spelled_set : (schema : Schema) (ty : Spelled) (k : JavaType) → type_spelled schema ty ≡ Some k → is_set_type ty ≡ is_distinct k
+pub spelled_set : (schema : Schema) (ty : Spelled) (k : JavaType) → type_spelled schema ty ≡ Some k → is_set_type ty ≡ is_distinct k
 spelled_set schema tree.Int k e = made_one (single_spelled schema tree.Int) k e
 spelled_set schema tree.Long k e = made_one (single_spelled schema tree.Long) k e
 spelled_set schema tree.Boolean k e = made_one (single_spelled schema tree.Boolean) k e

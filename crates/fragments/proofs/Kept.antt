@@ -1,0 +1,5 @@
+-- Names that are kept one by one.
+use Rattle.std.proofs.Common.{append_assoc}
+use Rattle.std.proofs.lemmas.List.{map-append}
+
+pub ruleset kept = (map-append, append_assoc)

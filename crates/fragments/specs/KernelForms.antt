@@ -1,0 +1,235 @@
+-- K6: the forms of updates.
+use Rattle.std.specs.Prelude.{ℕ, Bool, true, false, not, ◌&&◌, ◌||◌, List, [], ◌∷◌, ◌++◌, length, nat_eq, nat_lt, nat_le, slice_get, if◌then◌else◌}
+use Rattle.std.specs.List.{filter, flat_map}
+use Rattle.std.specs.Str.{bytes_eq}
+use Rattle.std.specs.declared.option.Option.{Option}
+use Rattle.std.specs.declared.option.Option.TheVariants.{Some, None}
+use Rattle.qbs_base.specs.declared.scalar.Scalar.{Scalar}
+use Rattle.qbs_base.specs.declared.scalar.Scalar.TheVariants as scalars
+use Rattle.qbs_base.specs.declared.span.Span.{Span}
+use Rattle.java_ast.specs.declared.tree.Op.{Op}
+use Rattle.java_ast.specs.declared.tree.Op.TheVariants as ops
+use Rattle.java_ast.specs.Tree.{Expression, Statement}
+use Rattle.java_ast.specs.Tree as plain
+use Rattle.java_mean.specs.declared.types.JavaType.{JavaType}
+use Rattle.java_mean.specs.declared.types.JavaType.TheVariants.{Distinct}
+use Rattle.tor_terms.specs.declared.term.Way.{Way}
+use Rattle.tor_terms.specs.declared.term.Way.TheVariants as ways
+use Rattle.fragments.specs.Counting.{is_and}
+use Rattle.fragments.specs.KernelLists.{source_in, is_sorted_source}
+use Rattle.fragments.specs.Names.{is_among, names_in}
+use Rattle.fragments.specs.Setting.{Setting, is_add, is_variable, is_literal_number}
+use Rattle.fragments.specs.Sites.{Test, Round, Site, Binding, Row, Local, Outer, binding_at, RowColumn, row_at, row_column_at, same_row_column, place_of, place_where, first_broken, any_site, depth, is_under, inner_tests, target_of, is_update}
+
+-- ---- Forms
+
+-- what is taken of rows: the row of a loop, or a column of it
+pub data Taken : Type 0 where
+  whole : ℕ → Taken
+  column : RowColumn → Taken
+
+-- `add`, `n = n + 1`, `s = s + x.f`, `m = x.f`, `b = true` or `b = false`, and anything else
+pub data Form : Type 0 where
+  adds : Taken → Form
+  counts : Form
+  sums : RowColumn → Form
+  takes : RowColumn → Form
+  marks : Bool → Form
+  other : Form
+
+abbrev pub adds_row : Option ℕ → Form
+adds_row (Some j) = adds (whole j)
+adds_row None = other
+
+abbrev pub adds_taken : Option ℕ → Option RowColumn → Form
+adds_taken row (Some c) = adds (column c)
+adds_taken row None = adds_row row
+
+abbrev pub sums_column : Option RowColumn → Form
+sums_column (Some c) = sums c
+sums_column None = other
+
+abbrev pub takes_column : Option RowColumn → Form
+takes_column (Some c) = takes c
+takes_column None = other
+
+abbrev pub literal_form : Scalar → Form
+literal_form (scalars.Bool b) = marks b
+literal_form _ = other
+
+-- a sum with the variable on either side
+abbrev pub sum_form : List Site → ℕ → List ℕ → Expression → Expression → Form
+sum_form sites n x a b =
+    if is_variable x a then (if is_literal_number 1 b then counts else sums_column (row_column_at sites n b)) else
+    (if is_variable x b then (if is_literal_number 1 a then counts else sums_column (row_column_at sites n a)) else other)
+
+abbrev pub assigned_form : List Site → ℕ → List ℕ → Expression → Form
+assigned_form sites n x (plain.Lit at value) = literal_form value
+assigned_form sites n x (plain.Field at e f) = takes_column (row_column_at sites n (plain.Field at e f))
+assigned_form sites n x (plain.Binary at op a b) = if is_add op then sum_form sites n x a b else other
+assigned_form sites n x _ = other
+
+-- the form of a statement that stands at this number
+abbrev pub form_of : List Site → ℕ → Statement → Form
+form_of sites n (plain.Assign at x e) = assigned_form sites n x e
+form_of sites n (plain.Add at x e) = adds_taken (row_at sites n e) (row_column_at sites n e)
+form_of sites n _ = other
+
+-- ---- Conditions with `!` pushed inwards
+
+-- a condition that holds, or that fails
+pub record Claim : Type 0 where
+  pub condition : Expression
+  pub holds : Bool
+
+abbrev pub claim : Expression → Bool → Claim
+claim c holds = record { condition = c; holds = holds }
+
+abbrev pub is_or : Op → Bool
+is_or ops.Or = true
+is_or _ = false
+
+-- a disjunction that fails is a conjunction
+abbrev pub is_joined : Op → Bool → Bool
+is_joined op true = is_and op
+is_joined op false = is_or op
+
+-- the conjuncts of a condition that holds or fails
+abbrev pub claims : Bool → Expression → List Claim
+claims holds (plain.Binary at op a b) = if is_joined op holds then claims holds a ++ claims holds b else claim (plain.Binary at op a b) holds ∷ []
+claims holds (plain.Not at e) = claims (not holds) e
+claims holds e = claim e holds ∷ []
+
+abbrev pub mentions : List ℕ → Claim → Bool
+mentions m c = is_among (names_in c.condition) m
+
+-- ---- The best value
+
+-- a conjunct and the number of its `if`
+pub record Found : Type 0 where
+  pub number : ℕ
+  pub claim : Claim
+
+abbrev pub found_at : ℕ → List Claim → List Found
+found_at n [] = []
+found_at n (c ∷ cs) = record { number = n; claim = c } ∷ found_at n cs
+
+abbrev pub mentioning : List ℕ → Test → List Found
+mentioning m t = found_at t.number (filter (mentions m) (claims t.holds t.condition))
+
+-- the conjuncts that mention a variable, of the conditions round a place inside its innermost loop
+abbrev pub best_claims : List ℕ → Round → List Found
+best_claims m r = flat_map (mentioning m) (inner_tests r)
+
+abbrev pub turned : Way → Way
+turned ways.Max = ways.Min
+turned ways.Min = ways.Max
+
+-- `m < x.f` raises m, `m > x.f` lowers it
+abbrev pub way_of : Op → Option Way
+way_of ops.Lt = Some ways.Max
+way_of ops.Le = Some ways.Max
+way_of ops.Gt = Some ways.Min
+way_of ops.Ge = Some ways.Min
+way_of _ = None
+
+abbrev pub turned_where : Bool → Option Way → Option Way
+turned_where true (Some w) = Some (turned w)
+turned_where false o = o
+turned_where true None = None
+
+-- how a comparison of m with the column moves m
+abbrev pub way_between : List Site → ℕ → List ℕ → RowColumn → Op → Expression → Expression → Option Way
+way_between sites n m c op a b =
+    if is_variable m a && same_row_column (row_column_at sites n b) (Some c) then way_of op else
+    (if is_variable m b && same_row_column (row_column_at sites n a) (Some c) then turned_where true (way_of op) else None)
+
+abbrev pub way_in : List Site → ℕ → List ℕ → RowColumn → Expression → Option Way
+way_in sites n m c (plain.Binary at op a b) = way_between sites n m c op a b
+way_in sites n m c _ = None
+
+abbrev pub way_found : List Site → List ℕ → RowColumn → Found → Option Way
+way_found sites m c f = turned_where (not f.claim.holds) (way_in sites f.number m c f.claim.condition)
+
+-- the only one, where there is exactly one
+abbrev pub only_found : List Found → Option Found
+only_found [] = None
+only_found (f ∷ []) = Some f
+only_found (f ∷ g ∷ fs) = None
+
+abbrev pub way_of_found : List Site → List ℕ → RowColumn → Option Found → Option Way
+way_of_found sites m c (Some f) = way_found sites m c f
+way_of_found sites m c None = None
+
+abbrev pub only_way : List Site → List ℕ → RowColumn → List Found → Option Way
+only_way sites m c fs = way_of_found sites m c (only_found fs)
+
+-- the way in which the update at a site moves m, where exactly one conjunct mentions m and compares it with the column
+abbrev pub best_way : List Site → List ℕ → RowColumn → Round → Option Way
+best_way sites m c r = only_way sites m c (best_claims m r)
+
+-- another update stands in a branch of the `if` of that conjunct
+abbrev pub has_update_under : List Site → ℕ → Option Found → Bool
+has_update_under sites n (Some f) = any_site (λ i s. is_update s.statement && (not (nat_eq i n) && is_under f.number s)) 0 sites
+has_update_under sites n None = false
+
+abbrev pub has_other_update : List Site → ℕ → List Found → Bool
+has_other_update sites n fs = has_update_under sites n (only_found fs)
+
+abbrev pub is_way : Option Way → Bool
+is_way (Some w) = true
+is_way None = false
+
+abbrev pub takes_best : List Site → ℕ → Site → List ℕ → RowColumn → Bool
+takes_best sites n s m c = is_way (best_way sites m c s.round) && not (has_other_update sites n (best_claims m s.round))
+
+-- ---- The rule
+
+-- the update stands in exactly one loop
+abbrev pub is_once : Site → Bool
+is_once s = nat_eq (depth s) 1
+
+abbrev pub is_distinct : Option JavaType → Bool
+is_distinct (Some (Distinct a)) = true
+is_distinct _ = false
+
+abbrev pub first_is_sorted : Setting → List Site → Bool
+first_is_sorted w [] = false
+first_is_sorted w (s ∷ ss) = is_sorted_source (source_in w.fragment.run s.statement)
+
+abbrev pub fits_outer : Setting → ℕ → Site → List ℕ → Form → Bool
+fits_outer w n s x (adds t) = not (is_distinct (w.types x)) || (is_once s && not (first_is_sorted w w.sites))
+fits_outer w n s x counts = is_once s
+fits_outer w n s x (sums c) = is_once s
+fits_outer w n s x (takes c) = takes_best w.sites n s x c
+fits_outer w n s x (marks b) = true
+fits_outer w n s x other = false
+
+-- how many `if`s stand round a place outside of its loops behind the first ones
+abbrev pub tests_within : ℕ → Round → ℕ
+tests_within level r = length (filter (λ (t : Test). nat_le t.level level) r.tests)
+
+-- The update stands in a loop that stands directly in the block of the declaration.
+abbrev pub is_in_own_loop : Site → Option Site → Bool
+is_in_own_loop s None = false
+is_in_own_loop s (Some d) = nat_lt (depth d) (depth s) && nat_eq (tests_within (depth d) s.round) (length d.round.tests)
+
+abbrev pub fits_local : List Site → Site → ℕ → Form → Bool
+fits_local sites s d (marks b) = is_in_own_loop s (slice_get sites d)
+fits_local sites s d _ = false
+
+abbrev pub fits : Setting → ℕ → Site → List ℕ → Binding → Bool
+fits w n s x (Row j) = false
+fits w n s x (Local d) = fits_local w.sites s d (form_of w.sites n s.statement)
+fits w n s x Outer = fits_outer w n s x (form_of w.sites n s.statement)
+
+abbrev pub fits_target : Setting → ℕ → Site → Option (List ℕ) → Bool
+fits_target w n s None = true
+fits_target w n s (Some x) = fits w n s x (binding_at w.sites n x)
+
+abbrev pub broken_form : Setting → ℕ → Site → Option Span
+broken_form w n s = place_where (not (fits_target w n s (target_of s.statement))) (place_of s.statement)
+
+-- Each update has one of the forms, and stands where this form may stand.
+abbrev pub broken_forms : Setting → Option Span
+broken_forms w = first_broken (broken_form w) 0 w.sites

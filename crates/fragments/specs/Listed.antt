@@ -1,0 +1,8 @@
+-- Names that a list holds and finds.
+use Rattle.std.specs.Prelude.{◌≡◌}
+use Rattle.fragments.specs.declared.name_list.NameList.{NameList}
+use Rattle.fragments.specs.Seen.{names_seen, names_lent}
+
+-- the names that are found are those that are held
+abbrev pub IsListed : NameList → Type 0
+IsListed l = names_seen l.seen ≡ names_lent l.names

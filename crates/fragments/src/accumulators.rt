@@ -1,0 +1,117 @@
+// The accumulators of a fragment.
+ghost use Rattle.std.specs.Prelude.{◌≡◌, ◌||◌, ◌∷◌, [], IfOk, OnOk, map, option_copied};
+ghost use Rattle.std.specs.List.{filter};
+ghost use Rattle.std.specs.Option.{option_map};
+ghost use Rattle.java_ast.specs.Reading.{statement, statements};
+ghost use Rattle.fragments.specs.Fragment as fragment;
+ghost use Rattle.fragments.specs.Listed.{IsListed};
+ghost use Rattle.fragments.specs.Names as specs;
+ghost use Rattle.fragments.specs.Updated.{outer_with};
+ghost use Rattle.fragments.specs.Reading.{fragment_in_code, names_seen, names_lent};
+
+use crate::bindings::is_name;
+use crate::counting::counting_in;
+use crate::name_list::NameList;
+use crate::runs::is_live;
+use crate::setting::Setting;
+use java_ast::{Stmt, StmtNode};
+use qbs_base::{Name, NoMemory};
+use std::alloc::Global;
+
+fn counter<'a>(s: &'a Stmt) -> Option<&'a Name>
+    ensures { option_copied result ≡ fragment.counter (statement s.now) }
+{
+    match counting_in(s) {
+        None => None,
+        Some(k) => Some(k.counter),
+    }
+}
+
+// Whether a variable is visible before the run, or declared in it.
+fn is_declared(w: &Setting, x: &Name) -> bool
+    ensures { result ≡ (specs.is_among (names_seen w.now.visible.now) x.now || specs.is_among (fragment.declared_in_run (fragment_in_code w.now)) x.now) }
+{
+    w.types.has(x)
+}
+
+/// Whether a variable is declared outside of the loop and isn't its counter.
+pub fn is_outer(w: &Setting, x: &Name) -> bool
+    ensures { result ≡ fragment.is_outer (names_seen w.now.visible.now) (fragment.declared_in_run (fragment_in_code w.now)) (fragment.counter (fragment_in_code w.now).loop) x.now }
+{
+    is_declared(w, x) && !is_name(counter(w.looped), x)
+}
+
+#[tactic(auto, using(crate::proofs::Updated::updated))]
+fn put_outer<'a>(w: &Setting, x: &'a Name, list: &mut NameList<'a>) -> Result<(), NoMemory>
+    requires { IsListed list.old }
+    ensures names { OnOk result (names_lent list.new.names ≡ outer_with (fragment_in_code w.now) (names_lent list.old.names) (x.now ∷ [])) }
+    ensures listed { OnOk result (IsListed list.new) }
+{
+    if is_outer(w, x) { list.put(x) } else { Ok(()) }
+}
+
+// Puts behind the names those that a statement assigns or adds to, and that are declared outside of
+// the loop and aren't its counter.
+#[cycle(updates)]
+#[tactic(auto, using(crate::proofs::Updated::updated, crate::proofs::Nodes::nodes))]
+fn put_updated<'a>(w: &Setting, s: &'a Stmt, list: &mut NameList<'a>) -> Result<(), NoMemory>
+    requires { IsListed list.old }
+    ensures names { OnOk result (names_lent list.new.names ≡ outer_with (fragment_in_code w.now) (names_lent list.old.names) (specs.updated_in (statement s.now))) }
+    ensures listed { OnOk result (IsListed list.new) }
+{
+    match &s.node {
+        StmtNode::Assign { name, value: _ } => put_outer(w, name, list),
+        StmtNode::Add { name, value: _ } => put_outer(w, name, list),
+        StmtNode::If {
+            cond: _,
+            yes,
+            other,
+        } => match other {
+            None => put_all_updated(w, yes, list),
+            Some(other) => {
+                put_all_updated(w, yes, list)?;
+                put_all_updated(w, other, list)
+            }
+        },
+        StmtNode::ForEach {
+            ty: _,
+            name: _,
+            list: _,
+            body,
+        } => put_all_updated(w, body, list),
+        StmtNode::While { cond: _, body } => put_all_updated(w, body, list),
+        StmtNode::Declare { .. }
+        | StmtNode::Sort { .. }
+        | StmtNode::Print { .. }
+        | StmtNode::Return { .. }
+        | StmtNode::Break => Ok(()),
+    }
+}
+
+// The same of the statements of a block.
+#[cycle(updates)]
+#[tactic(auto, using(crate::proofs::Updated::updated))]
+fn put_all_updated<'a>(
+    w: &Setting,
+    block: &'a [Stmt],
+    list: &mut NameList<'a>,
+) -> Result<(), NoMemory>
+    requires { IsListed list.old }
+    ensures names { OnOk result (names_lent list.new.names ≡ outer_with (fragment_in_code w.now) (names_lent list.old.names) (specs.updated_among (statements block.now))) }
+    ensures listed { OnOk result (IsListed list.new) }
+{
+    for s in block {
+        put_updated(w, s, list)?;
+    }
+    Ok(())
+}
+
+/// The accumulators: what is assigned or added to in the loop and declared outside of it, other than its
+/// counter, each once, in the order of their updates.
+pub fn accumulators<'a>(alloc: Global, w: &Setting<'a>) -> Result<NameList<'a>, NoMemory>
+    ensures { IfOk result (λ r. names_lent r.names ≡ fragment.accumulators (fragment_in_code w.now)) }
+{
+    let mut list = NameList::new(alloc);
+    put_updated(w, w.looped, &mut list)?;
+    Ok(list)
+}

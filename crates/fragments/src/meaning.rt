@@ -1,0 +1,40 @@
+//! Laws of fragments that mean their loops, for the crates above. They do nothing.
+ghost use Rattle.std.specs.Prelude.{◌≡◌, ℕ, List, true};
+ghost use Rattle.std.specs.List.{AllByRecursion};
+ghost use Rattle.std.specs.declared.option.Option.{Option};
+ghost use Rattle.std.specs.declared.option.Option.TheVariants.{Some, None};
+ghost use Rattle.qbs_base.specs.Values.{Schema};
+ghost use Rattle.sql_ast.specs.Tree.{PlainQuery};
+ghost use Rattle.java_ast.specs.Tree.{PlainProgram};
+ghost use Rattle.java_mean.specs.declared.types.JavaType.{JavaType};
+ghost use Rattle.java_mean.specs.Numbers.{NumbersFit};
+ghost use Rattle.java_mean.specs.Types.{Types, types_past};
+ghost use Rattle.java_mean.specs.Typing.{Frame, TypedStatements};
+ghost use Rattle.java_mean.specs.WellTyped.{IsWellTyped};
+ghost use Rattle.java_loops.specs.Reads.{Set};
+ghost use Rattle.java_loops.specs.Replacing.{Ask, replacement, run_and_loop, MayGiveWay};
+ghost use Rattle.fragments.specs.Fragment.{are_simple};
+ghost use Rattle.fragments.specs.GivesWay.{MayStandForLoop};
+ghost use Rattle.kernel_lang.specs.Validity as validity;
+ghost use Rattle.fragments.specs.Kernel.{broken, lowering, setting_at};
+ghost use Rattle.fragments.specs.Lowered.{needed_in_order};
+ghost use Rattle.fragments.specs.Means.{MeansItsLoop, MeansItsLoopThere};
+ghost use Rattle.fragments.specs.Setting.{Setting};
+
+/// Where a typed run and its loop have a fragment that means the loop, they give way to text that may stand for the loop: the
+/// kept statements of the run, and a statement for each needed accumulator that gives it what the fragment ends with.
+pub fn text_stands_for_loops()
+    ensures { (c : Frame) (l : Option Types) (before end : Types) (w : Setting) → TypedStatements c l before (run_and_loop w.fragment.run w.fragment.loop) end → w.types ≡ types_past c.schema before w.fragment.run → are_simple w.fragment.run ≡ true → (r : Set) (ks : List Ask) → MayStandForLoop c before w r ks → MeansItsLoop c before w → AllByRecursion (λ (x : List ℕ). (k : JavaType) × (w.types x ≡ Some k)) (needed_in_order w) → MayGiveWay c before (types_past c.schema before (replacement r w.fragment.run ks)) w.fragment.run w.fragment.loop r ks }
+{}
+
+/// In a well-typed program whose literals have 64 bits, the fragment of a loop that breaks no rule of the kernel form means the
+/// loop: wherever the run and the loop pass, the loop goes on as the lowered fragment says.
+pub fn fragments_mean_their_loops()
+    ensures { (schema : Schema) (read : List ℕ → Option PlainQuery) (p : PlainProgram) (path : List ℕ) (w : Setting) → IsWellTyped schema read p → NumbersFit p → setting_at schema read path p ≡ Some w → broken w ≡ None → MeansItsLoopThere schema read p path w }
+{}
+
+/// In a well-typed program whose literals have 64 bits, the lowered fragment of a loop that breaks no rule of the kernel form is
+/// valid.
+pub fn lowered_fragments_are_valid()
+    ensures { (schema : Schema) (read : List ℕ → Option PlainQuery) (p : PlainProgram) (path : List ℕ) (w : Setting) → IsWellTyped schema read p → NumbersFit p → setting_at schema read path p ≡ Some w → broken w ≡ None → validity.broken (lowering w).fragment ≡ None }
+{}

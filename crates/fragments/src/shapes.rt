@@ -1,0 +1,161 @@
+// Which statements a loop of the kernel form may hold.
+ghost use Rattle.std.specs.Prelude.{◌≡◌, option_copied, map, slice_get};
+ghost use Rattle.std.specs.Option.{option_map};
+ghost use Rattle.java_ast.specs.Reading.{spelled, expression, statement};
+ghost use Rattle.fragments.specs.KernelStatements as specs;
+ghost use Rattle.fragments.specs.Reading.{site_of, setting_in_code};
+ghost use Rattle.fragments.specs.Sites as sites;
+
+use crate::counting::is_while;
+use crate::setting::Setting;
+use crate::sites::{Site, place_where};
+use java_ast::{Expr, ExprNode, JTy, Stmt, StmtNode};
+use qbs_base::{Scalar, Span};
+
+/// Whether an expression has a query or a fetch in it.
+#[tactic(auto, using(crate::proofs::Nodes::nodes))]
+pub fn asks(e: &Expr) -> bool
+    ensures { result ≡ specs.asks (expression e.now) }
+{
+    match &e.node {
+        ExprNode::Lit(_) => false,
+        ExprNode::Var(_) => false,
+        ExprNode::Field(row, _) => asks(row),
+        ExprNode::Binary(_, a, b) => asks(a) || asks(b),
+        ExprNode::Not(a) => asks(a),
+        ExprNode::Equals(a, b) => asks(a) || asks(b),
+        ExprNode::Size(_) => false,
+        ExprNode::Get(_, a) => asks(a),
+        ExprNode::Contains(_, a) => asks(a),
+        ExprNode::Fetch(_) => true,
+        ExprNode::Query(_, _, _) => true,
+        ExprNode::QueryLong(_, _) => true,
+        ExprNode::QueryBoolean(_, _) => true,
+        ExprNode::NewList => false,
+        ExprNode::NewSet(None) => false,
+        ExprNode::NewSet(Some(_)) => true,
+    }
+}
+
+fn is_truth(value: &Scalar) -> bool
+    ensures { result ≡ specs.is_truth value.now }
+{
+    match value {
+        Scalar::Bool(_) => true,
+        _ => false,
+    }
+}
+
+/// Whether an expression is `true` or `false`.
+pub fn is_truth_literal(e: &Expr) -> bool
+    ensures { result ≡ specs.is_truth_literal (expression e.now) }
+{
+    match &e.node {
+        ExprNode::Lit(value) => is_truth(value),
+        _ => false,
+    }
+}
+
+fn is_boolean(ty: &JTy) -> bool
+    ensures { result ≡ specs.is_boolean (spelled ty.now) }
+{
+    match ty {
+        JTy::Boolean => true,
+        _ => false,
+    }
+}
+
+fn sets_flag(s: &Stmt) -> bool
+    ensures { result ≡ specs.sets_flag (statement s.now) }
+{
+    match &s.node {
+        StmtNode::Assign { name: _, value } => is_truth_literal(value),
+        _ => false,
+    }
+}
+
+fn is_after_flag(s: Option<&Stmt>) -> bool
+    ensures { result ≡ specs.is_after_flag (option_map (λ p. statement p.now) s.entry) }
+{
+    match s {
+        None => false,
+        Some(s) => sets_flag(s),
+    }
+}
+
+#[tactic(auto, using(crate::proofs::Rounds::rounds))]
+fn is_while_site(all: &[Site], n: usize) -> bool
+    ensures { result ≡ specs.is_while_site (slice_get (map site_of all.now) n) }
+{
+    match all.get(n) {
+        None => false,
+        Some(s) => is_while(s.statement),
+    }
+}
+
+/// The innermost of some loops.
+#[tactic(auto, using(crate::proofs::Blocks::innermost_last))]
+pub fn innermost(loops: &[usize]) -> Option<usize>
+    ensures { result ≡ sites.innermost loops.now }
+{
+    match loops.split_last() {
+        None => None,
+        Some((n, _)) => Some(*n),
+    }
+}
+
+// The innermost loop of some is one that counts.
+fn is_counted(all: &[Site], n: Option<usize>) -> bool
+    ensures { result ≡ specs.is_counted (map site_of all.now) n }
+{
+    match n {
+        None => false,
+        Some(n) => is_while_site(all, n),
+    }
+}
+
+#[tactic(auto, using(crate::proofs::Nodes::nodes))]
+fn is_allowed(all: &[Site], s: &Site, t: &Stmt) -> bool
+    ensures { result ≡ specs.is_allowed (map site_of all.now) (site_of s.now) (statement t.now) }
+{
+    match &t.node {
+        StmtNode::Declare { ty, name: _, value } => is_boolean(ty) && is_truth_literal(value),
+        StmtNode::Assign { name: _, value } => !asks(value),
+        StmtNode::Add { name: _, value } => !asks(value),
+        StmtNode::If {
+            cond,
+            yes: _,
+            other,
+        } => match other {
+            None => !asks(cond),
+            Some(_) => !asks(cond),
+        },
+        StmtNode::ForEach { .. } => true,
+        StmtNode::While { .. } => true,
+        StmtNode::Break => {
+            is_after_flag(s.previous) && !is_counted(all, innermost(s.round.loops.as_slice()))
+        }
+        StmtNode::Sort { .. } => false,
+        StmtNode::Print { .. } => false,
+        StmtNode::Return { .. } => false,
+    }
+}
+
+#[tactic(auto, using(crate::proofs::Rounds::rounds))]
+fn broken_statement(all: &[Site], n: usize, s: &Site) -> Option<Span>
+    ensures { result ≡ specs.broken_statement (map site_of all.now) n (site_of s.now) }
+{
+    place_where(!is_allowed(all, s, s.statement), s.statement.span)
+}
+
+/// K4: the first statement that the loop may not hold.
+pub fn broken_statements(w: &Setting) -> Option<Span>
+    ensures { result ≡ specs.broken_statements (setting_in_code w.now) }
+{
+    for (n, s) in w.sites.iter().enumerate() {
+        if let Some(at) = broken_statement(w.sites, n, s) {
+            return Some(at);
+        }
+    }
+    None
+}

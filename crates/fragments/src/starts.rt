@@ -1,0 +1,223 @@
+// What accumulators and flags start with.
+ghost use Rattle.std.specs.Prelude.{◌≡◌, ◌&&◌, IfOk, not, option_copied, map};
+ghost use Rattle.std.specs.List.{filter, list_any};
+ghost use Rattle.std.specs.Option.{option_map};
+ghost use Rattle.qbs_base.specs.Scalar.{scalar_same};
+ghost use Rattle.qbs_base.specs.declared.scalar.Scalar.TheVariants as scalars;
+ghost use Rattle.java_ast.specs.Reading.{expression, statement, statements};
+ghost use Rattle.fragments.specs.Fragment as fragment;
+ghost use Rattle.fragments.specs.KernelStarts as specs;
+ghost use Rattle.fragments.specs.Reading.{form_in_code, fragment_in_code, names_lent, setting_in_code, site_of};
+ghost use Rattle.fragments.specs.Setting as setting;
+ghost use Rattle.fragments.specs.Sites as sites;
+
+use crate::bindings::is_name;
+use crate::counting::is_literal_zero;
+use crate::forms::{Form, form_of};
+use crate::names::touches;
+use crate::runs::{behind_number, first_touching, given_by};
+use crate::setting::Setting;
+use crate::sites::{Site, place_where};
+use crate::updates::{first_place, is_none, target_of, updates_local};
+use java_ast::{Expr, ExprNode, Stmt, StmtNode};
+use qbs_base::{Items, Name, NoMemory, Scalar, Span};
+use std::alloc::Global;
+
+/// The form of the update of an accumulator.
+pub fn form_of_name<'a>(all: &[Site<'a>], x: &Name) -> Form<'a>
+    ensures { form_in_code result ≡ specs.form_found (map site_of all.now) (specs.update_of (map site_of all.now) x.now) }
+{
+    for (n, s) in all.iter().enumerate() {
+        if is_name(target_of(s.statement), x) {
+            return form_of(all, n, s.statement);
+        }
+    }
+    Form::Other
+}
+
+/// The form of the update of the flag that is declared at this number.
+pub fn form_of_flag<'a>(all: &[Site<'a>], d: usize) -> Form<'a>
+    ensures { form_in_code result ≡ specs.form_found (map site_of all.now) (specs.update_of_flag (map site_of all.now) d) }
+{
+    for (n, s) in all.iter().enumerate() {
+        if updates_local(all, d, n, s) {
+            return form_of(all, n, s.statement);
+        }
+    }
+    Form::Other
+}
+
+fn is_empty_collection(e: &Expr) -> bool
+    ensures { result ≡ specs.is_empty_collection (expression e.now) }
+{
+    match &e.node {
+        ExprNode::NewList => true,
+        ExprNode::NewSet(None) => true,
+        _ => false,
+    }
+}
+
+fn is_long(value: &Scalar) -> bool
+    ensures { result ≡ specs.is_long value.now }
+{
+    match value {
+        Scalar::Long(_) => true,
+        _ => false,
+    }
+}
+
+fn is_integer(e: &Expr) -> bool
+    ensures { result ≡ specs.is_integer (expression e.now) }
+{
+    match &e.node {
+        ExprNode::Lit(value) => is_long(value),
+        _ => false,
+    }
+}
+
+fn is_bool(b: bool, value: &Scalar) -> bool
+    ensures { result ≡ scalar_same value.now (scalars.Bool b) }
+{
+    match value {
+        Scalar::Bool(c) => *c == b,
+        _ => false,
+    }
+}
+
+/// Whether an expression is this truth value.
+pub fn is_truth_of(b: bool, e: &Expr) -> bool
+    ensures { result ≡ specs.is_truth_of b (expression e.now) }
+{
+    match &e.node {
+        ExprNode::Lit(value) => is_bool(b, value),
+        _ => false,
+    }
+}
+
+fn may_start(form: Form, e: &Expr) -> bool
+    ensures { result ≡ specs.may_start (form_in_code form.entry) (expression e.now) }
+{
+    match form {
+        Form::Adds(_) => is_empty_collection(e),
+        Form::Counts => is_literal_zero(e),
+        Form::Sums(_) => is_literal_zero(e),
+        Form::Takes(_) => is_integer(e),
+        Form::Marks(b) => is_truth_of(!b, e),
+        Form::Other => false,
+    }
+}
+
+fn may_start_so(form: Form, e: Option<&Expr>) -> bool
+    ensures { result ≡ specs.may_start_so (form_in_code form.entry) (option_map expression (option_copied e.entry)) }
+{
+    match e {
+        None => false,
+        Some(e) => may_start(form, e),
+    }
+}
+
+fn is_touched(x: &Name, run: &[Stmt]) -> bool
+    ensures { result ≡ setting.is_found (setting.first_touching x.now (statements run.now)) }
+{
+    match first_touching(x, run) {
+        None => false,
+        Some(_) => true,
+    }
+}
+
+// A statement of a run starts an accumulator: nothing behind it mentions that.
+fn starts(all: &[Site], s: &Stmt, behind: &[Stmt], x: &Name) -> bool
+    ensures { result ≡ specs.starts (map site_of all.now) (statement s.now) (statements behind.now) x.now }
+{
+    may_start_so(form_of_name(all, x), given_by(x, s)) && !is_touched(x, behind)
+}
+
+// A statement mentions one of these accumulators and doesn't start it.
+fn spoils_one(all: &[Site], s: &Stmt, behind: &[Stmt], xs: &[&Name]) -> bool
+    ensures { result ≡ list_any (λ x. setting.touches x (statement s.now) && not (specs.starts (map site_of all.now) (statement s.now) (statements behind.now) x)) (names_lent xs.now) }
+{
+    for x in xs {
+        if touches(s, x) && !starts(all, s, behind, x) {
+            return true;
+        }
+    }
+    false
+}
+
+// The names that a statement doesn't mention.
+#[tactic(auto, using(crate::proofs::Kept::kept))]
+fn untouched<'a>(alloc: Global, s: &Stmt, xs: &[&'a Name]) -> Result<Items<&'a Name>, NoMemory>
+    ensures { IfOk result (λ r. names_lent r ≡ filter (λ x. not (setting.touches x (statement s.now))) (names_lent xs.now)) }
+{
+    let mut left = Items::new(alloc);
+    for x in xs {
+        if !touches(s, x) {
+            left.push(*x)?;
+        }
+    }
+    Ok(left)
+}
+
+#[tactic(auto, using(crate::proofs::Rounds::rounds))]
+fn broken_starts_of(
+    alloc: Global,
+    all: &[Site],
+    at: Span,
+    accs: &[&Name],
+    run: &[Stmt],
+) -> Result<Option<Span>, NoMemory>
+    ensures { IfOk result (λ o. o ≡ specs.broken_starts_of (map site_of all.now) at (names_lent accs.now) (statements run.now)) }
+{
+    let mut left = Items::from_vec(accs.to_vec(alloc)?);
+    for (i, s) in run.iter().enumerate() {
+        let behind = behind_number(run, i);
+        if spoils_one(all, s, behind, left.as_slice()) {
+            return Ok(Some(s.span));
+        }
+        left = untouched(alloc, s, left.as_slice())?;
+    }
+    Ok(place_where(!is_none(left.as_slice()), at))
+}
+
+#[tactic(auto, using(crate::proofs::Nodes::nodes))]
+fn starts_flag(all: &[Site], d: usize, s: &Stmt) -> bool
+    ensures { result ≡ specs.starts_flag (map site_of all.now) d (statement s.now) }
+{
+    match &s.node {
+        StmtNode::Declare {
+            ty: _,
+            name: _,
+            value,
+        } => may_start(form_of_flag(all, d), value),
+        _ => true,
+    }
+}
+
+#[tactic(auto, using(crate::proofs::Rounds::rounds))]
+fn broken_flag_start(all: &[Site], d: usize, s: &Site) -> Option<Span>
+    ensures { result ≡ specs.broken_flag_start (map site_of all.now) d (site_of s.now) }
+{
+    place_where(!starts_flag(all, d, s.statement), s.statement.span)
+}
+
+fn first_flag_start(all: &[Site]) -> Option<Span>
+    ensures { result ≡ sites.first_broken (specs.broken_flag_start (map site_of all.now)) 0 (map site_of all.now) }
+{
+    for (d, s) in all.iter().enumerate() {
+        if let Some(at) = broken_flag_start(all, d, s) {
+            return Some(at);
+        }
+    }
+    None
+}
+
+/// K9: the first statement of the run that mentions an accumulator and doesn't start it rightly, the loop
+/// where none mentions one, and then the first flag that isn't declared with the opposite of its update.
+#[tactic(auto, using(crate::proofs::Rounds::rounds))]
+pub fn broken_starts(alloc: Global, w: &Setting, accs: &[&Name]) -> Result<Option<Span>, NoMemory>
+    requires { names_lent accs.now ≡ fragment.accumulators (fragment_in_code w.now) }
+    ensures { IfOk result (λ o. o ≡ specs.broken_starts (setting_in_code w.now)) }
+{
+    let first = broken_starts_of(alloc, w.sites, w.looped.span, accs, w.run)?;
+    Ok(first_place(first, first_flag_start(w.sites)))
+}
