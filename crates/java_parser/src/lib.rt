@@ -15,6 +15,8 @@ mod parser;
 mod places;
 mod plain;
 mod printed;
+#[cfg(test)]
+mod samples;
 mod sorts;
 #[cfg(test)]
 mod tests;
