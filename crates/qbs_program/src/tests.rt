@@ -1,7 +1,8 @@
 // The top call over files and sinks in memory. A case: words, files, calls that are to fail (of the
 // files, of `out`, of `rep`), the room of `out`, and what comes of it.
+use crate::tables::{REWRITTEN, ROLES, Row, SCHEMA, STAFF, USERS, files_of, is_so, words_of};
 use qbs::{qbs_main, qbs_main_over_clean_ends};
-use qbs_base::{Bytes, CleanFiles, CleanSink, MemFiles, MemSink, Status, Text, Words};
+use qbs_base::{Bytes, CleanFiles, CleanSink, MemFiles, MemSink, Status, Text};
 use std::alloc::{AllocError, Global};
 use std::test::Fail;
 
@@ -14,12 +15,6 @@ struct Case {
     out: &'static str,
     rep: &'static str,
 }
-
-const SCHEMA: &str =
-    "CREATE TABLE User (id BIGINT, name TEXT, roleId BIGINT, age BIGINT, active BOOLEAN);\nCREATE TABLE Role (id BIGINT, label TEXT);\n";
-
-const STAFF: &str =
-    "class A {\n    List<User> staff() {\n        List<User> out = new ArrayList<>();\n        for (User u : db.fetch(User.class)) {\n            if (u.roleId == 2) {\n                out.add(u);\n            }\n        }\n        return out;\n    }\n}\n";
 
 const SPACED: &str =
     "class\tA{/* c */List <User>\r\nstaff( ) // d\n{List<User>out=new ArrayList<>();for(User u:\r\n\tdb . fetch(User.class)){if(u.roleId==2){out.add(u);}}return out;}}";
@@ -35,9 +30,6 @@ const BY_PAY: &str =
 
 const SAME_NAMES: &str =
     "class A{List<User>f(){List<User>u=new ArrayList<>();for(User u:db.fetch(User.class)){if(u.id==2){u.add(u);}}return u;}}";
-
-const REWRITTEN: &str =
-    "class A {\n    List<User> staff() {\n        List<User> out = db.query(User.class, \"SELECT t1.* FROM User t1 WHERE t1.roleId = 2 ORDER BY t1._pos\");\n        return out;\n    }\n}\n";
 
 const BOTH: &[(&str, &str)] = &[("s.sql", SCHEMA), ("A.java", STAFF)];
 
@@ -327,11 +319,6 @@ static CASES: [Case; 31] = [
     },
 ];
 
-const USERS: &str =
-    "id,name,roleId,age,active\n1,ann,2,30,true\n2,bob,1,25,false\n3,cat,2,41,true\n4,ann,3,19,true\n5,dan,1,25,false\n";
-
-const ROLES: &str = "id,label\n1,admin\n2,staff\n2,crew\n";
-
 const METHODS: &str =
     "class M {\n    long oldest() {\n        long best = 10;\n        for (User u : db.fetch(User.class)) {\n            if (u.age > best) {\n                best = u.age;\n            }\n        }\n        return best;\n    }\n    void show() {\n        for (User u : db.fetch(User.class)) {\n            long n = 0;\n            for (Role r : db.fetch(Role.class)) {\n                if (r.id == u.roleId) {\n                    n = n + 1;\n                }\n            }\n            System.out.println(n);\n        }\n    }\n    Set<String> names() {\n        Set<String> names = new LinkedHashSet<>();\n        for (User u : db.fetch(User.class)) {\n            names.add(u.name);\n        }\n        return names;\n    }\n    User at(int i) {\n        List<User> users = db.fetch(User.class);\n        users.sort(Comparator.comparing(x -> x.name));\n        System.out.println(\"lost\");\n        User u = users.get(i);\n        return u;\n    }\n    int count() {\n        int i = 0;\n        while (i < 3) {\n            i = i + 1;\n        }\n        return i;\n    }\n    String quoted(String a) {\n        return a;\n    }\n    long doubled(long a) {\n        return a + a;\n    }\n    List<User> of(long role) {\n        List<User> out = db.query(User.class, \"SELECT t1.* FROM User t1 WHERE t1.roleId = ?1 ORDER BY t1._pos\", role);\n        return out;\n    }\n}\n";
 
@@ -349,15 +336,6 @@ const SHORT_ROLES: &[(&str, &str)] = &[
     ("d/User.csv", USERS),
     ("d/Role.csv", "id,label\n1,admin\n2\n"),
 ];
-
-/// Words over some files, and the status, `out` and `rep` that come of them.
-struct Row {
-    words: &'static [&'static str],
-    files: &'static [(&'static str, &'static str)],
-    code: u8,
-    out: &'static str,
-    rep: &'static str,
-}
 
 static ROWS: [Row; 24] = [
     Row {
@@ -547,25 +525,6 @@ static ROWS: [Row; 24] = [
     },
 ];
 
-fn words_of(alloc: Global, words: &[&str]) -> Result<Words, AllocError> {
-    let mut texts = Vec::new(alloc);
-    for word in words {
-        texts.push(Text::from_str(alloc, word)?)?;
-    }
-    Ok(Words::from_vec(texts))
-}
-
-fn files_of(alloc: Global, files: &[(&str, &str)]) -> Result<MemFiles, Fail> {
-    let mut held = MemFiles::new(alloc);
-    for (name, bytes) in files {
-        held.put(
-            Text::from_str(alloc, name)?,
-            Bytes::from_vec(bytes.as_bytes().to_vec(alloc)?),
-        )?;
-    }
-    Ok(held)
-}
-
 #[test]
 fn each_case_has_its_status_and_texts(rt: HostRuntime) -> Result<(), Fail> {
     let alloc = rt.alloc();
@@ -589,20 +548,6 @@ fn each_case_has_its_status_and_texts(rt: HostRuntime) -> Result<(), Fail> {
         assert_eq!(rt; rep.bytes(), case.rep.as_bytes());
     }
     Ok(())
-}
-
-// Whether the status and both texts of a row come of its words and files.
-fn is_so(alloc: Global, row: &Row) -> Result<bool, Fail> {
-    let words = words_of(alloc, row.words)?;
-    let mut files = files_of(alloc, row.files)?;
-    let mut out = MemSink::with_room(alloc, 1000)?;
-    let mut rep = MemSink::with_room(alloc, 100)?;
-    let status = qbs_main(alloc, &words, &mut files, &mut out, &mut rep);
-    Ok(
-        status.code() == row.code
-            && out.bytes() == row.out.as_bytes()
-            && rep.bytes() == row.rep.as_bytes(),
-    )
 }
 
 #[test]
