@@ -1,9 +1,9 @@
 -- Blocks that end with a statement.
 use Rattle.std.specs.Prelude.{ℕ, List, [], ◌∷◌, ◌++◌, Some}
-use Rattle.std.proofs.Common.{◌≡◌, refl, ap, ◌∙◌}
+use Rattle.std.proofs.Common.{◌≡◌, refl, ap}
 use Rattle.java_ast.specs.declared.tree.Stmt.{Stmt}
 use Rattle.java_ast.specs.Reading.{statement, statements}
-use Rattle.java_ast.specs.Tree.{Statement, Statements, Nothing, Then}
+use Rattle.java_ast.specs.Tree.{Statement, Then}
 use Rattle.fragments.specs.KernelLoop.{ends, goes_on}
 use Rattle.fragments.specs.Counting.{Counting}
 use Rattle.fragments.specs.Sites.{without_last, before_last, innermost}

@@ -1,5 +1,5 @@
 -- The sites of a statement: they stand within it, and the update of a variable there sets the variable.
-use Rattle.std.proofs.Common.{◌≡◌, ℕ, suc, ◌<◌, ◌≤◌, Bool, true, false, ◌||◌, List, Option, Some, refl, ap, ◌∙◌, subst, slice_get, bytes_eq, arith, ⊎_elim}
+use Rattle.std.proofs.Common.{◌≡◌, ℕ, suc, ◌<◌, ◌≤◌, Bool, true, false, List, Option, Some, ap, ◌∙◌, subst, slice_get, bytes_eq, arith, ⊎_elim}
 use Rattle.std.proofs.lemmas.Bool.{cases_lt, cases_eq}
 use Rattle.java_ast.specs.Tree as tree
 use Rattle.java_ast.specs.Tree.{Statement, Statements}

@@ -1,5 +1,5 @@
 -- The parts of typed expressions, with their types.
-use Rattle.std.proofs.Common.{◌≡◌, ℕ, Bool, true, List, Some, refl, sym, ap}
+use Rattle.std.proofs.Common.{◌≡◌, ℕ, true, List, Some, refl, sym, ap}
 use Rattle.std.specs.Prelude.{slice_get}
 use Rattle.qbs_base.specs.declared.columns.Column.{Column}
 use Rattle.qbs_base.specs.declared.scalar.Scalar.{Scalar}

@@ -1,7 +1,6 @@
 -- The set of wanted variables is the least closed one.
-use Rattle.std.specs.Prelude.{ℕ, List, Bool, true, false}
+use Rattle.std.specs.Prelude.{ℕ, List, Bool, true}
 use Rattle.std.proofs.Common.{◌≡◌}
-use Rattle.java_ast.specs.Tree.{Statement}
 use Rattle.fragments.specs.Names.{Names}
 use Rattle.fragments.specs.Fragment.{Fragment, set_by, IsWanted, live, read, mentioned, IsClosed}
 

@@ -1,9 +1,9 @@
 -- The run at the end of statements is the longest one.
-use Rattle.std.specs.Prelude.{Bool, true, false, ◌&&◌, if◌then◌else◌}
-use Rattle.std.proofs.Common.{◌≡◌, refl, sym, ap, ◌∙◌}
+use Rattle.std.specs.Prelude.{Bool, true, false, if◌then◌else◌}
+use Rattle.std.proofs.Common.{◌≡◌, refl, sym, ap}
 use Rattle.java_ast.specs.Tree.{Statement, Statements, Nothing, Then}
 use Rattle.java_ast.specs.Path.{and_then}
-use Rattle.fragments.specs.Fragment.{is_simple, are_simple, before_run, run_of}
+use Rattle.fragments.specs.Fragment.{are_simple, before_run, run_of}
 
 abbrev chosen : Bool → Statements → Statements → Statements
 chosen b p q = if b then p else q

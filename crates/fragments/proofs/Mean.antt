@@ -1,12 +1,12 @@
 -- From what holds at a loop to what its fragment ends with.
-use Rattle.std.proofs.Common.{◌≡◌, ℕ, zero, suc, ◌≤◌, Bool, true, false, List, [], ◌∷◌, Option, Some, None, Ok, refl, sym, ap, ◌∙◌, subst}
-use Rattle.std.specs.Prelude.{bytes_eq, slice_get}
+use Rattle.std.proofs.Common.{◌≡◌, ℕ, zero, suc, true, List, [], ◌∷◌, Option, Some, refl, sym, ap, ◌∙◌}
+use Rattle.std.specs.Prelude.{slice_get}
 use Rattle.std.specs.Option.{option_map}
 use Rattle.qbs_base.specs.declared.scalar.Row.{Row}
 use Rattle.qbs_base.specs.declared.scalar.Value.{Value}
 use Rattle.qbs_base.specs.Named.{at_name}
 use Rattle.java_ast.specs.Tree.{Statements}
-use Rattle.java_mean.specs.Statement.{State, GoesOn, each, meanings}
+use Rattle.java_mean.specs.Statement.{State}
 use Rattle.java_mean.specs.Store.{Store, Variable}
 use Rattle.java_mean.specs.World as java
 use Rattle.tor_terms.specs.Plain.{Form}
@@ -18,10 +18,9 @@ use Rattle.kernel_lang.specs.Running.{Layer, ends_as, and_then, ends, all_end}
 use Rattle.java_loops.specs.ChainLaws.{start_of, value_in, IsTurned}
 use Rattle.java_loops.specs.ChainStarts.{Begins}
 use Rattle.java_loops.specs.Left.{Became, Left}
-use Rattle.java_loops.specs.Nests.{with_name, Apart, Mark, AreNest}
 use Rattle.java_loops.specs.Numbering.{Numbering}
-use Rattle.java_loops.specs.Reads.{Set, SameOn}
-use Rattle.java_loops.proofs.Becoming.{over_rows, each_left}
+use Rattle.java_loops.specs.Reads.{Set}
+use Rattle.java_loops.proofs.Becoming.{over_rows}
 use Rattle.java_loops.proofs.ChainEnds.{turns_end}
 use Rattle.fragments.specs.Means.{AreMatched, HasValue}
 

@@ -1,6 +1,5 @@
 -- Where the run has passed, the lowered fragment begins.
-use Rattle.std.proofs.Common.{◌≡◌, ℕ, List, [], Option, Some, None, refl, length, ◌∙◌, sym}
-use Rattle.std.specs.Prelude.{slice_get}
+use Rattle.std.proofs.Common.{◌≡◌, ℕ, List, Option, refl, length}
 use Rattle.qbs_base.specs.Values.{Schema, AreOf}
 use Rattle.sql_ast.specs.Tree.{PlainQuery}
 use Rattle.java_ast.specs.Tree.{PlainMethod}
@@ -13,12 +12,9 @@ use Rattle.kernel_lang.specs.declared.parts.Entry.{Entry}
 use Rattle.java_loops.specs.ChainStarts.{Begins}
 use Rattle.fragments.specs.Fragment.{Fragment}
 use Rattle.fragments.specs.Kernel.{lowering}
-use Rattle.fragments.specs.Lowered.{Lowering}
 use Rattle.fragments.specs.Means.{AreMatched, HasScalar, HasScalars}
-use Rattle.fragments.specs.Numbering.{numbers_of, entries_of, known_of}
+use Rattle.fragments.specs.Numbering.{numbers_of, known_of}
 use Rattle.fragments.specs.Setting.{Setting, setting_of}
-use Rattle.fragments.specs.Sites.{sites_of}
-use Rattle.fragments.proofs.KnownGiven.{AreGiven}
 use Rattle.fragments.proofs.ListedRows.{IsSeenFragment}
 use Rattle.fragments.proofs.MeanGiven.{entries_matched, entry_held, HaveKnown, known_given, known_at, entry_given}
 use Rattle.fragments.proofs.MeanLists.{list_table, variable_holds, table_whole}

@@ -1,5 +1,5 @@
 -- The accumulators of a lowered fragment at its loop, where each is a chain: it starts as its variable does.
-use Rattle.std.proofs.Common.{◌≡◌, ℕ, zero, suc, Bool, true, false, List, [], ◌∷◌, ◌++◌, length, Option, Some, None, refl, sym, ap, ◌∙◌, subst, cond, append_assoc}
+use Rattle.std.proofs.Common.{◌≡◌, ℕ, suc, Bool, true, false, List, [], ◌∷◌, ◌++◌, length, Option, Some, None, refl, sym, ap, ◌∙◌, subst, cond, append_assoc}
 use Rattle.std.specs.List.{AllByRecursion}
 use Rattle.qbs_base.specs.Named.{at_name}
 use Rattle.sql_ast.proofs.Combinations.{all_append}
@@ -20,7 +20,7 @@ use Rattle.java_loops.specs.Numbering.{Numbering, Flags, no_flags, with_loop}
 use Rattle.fragments.specs.Fragment.{Fragment, accumulators, needed_of, set_by}
 use Rattle.fragments.specs.Kernel.{lowering}
 use Rattle.fragments.specs.KernelStarts.{Numbered, update_of, update_of_flag, form_found}
-use Rattle.fragments.specs.Lowered.{Lowering, conditions_of, accumulator_with, accumulator_of, outer_accumulators, flag_here, flags_from, set_in_order, needed_in_order}
+use Rattle.fragments.specs.Lowered.{conditions_of, accumulator_with, accumulator_of, outer_accumulators, flag_here, flags_from, set_in_order, needed_in_order}
 use Rattle.fragments.specs.Names.{Names, is_among}
 use Rattle.fragments.specs.Numbering.{numbers_of}
 use Rattle.fragments.specs.Setting.{Setting}

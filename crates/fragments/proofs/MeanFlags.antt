@@ -1,5 +1,5 @@
 -- The flags of a lowered fragment stand for assignments of truth values.
-use Rattle.std.proofs.Common.{◌≡◌, ℕ, zero, suc, ◌+◌, Bool, true, false, not, ◌&&◌, List, [], ◌∷◌, ◌++◌, length, Option, Some, None, refl, sym, ap, ◌∙◌, subst, arith}
+use Rattle.std.proofs.Common.{◌≡◌, ℕ, suc, ◌+◌, Bool, true, not, ◌&&◌, List, [], ◌∷◌, ◌++◌, length, Option, Some, None, refl, sym, ap, ◌∙◌, subst, arith}
 use Rattle.std.specs.Prelude.{slice_get}
 use Rattle.std.specs.List.{AllByRecursion}
 use Rattle.qbs_base.specs.declared.scalar.Scalar.TheVariants as scalars
@@ -17,7 +17,7 @@ use Rattle.fragments.specs.KernelForms as forms
 use Rattle.fragments.specs.KernelForms.{adds, counts, sums, takes, marks, other}
 use Rattle.fragments.specs.KernelStarts.{Numbered, update_of_flag, form_found, may_start}
 use Rattle.fragments.specs.KernelStatements.{is_allowed, is_boolean, is_truth_literal}
-use Rattle.fragments.specs.Lowered.{Lowering, update_with, accumulator_with, accumulator_of, flag_here, flags_from}
+use Rattle.fragments.specs.Lowered.{update_with, accumulator_with, accumulator_of, flag_here, flags_from}
 use Rattle.fragments.specs.Numbering.{numbers_of}
 use Rattle.fragments.specs.Setting.{Setting}
 use Rattle.fragments.specs.Sites.{Round, Site, declared_name}

@@ -1,5 +1,5 @@
 -- The entry of a lowered fragment at its loop: the values of its entries and its known lists, by number.
-use Rattle.std.proofs.Common.{◌≡◌, ℕ, zero, suc, Bool, true, false, List, [], ◌∷◌, length, Option, Some, None, Result, Ok, refl, sym, ap, ◌∙◌, subst, cond}
+use Rattle.std.proofs.Common.{◌≡◌, ℕ, zero, suc, Bool, true, false, List, [], ◌∷◌, length, Option, Some, None, Ok, refl, sym, ap, ◌∙◌, subst, cond}
 use Rattle.std.specs.Prelude.{map, bytes_eq, slice_get, get_or}
 use Rattle.std.specs.List.{AllByRecursion, list_any}
 use Rattle.std.specs.Option.{option_map}
@@ -12,25 +12,22 @@ use Rattle.qbs_base.specs.declared.scalar.Value.TheVariants.{One, Many}
 use Rattle.qbs_base.specs.Named.{at_name}
 use Rattle.qbs_base.specs.Values.{Schema, HasTy, AreOf}
 use Rattle.java_ast.specs.Tree.{Expression}
-use Rattle.java_mean.specs.declared.ending.Ending.{Ending}
 use Rattle.java_mean.specs.declared.types.JavaType.{JavaType}
-use Rattle.java_mean.specs.declared.types.JavaType.TheVariants.{Listed, Distinct}
 use Rattle.java_mean.specs.declared.types.Single.TheVariants.{ScalarOf}
 use Rattle.java_mean.specs.Expression.{value_of, alone}
 use Rattle.java_mean.specs.Statement.{State}
 use Rattle.java_mean.specs.Store.{Store, Variable}
-use Rattle.java_mean.specs.Types.{Types, IsOf, IsVariableOf, IsTyped}
+use Rattle.java_mean.specs.Types.{IsOf, IsVariableOf, IsTyped}
 use Rattle.java_mean.specs.World.{World}
 use Rattle.java_mean.proofs.Puts.{names_equal}
 use Rattle.kernel_lang.specs.declared.parts.Entry.{Entry}
-use Rattle.java_loops.specs.Matched.{entry_value, HoldsScalar, HoldsRows, HoldsScalars}
+use Rattle.java_loops.specs.Matched.{entry_value, HoldsScalar, HoldsScalars}
 use Rattle.fragments.specs.Lowered.{type_of_entry}
-use Rattle.fragments.specs.Means.{AreMatched, HasScalar, HasValue, HasScalars}
+use Rattle.fragments.specs.Means.{AreMatched, HasScalar, HasScalars}
 use Rattle.fragments.specs.Names.{Names}
 use Rattle.fragments.specs.Numbering.{number_where, same_entry, entries_of, known_of}
 use Rattle.fragments.specs.Setting.{Setting}
 use Rattle.fragments.proofs.KnownAnswers.{many_of, scalars_are, HoldsKnown}
-use Rattle.fragments.proofs.KnownEntries.{HaveEntries}
 use Rattle.fragments.proofs.KnownGiven.{same_value, IsGivenKnown, AreGiven}
 use Rattle.fragments.proofs.NumberLists.{found_where, Numbered, numbered}
 use Rattle.fragments.proofs.Numberings.{entry_named, type_of_members}

@@ -1,24 +1,21 @@
 -- The lists of a lowered fragment by the numbers of its loops: a table that is fetched stands whole, and a variable holds
 -- its list.
-use Rattle.std.proofs.Common.{◌≡◌, ℕ, zero, suc, Bool, true, false, List, [], ◌∷◌, Option, Some, None, Result, Ok, refl, sym, ap, ◌∙◌, subst, cond}
-use Rattle.std.specs.Prelude.{slice_get, if◌then◌else◌}
-use Rattle.std.specs.List.{filter, AllByRecursion}
+use Rattle.std.proofs.Common.{◌≡◌, ℕ, zero, suc, Bool, true, false, List, [], ◌∷◌, Option, Some, None, Ok, refl, sym, ap, ◌∙◌, subst, cond}
+use Rattle.std.specs.Prelude.{slice_get}
+use Rattle.std.specs.List.{AllByRecursion}
 use Rattle.std.specs.Option.{option_map}
 use Rattle.qbs_base.specs.declared.scalar.Row.{Row}
-use Rattle.qbs_base.specs.declared.scalar.Value.{Value}
 use Rattle.qbs_base.specs.declared.scalar.Value.TheVariants.{Many}
 use Rattle.qbs_base.specs.declared.span.Span.{Span}
 use Rattle.qbs_base.specs.Named.{at_name}
-use Rattle.qbs_base.specs.Values.{Schema, Database}
+use Rattle.qbs_base.specs.Values.{Schema}
 use Rattle.sql_ast.specs.Tree.{PlainQuery}
 use Rattle.java_ast.specs.Tree as tree
 use Rattle.java_ast.specs.Tree.{Spelled, Expression, Statement, Statements}
-use Rattle.java_mean.specs.declared.ending.Ending.{Ending}
-use Rattle.java_mean.specs.declared.ending.Ending.TheVariants as endings
 use Rattle.java_mean.specs.Endings.{◌>>=◌, found}
-use Rattle.java_mean.specs.Expression.{table_number, columns_at, value_of}
+use Rattle.java_mean.specs.Expression.{table_number, value_of}
 use Rattle.java_mean.specs.Statement.{State}
-use Rattle.java_mean.specs.Store.{Store, Variable}
+use Rattle.java_mean.specs.Store.{Variable}
 use Rattle.java_mean.specs.Types.{Types}
 use Rattle.java_mean.specs.World.{World}
 use Rattle.kernel_lang.specs.declared.parts.ListDef.{ListDef}
@@ -30,15 +27,15 @@ use Rattle.fragments.specs.Fragment.{Fragment}
 use Rattle.fragments.specs.KernelLists as kernel
 use Rattle.fragments.specs.KernelLists.{source_in}
 use Rattle.fragments.specs.Loops.{is_loop}
-use Rattle.fragments.specs.Lowered.{keys_found, list_of, lists_of}
+use Rattle.fragments.specs.Lowered.{list_of, lists_of}
 use Rattle.fragments.specs.Numbering.{table_spelled, table_of_loop, table_of_site}
 use Rattle.fragments.specs.Setting.{Setting, setting_of}
 use Rattle.fragments.specs.Sites.{Site, sites_of}
 use Rattle.fragments.proofs.Listed.{AreListed}
 use Rattle.fragments.proofs.ListedRows.{IsSeenFragment, all_sites_seen, HasList, sources}
 use Rattle.fragments.proofs.ListedSeen.{IsClean}
-use Rattle.fragments.proofs.ListedSites.{IsLinkedTo, IsLinked, each_linked}
-use Rattle.fragments.proofs.ListedWalk.{SeenStatement, SeenSite}
+use Rattle.fragments.proofs.ListedSites.{IsLinkedTo, each_linked}
+use Rattle.fragments.proofs.ListedWalk.{SeenSite}
 use Rattle.fragments.proofs.Numberings.{loop_sites, source_of_list, source_of_loop, source_of_site}
 
 -- ---- Lists by number

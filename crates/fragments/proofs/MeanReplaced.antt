@@ -1,6 +1,6 @@
 -- A run and the loop of a lowered fragment whose accumulators are chains give way to statements that ask for what the
 -- fragment ends with.
-use Rattle.std.proofs.Common.{◌≡◌, ℕ, Bool, true, false, List, [], ◌∷◌, ◌++◌, Option, Some, None, refl, sym, ap, ◌∙◌, subst}
+use Rattle.std.proofs.Common.{◌≡◌, ℕ, true, List, [], ◌∷◌, ◌++◌, Option, Some, None, refl, sym, ap, ◌∙◌, subst}
 use Rattle.std.specs.List.{AllByRecursion}
 use Rattle.qbs_base.specs.Values.{Schema}
 use Rattle.sql_ast.specs.Tree.{PlainQuery}
@@ -23,7 +23,7 @@ use Rattle.fragments.specs.Fragment.{Fragment, accumulators, needed_of}
 use Rattle.fragments.specs.GivesWay.{MayStandForLoop}
 use Rattle.fragments.specs.Kernel.{broken}
 use Rattle.fragments.specs.Lowered.{needed_in_order}
-use Rattle.fragments.specs.Names.{Names, is_among}
+use Rattle.fragments.specs.Names.{Names}
 use Rattle.fragments.specs.Setting.{Setting, setting_of}
 use Rattle.fragments.specs.Sites.{is_some}
 use Rattle.fragments.proofs.MeanChains.{HasChains, IsNeeded, all_needed}

@@ -1,5 +1,5 @@
 -- At the loop each accumulator is what its update starts with.
-use Rattle.std.proofs.Common.{◌≡◌, ℕ, ℤ, pos, Bool, true, false, not, List, [], Option, Some, None, refl, sym, ap, ap₂, ◌∙◌, subst, cond}
+use Rattle.std.proofs.Common.{◌≡◌, ℕ, pos, Bool, true, false, List, [], Option, Some, None, refl, sym, ap, ap₂, ◌∙◌, subst}
 use Rattle.qbs_base.specs.declared.scalar.Scalar.{Scalar}
 use Rattle.qbs_base.specs.declared.scalar.Scalar.TheVariants as scalars
 use Rattle.qbs_base.specs.declared.scalar.Value.{Value}
@@ -14,19 +14,15 @@ use Rattle.java_mean.specs.Types as types
 use Rattle.java_mean.specs.Types.{Types, IsOf, IsVariableOf, IsTyped}
 use Rattle.tor_terms.specs.declared.term.Elem.{Elem}
 use Rattle.tor_terms.specs.Plain.{Form}
-use Rattle.kernel_lang.specs.declared.parts.Update.{Update}
 use Rattle.kernel_lang.specs.declared.parts.Update.TheVariants as updates
-use Rattle.kernel_lang.specs.Plain.{Accumulator}
 use Rattle.kernel_lang.specs.Running.{started}
 use Rattle.java_loops.specs.Carried.{variable_of}
 use Rattle.java_loops.specs.ChainLaws.{start_of}
 use Rattle.java_loops.specs.Chains.{By}
-use Rattle.fragments.specs.Fragment.{accumulators}
 use Rattle.fragments.specs.KernelForms as forms
 use Rattle.fragments.specs.KernelForms.{adds, counts, sums, takes, marks, other, is_distinct}
 use Rattle.fragments.specs.KernelStarts.{Numbered, update_of, form_found}
 use Rattle.fragments.specs.Lowered.{element_of, added, start_with, literal_by, update_with, is_opposite, accumulator_with}
-use Rattle.fragments.specs.Names.{is_among}
 use Rattle.fragments.specs.Numbering.{Numbers}
 use Rattle.fragments.specs.Setting.{Setting, first_touching}
 use Rattle.fragments.specs.Sites.{Round, is_some}

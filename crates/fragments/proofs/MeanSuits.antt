@@ -19,7 +19,7 @@ use Rattle.java_loops.specs.Carried.{Suits, IsLong}
 use Rattle.java_loops.specs.Chains.{By}
 use Rattle.fragments.specs.KernelForms as forms
 use Rattle.fragments.specs.KernelForms.{adds, counts, sums, takes, marks, other, is_distinct}
-use Rattle.fragments.specs.KernelStarts.{Numbered, update_of, form_found}
+use Rattle.fragments.specs.KernelStarts.{update_of, form_found}
 use Rattle.fragments.specs.Lowered.{element_of, added, start_with, literal_by, update_with, is_opposite, accumulator_with}
 use Rattle.fragments.specs.Numbering.{Numbers}
 use Rattle.fragments.specs.Setting.{Setting, first_touching}

@@ -1,11 +1,10 @@
 -- The tables and keys of a lowered fragment's lists are those of the schema.
-use Rattle.std.proofs.Common.{◌≡◌, ℕ, zero, suc, ◌+◌, ◌<◌, Bool, true, false, List, [], ◌∷◌, ◌++◌, length, map, Option, Some, None, refl, sym, ap, ◌∙◌, subst, cond, arith}
+use Rattle.std.proofs.Common.{◌≡◌, ℕ, zero, suc, ◌+◌, ◌<◌, Bool, true, false, List, [], ◌∷◌, length, map, Option, Some, None, refl, sym, ap, ◌∙◌, subst, cond, arith}
 use Rattle.std.specs.Prelude.{slice_get, get_or}
 use Rattle.std.specs.List.{AllByRecursion, position}
 use Rattle.std.proofs.lemmas.List.Quantifiers.{position-Some}
 use Rattle.std.proofs.lemmas.Option.{slice_get_within, slice_get-get_or}
 use Rattle.qbs_base.specs.declared.columns.Column.{Column}
-use Rattle.qbs_base.specs.declared.columns.Table.{Table}
 use Rattle.qbs_base.specs.declared.span.Span.{Span}
 use Rattle.qbs_base.specs.Values.{Schema}
 use Rattle.sql_ast.proofs.Combinations.{all_append}
@@ -21,7 +20,6 @@ use Rattle.java_loops.specs.ChainStarts.{HasColumnAt}
 use Rattle.fragments.specs.Fragment.{Fragment}
 use Rattle.fragments.specs.KernelLists as kernel
 use Rattle.fragments.specs.KernelLists.{source_in, source_counted, broken_lists}
-use Rattle.fragments.specs.Counting.{Counting, counting}
 use Rattle.fragments.specs.KernelLoop.{is_while}
 use Rattle.fragments.specs.Loops.{is_loop}
 use Rattle.fragments.specs.Lowered.{keys_of, keys_found, list_of, lists_of}

@@ -1,41 +1,33 @@
 -- The atoms of a lowered fragment stand for leaves of its conditions.
-use Rattle.std.proofs.Common.{◌≡◌, ℕ, Bool, true, false, List, [], ◌∷◌, ◌++◌, Option, Some, None, refl, sym, ap, ◌∙◌, subst, cond, map}
+use Rattle.std.proofs.Common.{◌≡◌, ℕ, Bool, true, false, List, [], ◌∷◌, ◌++◌, Option, Some, None, refl, ap, ◌∙◌, subst, cond, map}
 use Rattle.std.specs.Prelude.{slice_get}
 use Rattle.std.specs.List.{AllByRecursion, list_any}
 use Rattle.qbs_base.specs.declared.scalar.Ty.{Ty}
 use Rattle.qbs_base.specs.declared.scalar.Ty.TheVariants as tys
-use Rattle.qbs_base.specs.declared.span.Span.{Span}
 use Rattle.qbs_base.specs.Values.{Schema}
 use Rattle.sql_ast.proofs.Combinations.{all_append}
 use Rattle.sql_ast.specs.Tree.{PlainQuery}
 use Rattle.java_ast.specs.declared.tree.Op.TheVariants as ops
 use Rattle.java_ast.specs.Tree as tree
 use Rattle.java_ast.specs.Tree.{Spelled, Expression, Statement, Statements}
-use Rattle.java_mean.specs.declared.types.JavaType.TheVariants.{Of, Listed}
-use Rattle.java_mean.specs.declared.types.Single.TheVariants.{ScalarOf, RowOf}
-use Rattle.java_mean.specs.Expression.{table_number}
+use Rattle.java_mean.specs.declared.types.JavaType.TheVariants.{Of}
+use Rattle.java_mean.specs.declared.types.Single.TheVariants.{ScalarOf}
 use Rattle.java_mean.specs.Types.{Types}
 use Rattle.java_mean.specs.Typing as typing
 use Rattle.java_mean.specs.Typing.{Frame, HasType, bool, TypedStatement}
 use Rattle.java_loops.specs.ChainStarts.{StandsForCondition}
-use Rattle.java_loops.specs.Numbering.{Flag, Reads, Flags, with_loops}
+use Rattle.java_loops.specs.Numbering.{Flag, Reads, Flags}
 use Rattle.tor_terms.specs.declared.term.Atom.{Atom}
 use Rattle.fragments.specs.Fragment.{Fragment}
-use Rattle.fragments.specs.KernelConditions.{leaves, is_excepted, condition_of, may_read, broken_conditions}
-use Rattle.fragments.specs.KernelLists as kernel
-use Rattle.fragments.specs.KernelLists.{source_in, broken_lists}
-use Rattle.fragments.specs.Loops.{is_loop}
-use Rattle.fragments.specs.Numbering.{with_new, Leaf, leaves_kept, leaves_of, all_leaves, same_atom, reading_of, atoms_among, entries_of, known_of, numbers_of, flag_number, starts_true, loop_number, table_spelled}
+use Rattle.fragments.specs.KernelConditions.{leaves, is_excepted, condition_of, broken_conditions}
+use Rattle.fragments.specs.Numbering.{with_new, Leaf, leaves_kept, leaves_of, all_leaves, same_atom, reading_of, atoms_among, entries_of, known_of, numbers_of, flag_number, starts_true, loop_number}
 use Rattle.fragments.specs.Setting.{Setting, setting_of}
-use Rattle.fragments.specs.Sites.{Site, Binding, Row, Local, Outer, binding_at, sites_of}
+use Rattle.fragments.specs.Sites.{Site, Binding, Local, binding_at}
 use Rattle.fragments.proofs.FormAtoms.{leaf_atom}
+use Rattle.fragments.proofs.FormSpelled.{rows_spelled}
 use Rattle.fragments.proofs.FormSites.{TypedSite, site_typed}
-use Rattle.fragments.proofs.FormTables.{Spells, RowsSpelled}
 use Rattle.fragments.proofs.FormTyping.{BinaryTyped, binary_typed, and_truths, or_truths, not_typed}
-use Rattle.fragments.proofs.ListedRows.{IsSeenFragment, sources, loop_has_source}
-use Rattle.fragments.proofs.ListedSeen.{TypedSource}
-use Rattle.fragments.proofs.ListedSites.{IsLinkedTo}
-use Rattle.fragments.proofs.MeanLists.{each_link}
+use Rattle.fragments.proofs.ListedRows.{IsSeenFragment}
 use Rattle.fragments.proofs.NestRules.{Unbroken}
 use Rattle.fragments.proofs.NumberEntries.{all_leaves_by}
 use Rattle.fragments.proofs.NumberKept.{LeafFits, FitsUnless, condition_fits}
@@ -160,55 +152,10 @@ module _ (w : Setting) (c : Frame) (same : c.schema ≡ w.schema) (conditions : 
   pub atoms_stand : ((n : ℕ) (s : Site) → slice_get w.sites n ≡ Some s → TypedSite w c n s) → AllByRecursion (StandsForCondition (numbering w)) (numbers_of w).atoms
   atoms_stand typed = all_atoms w (StandsForCondition (numbering w)) [] (all_leaves w.sites) tt (all_leaves_by (λ (l : Leaf). IsStanding l.number l.expression) w.sites (λ n s get. site_stands n s get (typed n s get) (condition_of s.statement) refl))
 
--- ---- The tables of for-each loops
+-- ---- Of a fragment
 
-module _ (schema : Schema) (read : List ℕ → Option PlainQuery) (f : Fragment) (g : Types) (k : IsSeenFragment schema read f g) (lists : broken_lists (setting_of schema read g f) ≡ None) where
-  abbrev at_fragment : Setting
-  at_fragment = setting_of schema read g f
-
-  same_table : (t : List ℕ) (a b : ℕ) → table_number schema t ≡ Some a → table_number schema t ≡ Some b → a ≡ b
-  same_table t a b e h = some_same a b (sym e ∙ h)
-
-  each_spells : (n : ℕ) (s : Site) → slice_get (sites_of f.loop) n ≡ Some s → (at : Span) (ty : Spelled) (x : List ℕ) (e : Expression) (b : Statements) → s.statement ≡ tree.ForEach at ty x e b → (src : kernel.Source) → source_in f.run (tree.ForEach at ty x e b) ≡ Some src → Spells at_fragment (tree.ForEach at ty x e b)
-  each_spells n s get at ty x (tree.Fetch at' t) b is src h = (each_link schema read f g k n s get at ty x (tree.Fetch at' t) b is (record { table = t; keys = []; downs = [] }) refl).number
-  each_spells n s get at ty x (tree.Var at' y) b is src h =
-      let link : IsLinkedTo schema (table_spelled schema ty) src = each_link schema read f g k n s get at ty x (tree.Var at' y) b is src h in
-      let t : TypedSource schema read k.result g y src = sources schema read f g k y src h in
-      t.typed ∙ ap (λ i. Some (Listed (RowOf i))) (same_table src.table t.number (table_spelled schema ty) t.table link.number)
-  each_spells n s get at ty x (tree.Lit at' v) b is src h = tt
-  each_spells n s get at ty x (tree.Field at' e name) b is src h = tt
-  each_spells n s get at ty x (tree.Binary at' op p q) b is src h = tt
-  each_spells n s get at ty x (tree.Not at' e) b is src h = tt
-  each_spells n s get at ty x (tree.Equals at' p q) b is src h = tt
-  each_spells n s get at ty x (tree.Size at' y) b is src h = tt
-  each_spells n s get at ty x (tree.Get at' y e) b is src h = tt
-  each_spells n s get at ty x (tree.Contains at' y e) b is src h = tt
-  each_spells n s get at ty x (tree.Query at' el text es) b is src h = tt
-  each_spells n s get at ty x (tree.QueryLong at' text es) b is src h = tt
-  each_spells n s get at ty x (tree.QueryBoolean at' text es) b is src h = tt
-  each_spells n s get at ty x (tree.NewList at') b is src h = tt
-  each_spells n s get at ty x (tree.NewSet at') b is src h = tt
-  each_spells n s get at ty x (tree.NewSetOf at' e) b is src h = tt
-
-  statement_spells : (n : ℕ) (site : Site) → slice_get (sites_of f.loop) n ≡ Some site → (s : Statement) → site.statement ≡ s → Spells at_fragment s
-  statement_spells n site get (tree.ForEach at ty x e b) is =
-      let src = loop_has_source at_fragment lists n site get (ap is_loop is) in
-      each_spells n site get at ty x e b is src.0 (ap (source_in f.run) (sym is) ∙ src.1)
-  statement_spells n site get (tree.Declare at ty x e) is = tt
-  statement_spells n site get (tree.Assign at x e) is = tt
-  statement_spells n site get (tree.Add at x e) is = tt
-  statement_spells n site get (tree.Sort at x keys downs) is = tt
-  statement_spells n site get (tree.If at e p) is = tt
-  statement_spells n site get (tree.IfElse at e p q) is = tt
-  statement_spells n site get (tree.While at e p) is = tt
-  statement_spells n site get (tree.Print at e) is = tt
-  statement_spells n site get (tree.Return at e) is = tt
-  statement_spells n site get (tree.Break at) is = tt
-
-  -- each for-each spells the table of its list
-  pub rows_spelled : RowsSpelled (setting_of schema read g f)
-  rows_spelled = record { by = λ n s get. statement_spells n s get s.statement refl }
-
-  -- where the loop is typed, the atoms of the lowered fragment stand for conditions
-  pub fragment_atoms_stand : Unbroken (setting_of schema read g f) → (c : Frame) → c.schema ≡ schema → (l : Option Types) (h : Types) → TypedStatement c l g f.loop h → AllByRecursion (StandsForCondition (numbering (setting_of schema read g f))) (numbers_of (setting_of schema read g f)).atoms
-  fragment_atoms_stand u c same l h t = atoms_stand at_fragment c same u.conditions (λ n s get. site_typed at_fragment c same u rows_spelled l h refl t n s get)
+-- where the loop is typed, the atoms of the lowered fragment stand for conditions
+pub fragment_atoms_stand : (schema : Schema) (read : List ℕ → Option PlainQuery) (f : Fragment) (g : Types) → IsSeenFragment schema read f g → Unbroken (setting_of schema read g f) → (c : Frame) → c.schema ≡ schema → (l : Option Types) (h : Types) → TypedStatement c l g f.loop h → AllByRecursion (StandsForCondition (numbering (setting_of schema read g f))) (numbers_of (setting_of schema read g f)).atoms
+fragment_atoms_stand schema read f g k u c same l h t =
+    let w : Setting = setting_of schema read g f in
+    atoms_stand w c same u.conditions (λ n s get. site_typed w c same u (rows_spelled schema read f g k u) l h refl t n s get)

@@ -5,7 +5,6 @@ use Rattle.java_loops.specs.ChainLaws.{IsTurned}
 use Rattle.fragments.specs.Fragment.{needed_of}
 use Rattle.fragments.specs.Kernel.{lowering}
 use Rattle.fragments.specs.KernelStarts.{Numbered, update_of}
-use Rattle.fragments.specs.Lowered.{Lowering}
 use Rattle.fragments.specs.Names.{is_among}
 use Rattle.fragments.specs.Numbering.{numbers_of}
 use Rattle.fragments.specs.Setting.{Setting}

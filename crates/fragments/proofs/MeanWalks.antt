@@ -1,5 +1,5 @@
 -- The loop of a fragment passes as a walk over its list does, also where it counts.
-use Rattle.std.proofs.Common.{◌≡◌, ℕ, pos, ◌≤◌, Bool, true, false, not, ◌||◌, List, [], ◌∷◌, Option, Some, None, Result, Ok, refl, sym, ap, ◌∙◌, subst, cond, bytes_eq}
+use Rattle.std.proofs.Common.{◌≡◌, ℕ, ◌≤◌, Bool, true, false, not, ◌||◌, List, [], ◌∷◌, Option, Some, None, Result, Ok, refl, sym, ap, ◌∙◌, subst, cond, bytes_eq}
 use Rattle.std.specs.Prelude.{slice_get}
 use Rattle.std.specs.List.{filter}
 use Rattle.std.proofs.lemmas.Bool.{or_right, or_parts, and_parts}
@@ -16,16 +16,16 @@ use Rattle.java_mean.specs.declared.types.JavaType.TheVariants.{Of}
 use Rattle.java_mean.specs.declared.types.Single.TheVariants.{ScalarOf}
 use Rattle.java_mean.specs.Endings.{◌>>=◌}
 use Rattle.java_mean.specs.Expression.{value_of, as_rows}
-use Rattle.java_mean.specs.Refines.{Passes, PassesBack, Follows, followed_by}
+use Rattle.java_mean.specs.Refines.{Follows, followed_by}
 use Rattle.java_mean.specs.Statement.{State, Passed, GoesOn, Leaves, Returns, each, meaning, meanings}
 use Rattle.java_mean.specs.Types.{Types}
 use Rattle.java_mean.specs.Typing.{Frame, TypedStatement, TypedStatements}
 use Rattle.java_mean.specs.World.{World}
 use Rattle.kernel_lang.specs.Given.{cut, list_at, listed}
-use Rattle.java_loops.specs.Counting.{SameState, same_ways, CountPlaces, counting_step, counting_body, counting_loop, IsCounting}
-use Rattle.java_loops.specs.Left.{Effect, Became, LeftWith, Left, GoneOn}
-use Rattle.java_loops.specs.Nests.{with_name, Apart, seen, Mark, AreNest}
-use Rattle.java_loops.specs.Reads.{Set, SameOn, other_than, all_touch}
+use Rattle.java_loops.specs.Counting.{SameState, same_ways, CountPlaces, counting_step, IsCounting}
+use Rattle.java_loops.specs.Left.{Effect, Became, Left, GoneOn}
+use Rattle.java_loops.specs.Nests.{with_name, AreNest}
+use Rattle.java_loops.specs.Reads.{Set, other_than, all_touch}
 use Rattle.java_loops.proofs.Apart.{all_within_same}
 use Rattle.java_loops.proofs.Becoming.{all_left_by, over_rows, each_goes_on}
 use Rattle.java_loops.proofs.Counted.{counting_follows}

@@ -1,5 +1,5 @@
 -- A lowered fragment whose accumulators are chains means its loop.
-use Rattle.std.proofs.Common.{◌≡◌, ℕ, Bool, true, false, ◌||◌, List, ◌∷◌, Option, Some, None, Result, Ok, refl, sym, ap, ◌∙◌, subst}
+use Rattle.std.proofs.Common.{◌≡◌, ℕ, true, false, ◌||◌, List, ◌∷◌, Option, Some, None, Ok, refl, sym, ap, ◌∙◌, subst}
 use Rattle.qbs_base.specs.Named.{at_name}
 use Rattle.qbs_base.specs.Values.{Schema}
 use Rattle.sql_ast.specs.Tree.{PlainQuery}
@@ -7,8 +7,8 @@ use Rattle.java_ast.specs.Tree.{PlainProgram}
 use Rattle.java_mean.specs.declared.types.JavaType.{JavaType}
 use Rattle.java_mean.specs.Asks.{frame_of}
 use Rattle.java_mean.specs.Numbers.{NumbersFit}
-use Rattle.java_mean.specs.Statement.{State, Passed, GoesOn, meaning, meanings}
-use Rattle.java_mean.specs.Types.{Types, IsTyped}
+use Rattle.java_mean.specs.Statement.{State, Passed, meaning}
+use Rattle.java_mean.specs.Types.{Types}
 use Rattle.java_mean.specs.Typing.{Frame, IsWorld}
 use Rattle.java_mean.specs.WellTyped.{IsWellTyped}
 use Rattle.java_mean.specs.World.{World}
@@ -17,13 +17,12 @@ use Rattle.kernel_lang.specs.Given.{world_given}
 use Rattle.kernel_lang.specs.Plain as kernel
 use Rattle.java_loops.specs.ChainStarts.{IsMade}
 use Rattle.java_loops.specs.Left.{GoneOn}
-use Rattle.java_loops.specs.Numbering.{Numbering}
 use Rattle.java_loops.proofs.Becoming.{over_rows}
 use Rattle.java_loops.proofs.ChainParts.{parts_fit}
 use Rattle.fragments.specs.Fragment.{Fragment, accumulators, counter, is_name, fragment_at}
 use Rattle.fragments.specs.Kernel.{broken, lowering, setting_there, setting_at}
 use Rattle.fragments.specs.Kernel as paths
-use Rattle.fragments.specs.Lowered.{Lowering, needed_in_order}
+use Rattle.fragments.specs.Lowered.{needed_in_order}
 use Rattle.fragments.specs.Means.{GoesOnAsItsFragment, MeansItsLoop, MeansItsLoopThere}
 use Rattle.fragments.specs.Names.{is_among}
 use Rattle.fragments.specs.Setting.{Setting, setting_of}
@@ -37,7 +36,7 @@ use Rattle.fragments.proofs.MeanTables.{tables_known, keys_known}
 use Rattle.fragments.proofs.MeanTests.{fragment_atoms_stand}
 use Rattle.fragments.proofs.MeanWalks.{rows_at, loop_goes_on}
 use Rattle.fragments.proofs.Nest.{set_by_loop, left_by_loop, BodyIsNest, SeesFragment, accumulator_seen, left_from, body_is_nest}
-use Rattle.fragments.proofs.NestCounter.{Kind, loop_kind}
+use Rattle.fragments.proofs.NestCounter.{loop_kind}
 use Rattle.fragments.proofs.NestRules.{Unbroken}
 use Rattle.fragments.proofs.NestThere.{loop_breaks}
 use Rattle.fragments.proofs.Numberings.{numbering}
@@ -79,7 +78,7 @@ module _ (schema : Schema) (read : List ℕ → Option PlainQuery) (p : PlainPro
     made : IsMade lowered (numbering w) begin.entry
     made =
         record {
-          tests = fragment_atoms_stand schema read f g seen unbroken.lists unbroken c refl there.typed.loop there.typed.after there.typed.body;
+          tests = fragment_atoms_stand schema read f g seen unbroken c refl there.typed.loop there.typed.after there.typed.body;
           updates = accumulators_stand w nest.row t nest.is_row chains holds.store visible holds.starts (flags_stand w unbroken);
           keys = keys_known schema read f g seen unbroken;
           tables = tables_known schema read f g seen unbroken;

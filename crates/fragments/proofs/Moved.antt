@@ -1,10 +1,10 @@
 -- All statements of the run of the worked example are kept.
 use Rattle.std.specs.Prelude.{[]}
-use Rattle.std.proofs.Common.{◌≡◌, refl}
+use Rattle.std.proofs.Common.{refl}
 use Rattle.qbs_base.specs.declared.span.Span.{Span}
-use Rattle.java_ast.specs.Tree.{Long, Var, Print, Declare, Assign, Statement, Nothing, Then}
+use Rattle.java_ast.specs.Tree.{Long, Var, Declare, Statement}
 use Rattle.fragments.specs.Fragment.{StandsIn, first, after, IsWanted, live, mentioned, IsKept}
-use Rattle.fragments.specs.Worked.{u, v, w, z, moved, moved_run}
+use Rattle.fragments.specs.Worked.{u, v, w, moved, moved_run}
 
 v_wanted : (at : Span) → IsWanted (moved at) [] v
 v_wanted at = live v refl

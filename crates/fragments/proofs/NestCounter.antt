@@ -1,10 +1,8 @@
 -- The counter of a loop that counts, and variables that the loop doesn't set.
-use Rattle.std.proofs.Common.{◌≡◌, ℕ, pos, negsuc, Bool, true, false, not, ◌&&◌, List, [], Option, Some, None, refl, sym, ap, ◌∙◌, subst, ap₂, cond, bytes_eq, ⊎_elim}
+use Rattle.std.proofs.Common.{◌≡◌, ℕ, Bool, true, false, not, ◌&&◌, List, [], Option, Some, None, refl, sym, ap, ◌∙◌, subst, bytes_eq, ⊎_elim}
 use Rattle.std.specs.List.{filter}
 use Rattle.std.proofs.lemmas.Bool.{or_cases, or_left, and_parts, false_from_ne_true}
 use Rattle.qbs_base.specs.declared.span.Span.{Span}
-use Rattle.qbs_base.specs.declared.scalar.Scalar.{Scalar}
-use Rattle.qbs_base.specs.declared.scalar.Scalar.TheVariants as scalars
 use Rattle.java_ast.specs.Tree as tree
 use Rattle.java_ast.specs.Tree.{Spelled, Expression, Statement, Statements, Nothing, Then}
 use Rattle.java_mean.proofs.Puts.{names_equal, name_same}

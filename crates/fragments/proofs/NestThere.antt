@@ -15,7 +15,7 @@ use Rattle.fragments.specs.Sites.{kernel_body}
 use Rattle.fragments.proofs.Nest.{BodyIsNest, body_is_nest}
 use Rattle.fragments.proofs.NestBlocks.{all_breaks_last}
 use Rattle.fragments.proofs.NestBreaks.{places_break, body_breaks}
-use Rattle.fragments.proofs.Place.{IsPlacedIn, placed_at}
+use Rattle.fragments.proofs.Place.{IsPlacedIn}
 use Rattle.fragments.proofs.PlaceLoop.{kernel_unbroken}
 use Rattle.fragments.proofs.PlaceTyped.{FragmentThere, fragment_there}
 

@@ -1,5 +1,5 @@
 -- The statements of a run, one by one, where some accumulators aren't started yet.
-use Rattle.std.specs.Prelude.{ℕ, Bool, not, ◌&&◌, List, Option}
+use Rattle.std.specs.Prelude.{Bool, not, ◌&&◌, List, Option}
 use Rattle.std.specs.List.{filter, list_any}
 use Rattle.std.proofs.Common.{◌≡◌, sym, ap, ◌∙◌}
 use Rattle.qbs_base.specs.declared.span.Span.{Span}

@@ -1,6 +1,6 @@
 -- The statements of a run that mention a variable.
 use Rattle.std.specs.Prelude.{ℕ, Bool, true, false, List, if◌then◌else◌, Some}
-use Rattle.std.proofs.Common.{◌≡◌, refl, sym, ap, ◌∙◌}
+use Rattle.std.proofs.Common.{◌≡◌, ap}
 use Rattle.java_ast.specs.Tree.{Statement, Statements, Then}
 use Rattle.fragments.specs.Setting.{touches, first_touching, behind_touching, touched_again, is_found}
 

@@ -1,6 +1,6 @@
 -- The loops that are found while a program is walked.
 use Rattle.std.specs.Prelude.{ℕ, suc, List, [], ◌∷◌, ◌++◌, Vec, Option, Some, None}
-use Rattle.std.proofs.Common.{◌≡◌, refl, sym, ap, ◌∙◌, ◌+◌, ◌<◌, length, drop, map, get_or, drop-cons, add-one, append_assoc}
+use Rattle.std.proofs.Common.{◌≡◌, sym, ap, ◌∙◌, ◌+◌, ◌<◌, length, drop, map, get_or, drop-cons, add-one, append_assoc}
 use Rattle.std.specs.declared.alloc.Global.{Global}
 use Rattle.java_ast.specs.declared.tree.JTy.{JTy}
 use Rattle.java_ast.specs.declared.tree.Expr.{Expr}
@@ -8,7 +8,7 @@ use Rattle.java_ast.specs.declared.tree.Stmt.{Stmt, out-Stmt}
 use Rattle.java_ast.specs.declared.tree.StmtNode.{If, ForEach, While}
 use Rattle.java_ast.specs.declared.tree.Method.{Method}
 use Rattle.java_ast.specs.Reading.{statement, statements, method}
-use Rattle.java_ast.specs.Tree.{Statement, Statements, PlainMethod}
+use Rattle.java_ast.specs.Tree.{Statement}
 use Rattle.fragments.proofs.Nodes.{if_is, if_else_is, for_each_is, while_is}
 use Rattle.fragments.specs.Loops.{loops_in, loops_among, loops_of_methods}
 

@@ -1,6 +1,5 @@
 -- Statements that ask for what a lowered fragment ends with.
-use Rattle.std.specs.Prelude.{◌≡◌, ℕ, Bool, true, false, ◌||◌, List, [], ◌∷◌, Result, Ok}
-use Rattle.std.specs.declared.option.Option.{Option}
+use Rattle.std.specs.Prelude.{◌≡◌, ℕ, true, false, ◌||◌, List, [], ◌∷◌, Ok}
 use Rattle.std.specs.declared.option.Option.TheVariants.{Some}
 use Rattle.qbs_base.specs.declared.scalar.Value.{Value}
 use Rattle.java_mean.specs.declared.types.JavaType.{JavaType}
@@ -17,7 +16,7 @@ use Rattle.kernel_lang.specs.declared.parts.Entry.{Entry}
 use Rattle.kernel_lang.specs.Running.{fragment_end}
 use Rattle.fragments.specs.Fragment.{accumulators, counter, is_name}
 use Rattle.fragments.specs.Kernel.{lowering}
-use Rattle.fragments.specs.Lowered.{Lowering, needed_in_order}
+use Rattle.fragments.specs.Lowered.{needed_in_order}
 use Rattle.fragments.specs.Means.{AreMatched, HasScalar, HasScalars}
 use Rattle.fragments.specs.Names.{Names, is_among}
 use Rattle.fragments.specs.Numbering.{numbers_of}

@@ -1,6 +1,6 @@
 -- K7: what conditions are built of.
-use Rattle.std.specs.Prelude.{ℕ, suc, Bool, true, false, not, ◌&&◌, ◌||◌, List, [], ◌∷◌, ◌++◌, length, nat_eq, nat_lt, slice_get, if◌then◌else◌}
-use Rattle.std.specs.List.{filter, list_any, list_all}
+use Rattle.std.specs.Prelude.{ℕ, suc, Bool, true, false, not, ◌&&◌, ◌||◌, List, [], ◌∷◌, ◌++◌, nat_eq, nat_lt, slice_get, if◌then◌else◌}
+use Rattle.std.specs.List.{list_any}
 use Rattle.std.specs.Str.{bytes_eq}
 use Rattle.std.specs.declared.option.Option.{Option}
 use Rattle.std.specs.declared.option.Option.TheVariants.{Some, None}
@@ -15,7 +15,7 @@ use Rattle.java_mean.specs.declared.types.Single.TheVariants.{ScalarOf, RowOf}
 use Rattle.java_mean.specs.Rules.{at_of}
 use Rattle.sql_ast.specs.declared.tree.SqlItem.{SqlItem}
 use Rattle.sql_ast.specs.declared.tree.SqlItem.TheVariants as items
-use Rattle.sql_ast.specs.Tree.{PlainListing, PlainQuery, Listing}
+use Rattle.sql_ast.specs.Tree.{PlainQuery, Listing}
 use Rattle.tor_terms.specs.Same.{same_numbers}
 use Rattle.fragments.specs.Counting.{is_and}
 use Rattle.fragments.specs.Fragment.{set_by}
@@ -23,7 +23,7 @@ use Rattle.fragments.specs.KernelForms.{Form, takes, form_of, is_or}
 use Rattle.fragments.specs.KernelStatements.{updates_local, target_bound}
 use Rattle.fragments.specs.Names.{Names, is_among, names_in, names_among, updated_in}
 use Rattle.fragments.specs.Setting.{Setting, is_found}
-use Rattle.fragments.specs.Sites.{Test, Round, Site, Binding, Row, Local, Outer, binding_at, RowColumn, row_at, row_column_at, place_where, first_place, first_broken, any_site, depth, is_under, inner_tests, target_of, is_update}
+use Rattle.fragments.specs.Sites.{Test, Site, Binding, Local, Outer, binding_at, row_column_at, place_where, first_place, first_broken, any_site, is_under, inner_tests, target_of, is_update}
 
 -- ---- Leaves
 

@@ -1,7 +1,6 @@
 -- K9: what accumulators and flags start with.
-use Rattle.std.specs.Prelude.{ℕ, suc, Bool, true, false, not, ◌&&◌, ◌||◌, List, [], ◌∷◌, if◌then◌else◌}
+use Rattle.std.specs.Prelude.{ℕ, suc, Bool, true, false, not, ◌&&◌, List, [], ◌∷◌, if◌then◌else◌}
 use Rattle.std.specs.List.{filter, list_any}
-use Rattle.std.specs.Str.{bytes_eq}
 use Rattle.std.specs.declared.option.Option.{Option}
 use Rattle.std.specs.declared.option.Option.TheVariants.{Some, None}
 use Rattle.qbs_base.specs.Scalar.{scalar_same}
@@ -10,7 +9,7 @@ use Rattle.qbs_base.specs.declared.scalar.Scalar.TheVariants as scalars
 use Rattle.qbs_base.specs.declared.span.Span.{Span}
 use Rattle.java_ast.specs.Tree.{Expression, Statement, Statements, Nothing, Then}
 use Rattle.java_ast.specs.Tree as plain
-use Rattle.fragments.specs.Fragment.{Fragment, is_name, accumulators}
+use Rattle.fragments.specs.Fragment.{is_name, accumulators}
 use Rattle.fragments.specs.KernelForms.{Form, adds, counts, sums, takes, marks, other, form_of}
 use Rattle.fragments.specs.KernelStatements.{is_none, updates_local}
 use Rattle.fragments.specs.Names.{Names}

@@ -1,5 +1,5 @@
 -- The lowered fragment of a loop of the kernel form.
-use Rattle.std.specs.Prelude.{ℕ, suc, Bool, true, false, not, ◌&&◌, List, [], ◌∷◌, ◌++◌, length, map, nat_eq, slice_get, if◌then◌else◌}
+use Rattle.std.specs.Prelude.{ℕ, suc, Bool, true, false, not, List, [], ◌∷◌, ◌++◌, length, map, nat_eq, slice_get, if◌then◌else◌}
 use Rattle.std.specs.List.{filter, flat_map}
 use Rattle.std.specs.declared.option.Option.{Option}
 use Rattle.std.specs.declared.option.Option.TheVariants.{Some, None}
@@ -36,7 +36,6 @@ use Rattle.fragments.specs.KernelForms as forms
 use Rattle.fragments.specs.KernelLists.{Source, source_in}
 use Rattle.fragments.specs.KernelLoop.{counting_in, limit_of}
 use Rattle.fragments.specs.KernelStarts.{Numbered, update_of, update_of_flag, form_found}
-use Rattle.fragments.specs.KernelStatements.{is_declaration}
 use Rattle.fragments.specs.Loops.{is_loop}
 use Rattle.fragments.specs.Names.{Names, is_among, names_in}
 use Rattle.fragments.specs.Numbering.{Numbers, loop_number, table_of_loop, found_number, column_of, arguments_asked, entry_number, both_of, form_of_condition}

@@ -1,5 +1,5 @@
 -- What it is for the lowered fragment of a loop to mean the loop.
-use Rattle.std.specs.Prelude.{◌≡◌, ℕ, ◌≤◌, false, List, [], ◌∷◌, map, Result, Ok, slice_get}
+use Rattle.std.specs.Prelude.{◌≡◌, ℕ, ◌≤◌, false, List, [], ◌∷◌, map, Ok, slice_get}
 use Rattle.std.specs.declared.option.Option.{Option}
 use Rattle.std.specs.declared.option.Option.TheVariants.{Some}
 use Rattle.qbs_base.specs.declared.scalar.Scalar.{Scalar}
@@ -24,8 +24,8 @@ use Rattle.kernel_lang.specs.Fitting.{PartsFit}
 use Rattle.kernel_lang.specs.Running.{fragment_end}
 use Rattle.fragments.specs.Fragment.{accumulators, counter, is_name}
 use Rattle.fragments.specs.Kernel.{lowering}
-use Rattle.fragments.specs.Lowered.{Lowering, needed_in_order}
-use Rattle.fragments.specs.Names.{Names, is_among}
+use Rattle.fragments.specs.Lowered.{needed_in_order}
+use Rattle.fragments.specs.Names.{is_among}
 use Rattle.fragments.specs.Numbering.{numbers_of}
 use Rattle.fragments.specs.Setting.{Setting}
 

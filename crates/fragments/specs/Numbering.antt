@@ -6,8 +6,6 @@ use Rattle.std.specs.declared.option.Option.{Option}
 use Rattle.std.specs.declared.option.Option.TheVariants.{Some, None}
 use Rattle.qbs_base.specs.Scalar.{scalar_before}
 use Rattle.qbs_base.specs.Values.{Schema}
-use Rattle.qbs_base.specs.declared.scalar.Scalar.{Scalar}
-use Rattle.qbs_base.specs.declared.scalar.Scalar.TheVariants as scalars
 use Rattle.java_ast.specs.declared.tree.Op.{Op}
 use Rattle.java_ast.specs.declared.tree.Op.TheVariants as ops
 use Rattle.java_ast.specs.Tree.{Spelled, Expression, Expressions, NoMore, And, Statement, Statements, Nothing, Then}
@@ -22,14 +20,14 @@ use Rattle.tor_terms.specs.Truth.{same_operand}
 use Rattle.tor_terms.specs.Plain.{Form, Is, Both, Either}
 use Rattle.fragments.specs.Counting.{is_and}
 use Rattle.fragments.specs.Fragment.{needed_of}
-use Rattle.fragments.specs.KernelConditions.{Asked, asked_for, leaves, is_excepted, is_literal, is_row_column, is_compared, condition_of}
+use Rattle.fragments.specs.KernelConditions.{Asked, asked_for, leaves, is_excepted, is_literal, is_row_column, condition_of}
 use Rattle.fragments.specs.KernelForms.{is_or, is_joined}
 use Rattle.fragments.specs.KernelLists.{count_loops}
 use Rattle.fragments.specs.KernelStarts.{is_truth_of}
 use Rattle.fragments.specs.KernelStatements.{is_declaration}
 use Rattle.fragments.specs.Names.{Names, with_name}
 use Rattle.fragments.specs.Setting.{Setting}
-use Rattle.fragments.specs.Sites.{Site, Binding, Row, Local, Outer, binding_at, RowColumn, row_column_at}
+use Rattle.fragments.specs.Sites.{Site, Binding, Local, binding_at, RowColumn, row_column_at}
 
 -- ---- Lists without repetition
 

@@ -1,5 +1,5 @@
 -- What the code holds as plain records.
-use Rattle.std.specs.Prelude.{List, Option, map}
+use Rattle.std.specs.Prelude.{List, map}
 use Rattle.std.specs.Borrow.{Bor}
 use Rattle.java_ast.specs.declared.tree.Expr.{Expr}
 use Rattle.java_ast.specs.Tree.{Expression}
@@ -13,9 +13,8 @@ use Rattle.fragments.specs.declared.lists.Source as sources
 use Rattle.fragments.specs.declared.counting.Counting as countings
 use Rattle.fragments.specs.declared.counting.Cap as caps
 use Rattle.fragments.specs.declared.setting.Setting as settings
-use Rattle.java_mean.specs.Visible.{Visible, type_at}
+use Rattle.java_mean.specs.Visible.{type_at}
 use Rattle.java_types.specs.Texts.{read_by}
-use Rattle.fragments.specs.Names.{Names}
 use Rattle.fragments.specs.Fragment.{Fragment}
 use Rattle.fragments.specs.Counting.{Counting, Cap}
 pub use Rattle.fragments.specs.Seen.{names_seen, names_lent}

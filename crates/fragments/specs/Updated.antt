@@ -1,5 +1,4 @@
 -- What is updated and declared outside of a loop.
-use Rattle.std.specs.Prelude.{ℕ, List}
 use Rattle.std.specs.List.{filter}
 use Rattle.fragments.specs.Fragment.{Fragment, is_outer, declared_in_run, counter}
 use Rattle.fragments.specs.Names.{Names, with_names}

@@ -2,12 +2,11 @@
 use Rattle.std.specs.Prelude.{ℕ, pos, true, false, List, [], ◌∷◌, codes}
 use Rattle.std.specs.Option.{option_map}
 use Rattle.std.specs.declared.option.Option.{Option}
-use Rattle.std.specs.declared.option.Option.TheVariants.{Some, None}
+use Rattle.std.specs.declared.option.Option.TheVariants.{None}
 use Rattle.qbs_base.specs.declared.span.Span.{Span}
 use Rattle.qbs_base.specs.declared.scalar.Scalar.TheVariants as scalars
-use Rattle.java_ast.specs.declared.tree.Op.{Op}
 use Rattle.java_ast.specs.declared.tree.Op.TheVariants as ops
-use Rattle.java_ast.specs.Tree.{Spelled, Long, Boolean, Table, Expression, Lit, Var, Field, Binary, Fetch, Statement, Declare, Assign, If, ForEach, While, Print, Break, PlainMethod}
+use Rattle.java_ast.specs.Tree.{Long, Boolean, Table, Expression, Lit, Var, Field, Binary, Fetch, Statement, Declare, Assign, If, ForEach, While, Print, Break, PlainMethod}
 use Rattle.java_mean.specs.Worked.{staff_schema, block, give, method}
 use Rattle.kernel_lang.specs.Plain.{Fragment}
 use Rattle.fragments.specs.Kernel.{Broken, outside_at, lowered_at}

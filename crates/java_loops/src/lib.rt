@@ -5,7 +5,6 @@ pub mod alone;
 pub mod chains;
 pub mod counting;
 pub mod examples;
-pub mod laws;
 pub mod needed;
 pub mod places;
 pub mod quiet;

@@ -1,4 +1,4 @@
-use Rattle.std.proofs.Common.{◌≡◌, ◌∙◌, sym}
+use Rattle.std.proofs.Common.{◌∙◌, sym}
 use Rattle.fragments.specs.KernelLists.{broken_list}
 use Rattle.fragments.specs.Reading.{setting_in_code}
 use Rattle.fragments.proofs.Rounds.{passed_site}

@@ -1,6 +1,6 @@
 use Rattle.std.specs.Prelude.{None}
 use Rattle.std.specs.Option.{option_map}
-use Rattle.std.proofs.Common.{◌≡◌, ◌∙◌, sym, ap, List, map, length}
+use Rattle.std.proofs.Common.{◌∙◌, sym, ap, List, map}
 use Rattle.std.proofs.lemmas.List.{length-map}
 use Rattle.std.proofs.lemmas.Result.{on_ok_weaker}
 use Rattle.java_ast.specs.declared.tree.Stmt.{Stmt}

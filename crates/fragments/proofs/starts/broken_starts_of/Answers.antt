@@ -1,6 +1,6 @@
 use Rattle.std.specs.Prelude.{Some}
 use Rattle.std.specs.Borrow.{Bor}
-use Rattle.std.proofs.Common.{◌≡◌, ◌∙◌, ◌+◌, ℕ, sym, ap, true, false, List, drop, map}
+use Rattle.std.proofs.Common.{◌∙◌, ◌+◌, ℕ, sym, ap, true, false, List, drop, map}
 use Rattle.java_ast.specs.declared.tree.Stmt.{Stmt}
 use Rattle.java_ast.specs.Reading.{statement, statements}
 use Rattle.fragments.specs.KernelStarts.{broken_starts_of}
