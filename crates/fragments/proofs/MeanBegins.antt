@@ -12,9 +12,10 @@ use Rattle.kernel_lang.specs.declared.parts.Entry.{Entry}
 use Rattle.java_loops.specs.ChainStarts.{Begins}
 use Rattle.fragments.specs.Fragment.{Fragment}
 use Rattle.fragments.specs.Kernel.{lowering}
-use Rattle.fragments.specs.Means.{AreMatched, HasScalar, HasScalars}
+use Rattle.fragments.specs.Means.{AreMatched, HasScalar, HasScalars, IsAnswered}
 use Rattle.fragments.specs.Numbering.{numbers_of, known_of}
 use Rattle.fragments.specs.Setting.{Setting, setting_of}
+use Rattle.fragments.proofs.AnswersKnown.{known_answered}
 use Rattle.fragments.proofs.ListedRows.{IsSeenFragment}
 use Rattle.fragments.proofs.MeanGiven.{entries_matched, entry_held, HaveKnown, known_given, known_at, entry_given}
 use Rattle.fragments.proofs.MeanLists.{list_table, variable_holds, table_whole}
@@ -27,6 +28,7 @@ pub record BeginsThere (w : Setting) (world : World) (t : State) : Type 0 where
   pub entries : AreMatched (HasScalar world t.store) (lowering w).entries entry.values
   pub typed : AreOf (lowering w).fragment.entries entry.values
   pub known : AreMatched (HasScalars t.store) (numbers_of w).known entry.known
+  pub answered : AreMatched (IsAnswered world t.store w.fragment.run) (numbers_of w).known entry.known
   pub begins : Begins (numbering w) (lowering w).fragment world t.store entry
   pub count : length entry.known ≡ (lowering w).fragment.known
 
@@ -40,6 +42,7 @@ begins_there schema read f g k m world is_world t h =
       entries = entries_matched w world t h.given;
       typed = h.given.entries.typed;
       known = lists.matched;
+      answered = known_answered w world t h.given.entries.values (known_of w) lists.lists h.given.known lists.matched;
       begins = record {
         schema = is_world.schema;
         database = is_world.tables;

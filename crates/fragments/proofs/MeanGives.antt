@@ -104,7 +104,7 @@ module _ (c : Frame) (l : Option Types) (before end : Types) (w : Setting) (type
       record {
         state = e.state;
         is = e.is;
-        answered = all_answered world is_world t e.state loop_typed (runs ∙ ap (λ z. Ok z) e.is) (needed_in_order w) ks ends.values (stands.answers world is_world s t from passes ends.entry ends.entries ends.known ends.values ends.ends) ends.left stands.fits stands.types visible;
+        answered = all_answered world is_world t e.state loop_typed (runs ∙ ap (λ z. Ok z) e.is) (needed_in_order w) ks ends.values (stands.answers world is_world s t from passes ends.entry ends.entries ends.typed ends.known ends.answered ends.fits ends.values ends.ends) ends.left stands.fits stands.types visible;
         same = λ x k seen none. (let keeps : r x ≡ true = kept_step (r x) (is_asked ks x) (known_behind x k seen) none in ends.others x k (extends_new x k seen) (stands.no_accumulator x keeps) (stands.no_counter x keeps));
         lines = ends.lines;
         turns = ends.turns;

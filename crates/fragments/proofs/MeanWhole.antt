@@ -109,6 +109,7 @@ module _ (schema : Schema) (read : List ℕ → Option PlainQuery) (p : PlainPro
               entries = begin.entries;
               typed = begin.typed;
               known = begin.known;
+              answered = begin.answered;
               fits = fitting;
               values = ending.values;
               ends = ending.is;

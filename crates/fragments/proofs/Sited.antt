@@ -1,8 +1,5 @@
 -- The sites that are met while a loop is walked.
-use Rattle.std.specs.Prelude.{ℕ, true, false, List, length, map, take, Option, None}
-use Rattle.std.specs.List.{take-map}
-use Rattle.fragments.specs.declared.sites.Site as code
-use Rattle.fragments.specs.Reading.{site_of}
+use Rattle.std.specs.Prelude.{ℕ, true, false, List, length, Option, None}
 use Rattle.std.proofs.Common.{◌≡◌, sym, ap, ◌∙◌}
 use Rattle.qbs_base.specs.declared.span.Span.{Span}
 use Rattle.java_ast.specs.Tree.{Spelled, Expression, Statement, Statements}
@@ -39,7 +36,3 @@ if_else_met r p t at c a b n holding failing old mid between new is number holds
     ∙ ap (λ (i : Round). walk_all i None a mid) (holds ∙ ap (λ (k : ℕ). in_branch r k c true) number)
     ∙ ap (walk_all (in_branch r (length old) c true) None a) (met ∙ ap (with_site old r p) is))
     ∙ ap (λ (u : Statement). walk r p u old) (sym is)
-
--- the first sites are those of the first ones
-pub first_of : (n : ℕ) (ss : List code.Site) → map site_of (take n ss) ≡ take n (map site_of ss)
-first_of n ss = sym (take-map site_of n ss)

@@ -49,7 +49,7 @@ use Rattle.fragments.proofs.ValidVisits.{all_weaker, TakesRow, Nested, Visited}
 pub record RowsWalked (w : Setting) (c : Frame) : Type 0 where
   pub rows : (n : ℕ) (s : Site) (now : Types) (at : Span) (ty : Spelled) (x : List ℕ) (e : Expression) (p : Statements) (k : JavaType) → slice_get w.sites n ≡ Some s → s.statement ≡ tree.ForEach at ty x e p → ((y : List ℕ) (j : JavaType) → w.types y ≡ Some j → now y ≡ Some j) → TakesRow c now e k → OfTable w n k
 
-table_nested : (w : Setting) (c : Frame) → Checked w c → RowsWalked w c → Nested (OfTable w) c w.types w.sites
+pub table_nested : (w : Setting) (c : Frame) → Checked w c → RowsWalked w c → Nested (OfTable w) c w.types w.sites
 table_nested w c is walked = record { shallow = λ n s get loops. shallow_at w (rules w is.none).depth n s get loops; rows = walked.rows }
 
 spelled_table : (schema : Schema) (o : Option ℕ) (k : JavaType) → made_of Of (row_type o) ≡ Some k → k ≡ Of (RowOf (found_number o))
@@ -68,7 +68,7 @@ spelled_row schema tree.BoxedInteger k h t = absurd cc
 spelled_row schema tree.BoxedLong k h t = absurd cc
 spelled_row schema tree.BoxedBoolean k h t = absurd cc
 
-table_first : (w : Setting) (c : Frame) → Checked w c → FirstRow (OfTable w) c w.fragment.loop
+pub table_first : (w : Setting) (c : Frame) → Checked w c → FirstRow (OfTable w) c w.fragment.loop
 table_first w c is = λ at q at' ty x e ss k loop table spelled.
     (let one : slice_get w.sites 0 ≡ Some (site_of outside None w.fragment.loop) = ap (λ z. slice_get z 0) is.sites ∙ loop_first w.fragment.loop in
     let two : table_of_site w.schema (slice_get w.sites 0) ≡ table_spelled w.schema ty = ap (table_of_site w.schema) one ∙ ap (λ s. table_of_site w.schema (Some (site_of outside None s))) loop in
@@ -251,7 +251,7 @@ operand_typed w c is n v e ty t h a = operand_step w c is n v e ty (row_column_a
 
 -- ---- Atoms
 
-type_self : (ty : Ty) → same_type (Some ty) (Some ty) ≡ true
+pub type_self : (ty : Ty) → same_type (Some ty) (Some ty) ≡ true
 type_self tys.Long = refl
 type_self tys.Bool = refl
 type_self tys.Text = refl

@@ -2,6 +2,7 @@
 use Rattle.std.specs.Prelude.{◌≡◌, ℕ, true, false, ◌||◌, List, [], ◌∷◌, Ok}
 use Rattle.std.specs.declared.option.Option.TheVariants.{Some}
 use Rattle.qbs_base.specs.declared.scalar.Value.{Value}
+use Rattle.qbs_base.specs.Values.{AreOf}
 use Rattle.java_mean.specs.declared.types.JavaType.{JavaType}
 use Rattle.java_mean.specs.Expression.{value_of}
 use Rattle.java_mean.specs.Statement.{State, GoesOn, meanings}
@@ -13,11 +14,12 @@ use Rattle.java_loops.specs.Reads.{Set}
 use Rattle.java_loops.specs.Replacing.{Ask, is_asked, AllFit, HaveSameTypes}
 use Rattle.java_loops.specs.Runs.{KeptRead}
 use Rattle.kernel_lang.specs.declared.parts.Entry.{Entry}
+use Rattle.kernel_lang.specs.Fitting.{PartsFit}
 use Rattle.kernel_lang.specs.Running.{fragment_end}
 use Rattle.fragments.specs.Fragment.{accumulators, counter, is_name}
 use Rattle.fragments.specs.Kernel.{lowering}
 use Rattle.fragments.specs.Lowered.{needed_in_order}
-use Rattle.fragments.specs.Means.{AreMatched, HasScalar, HasScalars}
+use Rattle.fragments.specs.Means.{AreMatched, HasScalar, HasScalars, IsAnswered, IsWholeAnswer}
 use Rattle.fragments.specs.Names.{Names, is_among}
 use Rattle.fragments.specs.Numbering.{numbers_of}
 use Rattle.fragments.specs.Setting.{Setting}
@@ -29,7 +31,8 @@ AreAnswers w s (x ∷ xs) (k ∷ ks) (v ∷ vs) = (k.name ≡ x) × (value_of k.
 AreAnswers w s _ _ _ = ⊥
 
 -- At a loop where the run has passed, the asks answer what the fragment ends with, if it ends, on the entry values and
--- known lists that are there.
+-- known lists that are there. The known lists have the members of what their queries answer there, the entry values have
+-- their types, and the fragment's parts fit.
 abbrev pub AnswersItsFragment : Frame → Types → Setting → List Ask → Type 0
 AnswersItsFragment c before w ks =
     (world : World) → IsWorld c world
@@ -37,7 +40,26 @@ AnswersItsFragment c before w ks =
     → meanings w.fragment.run world s ≡ Ok (GoesOn t)
     → (entry : Entry)
     → AreMatched (HasScalar world t.store) (lowering w).entries entry.values
+    → AreOf (lowering w).fragment.entries entry.values
     → AreMatched (HasScalars t.store) (numbers_of w).known entry.known
+    → AreMatched (IsAnswered world t.store w.fragment.run) (numbers_of w).known entry.known
+    → PartsFit (lowering w).fragment world.db entry
+    → (values : List Value) → fragment_end (lowering w).fragment world.db entry ≡ Some values
+    → AreAnswers world t.store (needed_in_order w) ks values
+
+-- At a loop where the run has passed, the asks answer what the fragment ends with, if it ends, on the entry values that are
+-- there and on the whole answers of the known lists' queries there. The entry values have their types, and the fragment's
+-- parts fit.
+abbrev pub AnswersWithAnswers : Frame → Types → Setting → List Ask → Type 0
+AnswersWithAnswers c before w ks =
+    (world : World) → IsWorld c world
+    → (s t : State) → IsTyped c.schema before s.store
+    → meanings w.fragment.run world s ≡ Ok (GoesOn t)
+    → (entry : Entry)
+    → AreMatched (HasScalar world t.store) (lowering w).entries entry.values
+    → AreOf (lowering w).fragment.entries entry.values
+    → AreMatched (IsWholeAnswer world t.store w.fragment.run) (numbers_of w).known entry.known
+    → PartsFit (lowering w).fragment world.db entry
     → (values : List Value) → fragment_end (lowering w).fragment world.db entry ≡ Some values
     → AreAnswers world t.store (needed_in_order w) ks values
 

@@ -1,5 +1,5 @@
 -- What it is for the lowered fragment of a loop to mean the loop.
-use Rattle.std.specs.Prelude.{◌≡◌, ℕ, ◌≤◌, false, List, [], ◌∷◌, map, Ok, slice_get}
+use Rattle.std.specs.Prelude.{◌≡◌, ℕ, ◌≤◌, false, List, ◌∷◌, map, Ok, slice_get}
 use Rattle.std.specs.declared.option.Option.{Option}
 use Rattle.std.specs.declared.option.Option.TheVariants.{Some}
 use Rattle.qbs_base.specs.declared.scalar.Scalar.{Scalar}
@@ -8,9 +8,10 @@ use Rattle.qbs_base.specs.declared.scalar.Value.TheVariants.{One, Many}
 use Rattle.qbs_base.specs.Named.{at_name}
 use Rattle.qbs_base.specs.Values.{Schema, AreOf}
 use Rattle.sql_ast.specs.Tree.{PlainQuery}
-use Rattle.java_ast.specs.Tree.{Expression, PlainMethod, PlainProgram}
+use Rattle.java_ast.specs.Tree.{Expression, Statements, PlainMethod, PlainProgram}
 use Rattle.java_mean.specs.Asks.{frame_of}
 use Rattle.java_mean.specs.Expression.{value_of, alone}
+use Rattle.java_mean.specs.Queries.{Rows}
 use Rattle.java_mean.specs.Refines.{Hole, fill}
 use Rattle.java_mean.specs.Statement.{State, Passed, GoesOn, meaning, meanings}
 use Rattle.java_mean.specs.Store.{Store, Variable}
@@ -24,16 +25,13 @@ use Rattle.kernel_lang.specs.Fitting.{PartsFit}
 use Rattle.kernel_lang.specs.Running.{fragment_end}
 use Rattle.fragments.specs.Fragment.{accumulators, counter, is_name}
 use Rattle.fragments.specs.Kernel.{lowering}
+use Rattle.fragments.specs.KernelConditions.{Asked, asked_for}
 use Rattle.fragments.specs.Lowered.{needed_in_order}
+pub use Rattle.fragments.specs.Members.{AreMatched}
+use Rattle.fragments.specs.Members.{HaveSameMembers}
 use Rattle.fragments.specs.Names.{is_among}
-use Rattle.fragments.specs.Numbering.{numbers_of}
+use Rattle.fragments.specs.Numbering.{numbers_of, arguments}
 use Rattle.fragments.specs.Setting.{Setting}
-
--- as many members of both lists, and each of the first is so to that of the second
-abbrev pub AreMatched : {A B : Type 0} → (A → B → Type 0) → List A → List B → Type 0
-AreMatched r [] [] = Unit {0}
-AreMatched r (x ∷ xs) (y ∷ ys) = r x y × AreMatched r xs ys
-AreMatched r _ _ = ⊥
 
 -- the expression has this scalar for its value
 abbrev pub HasScalar : World → Store → Expression → Scalar → Type 0
@@ -49,15 +47,35 @@ pub record HasValue (s : Store) (x : List ℕ) (v : Value) : Type 0 where
 abbrev pub HasScalars : Store → List ℕ → List Scalar → Type 0
 HasScalars s x xs = HasValue s x (Many (map alone xs))
 
+-- The query that the run gives to the variable answers scalars to the values of its arguments in this store, and the list
+-- has the same members.
+pub record IsAnswered (w : World) (s : Store) (run : Statements) (x : List ℕ) (xs : List Scalar) : Type 0 where
+  pub asked : Asked
+  pub found : asked_for run x ≡ Some asked
+  pub values : List Scalar
+  pub arguments : AreMatched (HasScalar w s) (arguments asked.arguments) values
+  pub answer : List Scalar
+  pub answered : w.ask asked.text values ≡ Some (Rows (map alone answer))
+  pub members : HaveSameMembers xs answer
+
+-- The list is the whole answer of the query that the run gives to the variable, to the values of its arguments in this store.
+pub record IsWholeAnswer (w : World) (s : Store) (run : Statements) (x : List ℕ) (xs : List Scalar) : Type 0 where
+  pub asked : Asked
+  pub found : asked_for run x ≡ Some asked
+  pub values : List Scalar
+  pub arguments : AreMatched (HasScalar w s) (arguments asked.arguments) values
+  pub answered : w.ask asked.text values ≡ Some (Rows (map alone xs))
+
 -- The loop goes from the first state to the second as its fragment says: on the lists of the database, with the entry
 -- values and known lists that are there at the loop, the fragment's parts fit and it ends without overflow, and each
--- needed accumulator has its value. All other visible variables but a counter are as they were, nothing is printed,
--- and no turns are made.
+-- needed accumulator has its value. The known lists have the members of what their queries answer at the loop. All other
+-- visible variables but a counter are as they were, nothing is printed, and no turns are made.
 pub record EndsAsItsFragment (w : Setting) (world : World) (s t : State) : Type 0 where
   pub entry : Entry
   pub entries : AreMatched (HasScalar world s.store) (lowering w).entries entry.values
   pub typed : AreOf (lowering w).fragment.entries entry.values
   pub known : AreMatched (HasScalars s.store) (numbers_of w).known entry.known
+  pub answered : AreMatched (IsAnswered world s.store w.fragment.run) (numbers_of w).known entry.known
   pub fits : PartsFit (lowering w).fragment world.db entry
   pub values : List Value
   pub ends : fragment_end (lowering w).fragment world.db entry ≡ Some values

@@ -12,6 +12,7 @@ use Rattle.fragments.specs.declared.bindings.RowColumn as columns
 use Rattle.fragments.specs.declared.lists.Source as sources
 use Rattle.fragments.specs.declared.counting.Counting as countings
 use Rattle.fragments.specs.declared.counting.Cap as caps
+use Rattle.fragments.specs.declared.setting.Fragment as code_fragments
 use Rattle.fragments.specs.declared.setting.Setting as settings
 use Rattle.java_mean.specs.Visible.{type_at}
 use Rattle.java_types.specs.Texts.{read_by}
@@ -45,11 +46,11 @@ counting_in_code k = record { counter = k.counter.now; list = k.list.now; limit 
 abbrev pub cap_in_code : caps.Cap → Cap
 cap_in_code c = record { counter = c.counter.now; most = c.most }
 
-abbrev pub fragment_in_code : settings.Setting → Fragment
-fragment_in_code w = record { visible = names_seen w.visible.now; run = statements w.run.now; loop = statement w.looped.now; behind = statements w.behind.now }
+abbrev pub fragment_in_code : code_fragments.Fragment → Fragment
+fragment_in_code f = record { visible = names_seen f.visible.now; run = statements f.run.now; loop = statement f.looped.now; behind = statements f.behind.now }
 
 abbrev pub setting_in_code : settings.Setting → Setting
-setting_in_code w = record { schema = w.schema.now; read = read_by w.schema.now; types = type_at w.types.now; fragment = fragment_in_code w; sites = map site_of w.sites.now }
+setting_in_code w = record { schema = w.schema.now; read = read_by w.schema.now; types = type_at w.fragment.types.now; fragment = fragment_in_code w.fragment; sites = map site_of w.sites.now }
 
 abbrev pub column_in_code : columns.RowColumn → RowColumn
 column_in_code c = record { loop = c.looped; column = c.column.now }

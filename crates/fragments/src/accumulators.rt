@@ -13,12 +13,13 @@ use crate::bindings::is_name;
 use crate::counting::counting_in;
 use crate::name_list::NameList;
 use crate::runs::is_live;
-use crate::setting::Setting;
+use crate::setting::Fragment;
 use java_ast::{Stmt, StmtNode};
 use qbs_base::{Name, NoMemory};
 use std::alloc::Global;
 
-fn counter<'a>(s: &'a Stmt) -> Option<&'a Name>
+/// The counter of a loop that counts.
+pub fn counter<'a>(s: &'a Stmt) -> Option<&'a Name>
     ensures { option_copied result ≡ fragment.counter (statement s.now) }
 {
     match counting_in(s) {
@@ -28,49 +29,49 @@ fn counter<'a>(s: &'a Stmt) -> Option<&'a Name>
 }
 
 // Whether a variable is visible before the run, or declared in it.
-fn is_declared(w: &Setting, x: &Name) -> bool
-    ensures { result ≡ (specs.is_among (names_seen w.now.visible.now) x.now || specs.is_among (fragment.declared_in_run (fragment_in_code w.now)) x.now) }
+fn is_declared(f: &Fragment, x: &Name) -> bool
+    ensures { result ≡ (specs.is_among (names_seen f.now.visible.now) x.now || specs.is_among (fragment.declared_in_run (fragment_in_code f.now)) x.now) }
 {
-    w.types.has(x)
+    f.types.has(x)
 }
 
 /// Whether a variable is declared outside of the loop and isn't its counter.
-pub fn is_outer(w: &Setting, x: &Name) -> bool
-    ensures { result ≡ fragment.is_outer (names_seen w.now.visible.now) (fragment.declared_in_run (fragment_in_code w.now)) (fragment.counter (fragment_in_code w.now).loop) x.now }
+pub fn is_outer(f: &Fragment, x: &Name) -> bool
+    ensures { result ≡ fragment.is_outer (names_seen f.now.visible.now) (fragment.declared_in_run (fragment_in_code f.now)) (fragment.counter (fragment_in_code f.now).loop) x.now }
 {
-    is_declared(w, x) && !is_name(counter(w.looped), x)
+    is_declared(f, x) && !is_name(counter(f.looped), x)
 }
 
 #[tactic(auto, using(crate::proofs::Updated::updated))]
-fn put_outer<'a>(w: &Setting, x: &'a Name, list: &mut NameList<'a>) -> Result<(), NoMemory>
+fn put_outer<'a>(f: &Fragment, x: &'a Name, list: &mut NameList<'a>) -> Result<(), NoMemory>
     requires { IsListed list.old }
-    ensures names { OnOk result (names_lent list.new.names ≡ outer_with (fragment_in_code w.now) (names_lent list.old.names) (x.now ∷ [])) }
+    ensures names { OnOk result (names_lent list.new.names ≡ outer_with (fragment_in_code f.now) (names_lent list.old.names) (x.now ∷ [])) }
     ensures listed { OnOk result (IsListed list.new) }
 {
-    if is_outer(w, x) { list.put(x) } else { Ok(()) }
+    if is_outer(f, x) { list.put(x) } else { Ok(()) }
 }
 
 // Puts behind the names those that a statement assigns or adds to, and that are declared outside of
 // the loop and aren't its counter.
 #[cycle(updates)]
 #[tactic(auto, using(crate::proofs::Updated::updated, crate::proofs::Nodes::nodes))]
-fn put_updated<'a>(w: &Setting, s: &'a Stmt, list: &mut NameList<'a>) -> Result<(), NoMemory>
+fn put_updated<'a>(f: &Fragment, s: &'a Stmt, list: &mut NameList<'a>) -> Result<(), NoMemory>
     requires { IsListed list.old }
-    ensures names { OnOk result (names_lent list.new.names ≡ outer_with (fragment_in_code w.now) (names_lent list.old.names) (specs.updated_in (statement s.now))) }
+    ensures names { OnOk result (names_lent list.new.names ≡ outer_with (fragment_in_code f.now) (names_lent list.old.names) (specs.updated_in (statement s.now))) }
     ensures listed { OnOk result (IsListed list.new) }
 {
     match &s.node {
-        StmtNode::Assign { name, value: _ } => put_outer(w, name, list),
-        StmtNode::Add { name, value: _ } => put_outer(w, name, list),
+        StmtNode::Assign { name, value: _ } => put_outer(f, name, list),
+        StmtNode::Add { name, value: _ } => put_outer(f, name, list),
         StmtNode::If {
             cond: _,
             yes,
             other,
         } => match other {
-            None => put_all_updated(w, yes, list),
+            None => put_all_updated(f, yes, list),
             Some(other) => {
-                put_all_updated(w, yes, list)?;
-                put_all_updated(w, other, list)
+                put_all_updated(f, yes, list)?;
+                put_all_updated(f, other, list)
             }
         },
         StmtNode::ForEach {
@@ -78,8 +79,8 @@ fn put_updated<'a>(w: &Setting, s: &'a Stmt, list: &mut NameList<'a>) -> Result<
             name: _,
             list: _,
             body,
-        } => put_all_updated(w, body, list),
-        StmtNode::While { cond: _, body } => put_all_updated(w, body, list),
+        } => put_all_updated(f, body, list),
+        StmtNode::While { cond: _, body } => put_all_updated(f, body, list),
         StmtNode::Declare { .. }
         | StmtNode::Sort { .. }
         | StmtNode::Print { .. }
@@ -92,26 +93,34 @@ fn put_updated<'a>(w: &Setting, s: &'a Stmt, list: &mut NameList<'a>) -> Result<
 #[cycle(updates)]
 #[tactic(auto, using(crate::proofs::Updated::updated))]
 fn put_all_updated<'a>(
-    w: &Setting,
+    f: &Fragment,
     block: &'a [Stmt],
     list: &mut NameList<'a>,
 ) -> Result<(), NoMemory>
     requires { IsListed list.old }
-    ensures names { OnOk result (names_lent list.new.names ≡ outer_with (fragment_in_code w.now) (names_lent list.old.names) (specs.updated_among (statements block.now))) }
+    ensures names { OnOk result (names_lent list.new.names ≡ outer_with (fragment_in_code f.now) (names_lent list.old.names) (specs.updated_among (statements block.now))) }
     ensures listed { OnOk result (IsListed list.new) }
 {
     for s in block {
-        put_updated(w, s, list)?;
+        put_updated(f, s, list)?;
     }
     Ok(())
 }
 
 /// The accumulators: what is assigned or added to in the loop and declared outside of it, other than its
 /// counter, each once, in the order of their updates.
-pub fn accumulators<'a>(alloc: Global, w: &Setting<'a>) -> Result<NameList<'a>, NoMemory>
-    ensures { IfOk result (λ r. names_lent r.names ≡ fragment.accumulators (fragment_in_code w.now)) }
+pub fn accumulators<'a>(alloc: Global, f: &Fragment<'a>) -> Result<NameList<'a>, NoMemory>
+    ensures { IfOk result (λ r. names_lent r.names ≡ fragment.accumulators (fragment_in_code f.now)) }
+{
+    accumulators_listed(alloc, f)
+}
+
+/// The same, where the list finds what it holds.
+pub fn accumulators_listed<'a>(alloc: Global, f: &Fragment<'a>) -> Result<NameList<'a>, NoMemory>
+    ensures names { IfOk result (λ r. names_lent r.names ≡ fragment.accumulators (fragment_in_code f.now)) }
+    ensures listed { IfOk result (λ r. IsListed r) }
 {
     let mut list = NameList::new(alloc);
-    put_updated(w, w.looped, &mut list)?;
+    put_updated(f, f.looped, &mut list)?;
     Ok(list)
 }

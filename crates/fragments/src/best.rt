@@ -1,17 +1,17 @@
 // How a best value moves.
 ghost use Rattle.std.specs.Prelude.{◌≡◌, ◌++◌, ◌∷◌, [], ◌&&◌, OnOk, IfOk, option_copied, map, not, nat_eq};
-ghost use Rattle.std.specs.List.{filter, list_any};
+ghost use Rattle.std.specs.List.{filter};
 ghost use Rattle.std.specs.Option.{option_map};
-ghost use Rattle.java_ast.specs.Reading.{expression, statement};
+ghost use Rattle.java_ast.specs.Reading.{expression};
 ghost use Rattle.fragments.specs.KernelForms as specs;
-ghost use Rattle.fragments.specs.Reading.{column_in_code, found_in_code, round_of, site_of, test_of};
+ghost use Rattle.fragments.specs.Reading.{column_in_code, found_in_code, round_of, site_of};
 ghost use Rattle.fragments.specs.Sites as sites;
 
 use crate::bindings::{RowColumn, row_column_at, same_row_column};
 use crate::counting::{is_and, is_variable};
 use crate::names::mentions;
-use crate::sites::{Round, Site, Test};
-use crate::updates::is_update;
+use crate::sites::{Round, Sites};
+use crate::updates::some_other;
 use java_ast::{Expr, ExprNode, Op};
 use qbs_base::{Items, Name, NoMemory};
 use std::alloc::Global;
@@ -133,7 +133,7 @@ fn turned_where(turns: bool, way: Option<Way>) -> Option<Way>
 }
 
 fn way_between(
-    all: &[Site],
+    all: &Sites,
     n: usize,
     m: &Name,
     c: RowColumn,
@@ -152,7 +152,7 @@ fn way_between(
     }
 }
 
-fn way_in(all: &[Site], n: usize, m: &Name, c: RowColumn, e: &Expr) -> Option<Way>
+fn way_in(all: &Sites, n: usize, m: &Name, c: RowColumn, e: &Expr) -> Option<Way>
     ensures { result ≡ specs.way_in (map site_of all.now) n m.now (column_in_code c.entry) (expression e.now) }
 {
     match &e.node {
@@ -161,7 +161,7 @@ fn way_in(all: &[Site], n: usize, m: &Name, c: RowColumn, e: &Expr) -> Option<Wa
     }
 }
 
-fn way_found(all: &[Site], m: &Name, c: RowColumn, f: &Found) -> Option<Way>
+fn way_found(all: &Sites, m: &Name, c: RowColumn, f: &Found) -> Option<Way>
     ensures { result ≡ specs.way_found (map site_of all.now) m.now (column_in_code c.entry) (found_in_code f.now) }
 {
     turned_where(!f.holds, way_in(all, f.number, m, c, f.condition))
@@ -179,7 +179,7 @@ fn only<'f, 'a>(found: &'f [Found<'a>]) -> Option<&'f Found<'a>>
 
 /// The way in which the update moves m, where exactly one conjunct mentions m and compares it with the
 /// column.
-pub fn best_way(all: &[Site], m: &Name, c: RowColumn, found: &[Found]) -> Option<Way>
+pub fn best_way(all: &Sites, m: &Name, c: RowColumn, found: &[Found]) -> Option<Way>
     ensures { result ≡ specs.only_way (map site_of all.now) m.now (column_in_code c.entry) (map found_in_code found.now) }
 {
     match only(found) {
@@ -188,31 +188,15 @@ pub fn best_way(all: &[Site], m: &Name, c: RowColumn, found: &[Found]) -> Option
     }
 }
 
-/// Whether a site stands in a branch of this `if`, or further down in one.
-pub fn is_under(number: usize, tests: &[Test]) -> bool
-    ensures { result ≡ list_any (λ (t : sites.Test). nat_eq number t.number) (map test_of tests.now) }
-{
-    for t in tests {
-        if number == t.number {
-            return true;
-        }
-    }
-    false
-}
-
-fn has_update_under(all: &[Site], n: usize, number: usize) -> bool
+// An update stands in a branch of this `if`, or further down in one, and isn't the site n.
+fn has_update_under(all: &Sites, n: usize, number: usize) -> bool
     ensures { result ≡ sites.any_site (λ i s. sites.is_update s.statement && (not (nat_eq i n) && sites.is_under number s)) 0 (map site_of all.now) }
 {
-    for (i, s) in all.iter().enumerate() {
-        if is_update(s.statement) && (i != n && is_under(number, s.round.tests.as_slice())) {
-            return true;
-        }
-    }
-    false
+    some_other(all.updates_under(number), n)
 }
 
 /// Whether another update stands in a branch of the `if` of that conjunct.
-pub fn has_other_update(all: &[Site], n: usize, found: &[Found]) -> bool
+pub fn has_other_update(all: &Sites, n: usize, found: &[Found]) -> bool
     ensures { result ≡ specs.has_other_update (map site_of all.now) n (map found_in_code found.now) }
 {
     match only(found) {

@@ -1,13 +1,14 @@
 // What names are bound to at the sites of a loop.
-ghost use Rattle.std.specs.Prelude.{◌≡◌, ◌+◌, ◌<◌, ◌^◌, option_copied, map, take, length};
+ghost use Rattle.std.specs.Prelude.{◌≡◌, option_copied, map};
 ghost use Rattle.std.specs.Option.{option_map};
-ghost use Rattle.java_ast.specs.Reading.{expression, statement, statements};
+ghost use Rattle.java_ast.specs.Reading.{expression, statement};
 ghost use Rattle.fragments.specs.Fragment as fragment;
 ghost use Rattle.fragments.specs.Reading.{column_in_code, site_of};
 ghost use Rattle.fragments.specs.Sites as specs;
 
+use crate::binders::last_below;
 use crate::names::same_name;
-use crate::sites::Site;
+use crate::sites::{Site, Sites};
 use java_ast::{Expr, ExprNode, Stmt, StmtNode};
 use qbs_base::Name;
 
@@ -41,15 +42,6 @@ pub fn declared_name(s: &Stmt) -> Option<&Name>
     }
 }
 
-fn counted_row(body: &[Stmt]) -> Option<&Name>
-    ensures { option_copied result ≡ specs.counted_row (statements body.now) }
-{
-    match body.split_first() {
-        None => None,
-        Some((s, _)) => declared_name(s),
-    }
-}
-
 /// Whether a name is this one.
 pub fn is_name(o: Option<&Name>, x: &Name) -> bool
     ensures { result ≡ fragment.is_name (option_copied o.entry) x.now }
@@ -60,69 +52,11 @@ pub fn is_name(o: Option<&Name>, x: &Name) -> bool
     }
 }
 
-// What a name is bound to behind a statement with this number.
-#[tactic(auto, using(crate::proofs::Nodes::nodes))]
-fn bound_by(x: &Name, n: usize, s: &Stmt, b: Binding) -> Binding
-    ensures { result ≡ specs.bound_by x.now n (statement s.now) b }
-{
-    match &s.node {
-        StmtNode::Declare {
-            ty: _,
-            name,
-            value: _,
-        } => {
-            if same_name(name, x) {
-                Binding::Local(n)
-            } else {
-                b
-            }
-        }
-        StmtNode::ForEach {
-            ty: _,
-            name,
-            list: _,
-            body: _,
-        } => {
-            if same_name(name, x) {
-                Binding::Row(n)
-            } else {
-                b
-            }
-        }
-        StmtNode::While { cond: _, body } => {
-            if is_name(counted_row(body), x) {
-                Binding::Row(n)
-            } else {
-                b
-            }
-        }
-        _ => b,
-    }
-}
-
-fn bound_after(x: &Name, sites: &[Site]) -> Binding
-    ensures { result ≡ specs.bound_after x.now 0 specs.Outer (map site_of sites.now) }
-{
-    let mut b = Binding::Outer;
-    for (n, s) in sites.iter().enumerate() {
-        b = bound_by(x, n, s.statement, b);
-    }
-    b
-}
-
-/// The first sites.
-#[tactic(auto, using(crate::proofs::Sited::first_of))]
-pub fn first_sites<'s, 'a>(sites: &'s [Site<'a>], n: usize) -> &'s [Site<'a>]
-    ensures { map site_of result.now ≡ take n (map site_of sites.now) }
-{
-    if n < sites.len() { &sites[..n] } else { sites }
-}
-
 /// What a name is bound to at a site.
-pub fn binding_at(sites: &[Site], n: usize, x: &Name) -> Binding
+pub fn binding_at(sites: &Sites, n: usize, x: &Name) -> Binding
     ensures { result ≡ specs.binding_at (map site_of sites.now) n x.now }
 {
-    bound_after(x, first_sites(sites, n))
+    last_below(n, Binding::Outer, sites.bindings(x))
 }
 
 /// Whether two names are bound alike.
@@ -147,7 +81,7 @@ fn row_bound(b: Binding) -> Option<usize>
 }
 
 /// The loop whose row an expression is.
-pub fn row_at(sites: &[Site], n: usize, e: &Expr) -> Option<usize>
+pub fn row_at(sites: &Sites, n: usize, e: &Expr) -> Option<usize>
     ensures { result ≡ specs.row_at (map site_of sites.now) n (expression e.now) }
 {
     match &e.node {
@@ -166,7 +100,7 @@ fn column_of_row(f: &Name, looped: Option<usize>) -> Option<RowColumn<'_>>
 }
 
 /// The column of a loop's row that an expression is.
-pub fn row_column_at<'e>(sites: &[Site], n: usize, e: &'e Expr) -> Option<RowColumn<'e>>
+pub fn row_column_at<'e>(sites: &Sites, n: usize, e: &'e Expr) -> Option<RowColumn<'e>>
     ensures { option_map column_in_code result ≡ specs.row_column_at (map site_of sites.now) n (expression e.now) }
 {
     match &e.node {

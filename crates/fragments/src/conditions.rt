@@ -10,15 +10,14 @@ ghost use Rattle.fragments.specs.Reading.{asked_in_code, exprs_lent, setting_in_
 ghost use Rattle.fragments.specs.Sites as sites;
 ghost use Rattle.tor_terms.specs.Same as same;
 
-use crate::best::is_under;
 use crate::bindings::{Binding, binding_at};
 use crate::entries::{are_entries, is_operand, is_row_column};
 use crate::known::{Asked, asked_for, behind_setting, first_setting, is_column_query};
 use crate::leaves::{is_compared, is_excepted, push_leaves};
 use crate::names::some_mentions;
 use crate::setting::Setting;
-use crate::sites::{Site, place_where};
-use crate::updates::{first_place, is_update, target_bound, target_of, updates_local};
+use crate::sites::{Site, Sites, place_where};
+use crate::updates::{first_place, some_below};
 use java_ast::{Expr, ExprNode, Stmt, StmtNode};
 use java_types::read_query;
 use qbs_base::{Items, Name, NoMemory, Span};
@@ -56,65 +55,32 @@ fn same_loops(a: &[usize], b: &[usize]) -> bool
     }
 }
 
-fn is_local(b: Binding) -> bool
-    ensures { result ≡ specs.is_local b }
-{
-    match b {
-        Binding::Local(_) => true,
-        _ => false,
-    }
-}
-
-fn updates_flag_under(all: &[Site], number: usize, n: usize, s: &Site) -> bool
-    ensures { result ≡ specs.updates_flag_under (map site_of all.now) number n (site_of s.now) }
-{
-    is_update(s.statement)
-        && (is_local(target_bound(all, n, target_of(s.statement)))
-            && is_under(number, s.round.tests.as_slice()))
-}
-
-fn is_round_flag(all: &[Site], number: usize) -> bool
-    ensures { result ≡ sites.any_site (specs.updates_flag_under (map site_of all.now) number) 0 (map site_of all.now) }
-{
-    for (n, s) in all.iter().enumerate() {
-        if updates_flag_under(all, number, n, s) {
-            return true;
-        }
-    }
-    false
-}
-
-fn is_updated_before(all: &[Site], n: usize, d: usize) -> bool
+fn is_updated_before(all: &Sites, n: usize, d: usize) -> bool
     ensures { result ≡ sites.any_site (λ i s. nat_lt i n && updates.updates_local (map site_of all.now) d i s) 0 (map site_of all.now) }
 {
-    for (i, s) in all.iter().enumerate() {
-        if i < n && updates_local(all, d, i, s) {
-            return true;
-        }
-    }
-    false
+    some_below(all.flag_updates(d), n)
 }
 
 #[tactic(auto, using(crate::proofs::Rounds::rounds))]
-fn is_in_its_loops(all: &[Site], n: usize, d: usize) -> bool
+fn is_in_its_loops(all: &Sites, n: usize, d: usize) -> bool
     ensures { result ≡ specs.is_in_its_loops (map site_of all.now) n (slice_get (map site_of all.now) n) (slice_get (map site_of all.now) d) }
 {
-    match all.get(n) {
+    match all.as_slice().get(n) {
         None => false,
-        Some(s) => match all.get(d) {
+        Some(s) => match all.as_slice().get(d) {
             None => false,
             Some(d) => same_loops(s.round.loops.as_slice(), d.round.loops.as_slice()),
         },
     }
 }
 
-fn may_read(all: &[Site], n: usize, d: usize) -> bool
+fn may_read(all: &Sites, n: usize, d: usize) -> bool
     ensures { result ≡ specs.may_read (map site_of all.now) n d }
 {
-    is_updated_before(all, n, d) && (is_in_its_loops(all, n, d) && !is_round_flag(all, n))
+    is_updated_before(all, n, d) && (is_in_its_loops(all, n, d) && !all.is_round_flag(n))
 }
 
-fn reads_flag(all: &[Site], n: usize, b: Binding) -> bool
+fn reads_flag(all: &Sites, n: usize, b: Binding) -> bool
     ensures { result ≡ specs.reads_flag (map site_of all.now) n b }
 {
     match b {
@@ -190,8 +156,8 @@ fn is_some(s: Option<&Stmt>) -> bool
 fn is_known(alloc: Global, w: &Setting, n: usize, ids: &Name) -> Result<bool, NoMemory>
     ensures { IfOk result (λ b. b ≡ specs.is_known (setting_in_code w.now) n ids.now) }
 {
-    let behind = behind_setting(ids, w.run);
-    let asked = is_known_query(alloc, w, n, behind, asked_for(w.run, ids))?;
+    let behind = behind_setting(ids, w.fragment.run);
+    let asked = is_known_query(alloc, w, n, behind, asked_for(w.fragment.run, ids))?;
     Ok(!is_some(first_setting(ids, behind)) && asked)
 }
 
@@ -254,7 +220,8 @@ fn broken_leaves(
     Ok(None)
 }
 
-fn condition_of(s: &Stmt) -> Option<&Expr>
+/// The condition of an `if`.
+pub fn condition_of(s: &Stmt) -> Option<&Expr>
     ensures { option_map expression (option_copied result) ≡ specs.condition_of (statement s.now) }
 {
     match &s.node {
@@ -300,7 +267,7 @@ fn broken_condition_at(
 pub fn broken_conditions(alloc: Global, w: &Setting) -> Result<Option<Span>, NoMemory>
     ensures { IfOk result (λ at. at ≡ specs.broken_conditions (setting_in_code w.now)) }
 {
-    for (n, s) in w.sites.iter().enumerate() {
+    for (n, s) in w.sites.as_slice().iter().enumerate() {
         if let Some(at) = broken_condition_at(alloc, w, n, s)? {
             return Ok(Some(at));
         }

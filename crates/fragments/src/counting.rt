@@ -12,7 +12,7 @@ ghost use Rattle.fragments.specs.Sites as sites;
 use crate::names::{block_mentions, same_name};
 use crate::runs::{first_touching, given_by, is_live, touched_again};
 use crate::setting::Setting;
-use crate::sites::{Site, place_where};
+use crate::sites::{Site, Sites, place_where};
 use java_ast::{Expr, ExprNode, JTy, Op, Stmt, StmtNode};
 use qbs_base::{Name, Scalar, Span};
 
@@ -378,12 +378,13 @@ fn starts_at_zero(i: &Name, run: &[Stmt]) -> bool
 }
 
 fn counts_rightly(w: &Setting, k: Option<Counting>, body: &[Stmt]) -> bool
-    ensures { result ≡ specs.counts_rightly (fragment_in_code w.now) (option_map counting_in_code k.entry) (statements body.now) }
+    ensures { result ≡ specs.counts_rightly (fragment_in_code w.now.fragment) (option_map counting_in_code k.entry) (statements body.now) }
 {
     match k {
         None => false,
         Some(k) => {
-            counts_in(k, body) && (starts_at_zero(k.counter, w.run) && !is_live(w, k.counter))
+            counts_in(k, body)
+                && (starts_at_zero(k.counter, w.fragment.run) && !is_live(&w.fragment, k.counter))
         }
     }
 }
@@ -391,7 +392,7 @@ fn counts_rightly(w: &Setting, k: Option<Counting>, body: &[Stmt]) -> bool
 // A for-each, or a loop that counts.
 #[tactic(auto, using(crate::proofs::Nodes::nodes))]
 fn is_kernel_loop(w: &Setting, s: &Stmt) -> bool
-    ensures { result ≡ specs.is_kernel_loop (fragment_in_code w.now) (statement s.now) }
+    ensures { result ≡ specs.is_kernel_loop (fragment_in_code w.now.fragment) (statement s.now) }
 {
     match &s.node {
         StmtNode::ForEach { .. } => true,
@@ -412,10 +413,10 @@ pub fn is_while(s: &Stmt) -> bool
 }
 
 #[tactic(auto, using(crate::proofs::Rounds::rounds))]
-fn has_inner_while(all: &[Site]) -> bool
+fn has_inner_while(all: &Sites) -> bool
     ensures { result ≡ specs.has_inner_while (map site_of all.now) }
 {
-    match all.split_first() {
+    match all.as_slice().split_first() {
         None => false,
         Some((_, inner)) => has_while(inner),
     }
@@ -440,8 +441,8 @@ pub fn broken_loop(w: &Setting) -> Option<Span>
     ensures { result ≡ specs.broken_loop (setting_in_code w.now) }
 {
     place_where(
-        has_inner_while(w.sites) || !is_kernel_loop(w, w.looped),
-        w.looped.span,
+        has_inner_while(w.sites) || !is_kernel_loop(w, w.fragment.looped),
+        w.fragment.looped.span,
     )
 }
 

@@ -8,7 +8,7 @@ ghost use Rattle.fragments.specs.Reading.{setting_in_code, site_of};
 use crate::bindings::{Binding, binding_at, row_column_at};
 use crate::names::same_name;
 use crate::setting::Setting;
-use crate::sites::Site;
+use crate::sites::Sites;
 use java_ast::{Expr, ExprNode, Stmt, StmtNode};
 use java_mean::{JavaType, Single};
 use qbs_base::Name;
@@ -89,14 +89,14 @@ fn is_outer(b: Binding) -> bool
 fn is_steady(w: &Setting, n: usize, x: &Name) -> bool
     ensures { result ≡ specs.is_steady (setting_in_code w.now) n x.now }
 {
-    is_outer(binding_at(w.sites, n, x)) && !updates(w.looped, x)
+    is_outer(binding_at(w.sites, n, x)) && !updates(w.fragment.looped, x)
 }
 
 fn is_entry_row(w: &Setting, n: usize, e: &Expr) -> bool
     ensures { result ≡ specs.is_entry_row (setting_in_code w.now) n (expression e.now) }
 {
     match &e.node {
-        ExprNode::Var(x) => is_row_type(w.types.type_of(x)) && is_steady(w, n, x),
+        ExprNode::Var(x) => is_row_type(w.fragment.types.type_of(x)) && is_steady(w, n, x),
         _ => false,
     }
 }
@@ -107,7 +107,7 @@ pub fn is_entry(w: &Setting, n: usize, e: &Expr) -> bool
     ensures { result ≡ specs.is_entry (setting_in_code w.now) n (expression e.now) }
 {
     match &e.node {
-        ExprNode::Var(x) => is_scalar_type(w.types.type_of(x)) && is_steady(w, n, x),
+        ExprNode::Var(x) => is_scalar_type(w.fragment.types.type_of(x)) && is_steady(w, n, x),
         ExprNode::Field(row, _) => is_entry_row(w, n, row),
         _ => false,
     }
@@ -124,7 +124,7 @@ pub fn is_literal(e: &Expr) -> bool
 }
 
 /// Whether an expression is a field of a loop variable.
-pub fn is_row_column(all: &[Site], n: usize, e: &Expr) -> bool
+pub fn is_row_column(all: &Sites, n: usize, e: &Expr) -> bool
     ensures { result ≡ specs.is_row_column (map site_of all.now) n (expression e.now) }
 {
     match row_column_at(all, n, e) {

@@ -12,7 +12,7 @@ use crate::bindings::{Binding, RowColumn, binding_at};
 use crate::forms::{Form, form_of};
 use crate::lists::{is_sorted_source, source_in};
 use crate::setting::Setting;
-use crate::sites::{Site, Test, place_where};
+use crate::sites::{Site, Sites, Test, place_where};
 use crate::updates::target_of;
 use java_mean::JavaType;
 use qbs_base::{Name, NoMemory, Span};
@@ -20,7 +20,7 @@ use std::alloc::Global;
 
 fn takes_best(
     alloc: Global,
-    all: &[Site],
+    all: &Sites,
     n: usize,
     s: &Site,
     m: &Name,
@@ -55,9 +55,9 @@ pub fn is_distinct(k: Option<JavaType>) -> bool
 fn first_is_sorted(w: &Setting) -> bool
     ensures { result ≡ specs.first_is_sorted (setting_in_code w.now) (map site_of w.now.sites.now) }
 {
-    match w.sites.split_first() {
+    match w.sites.as_slice().split_first() {
         None => false,
-        Some((s, _)) => is_sorted_source(source_in(w.run, s.statement)),
+        Some((s, _)) => is_sorted_source(source_in(w.fragment.run, s.statement)),
     }
 }
 
@@ -73,7 +73,7 @@ fn fits_outer(
 {
     match form {
         Form::Adds(_) => {
-            Ok(!is_distinct(w.types.type_of(x)) || (is_once(s) && !first_is_sorted(w)))
+            Ok(!is_distinct(w.fragment.types.type_of(x)) || (is_once(s) && !first_is_sorted(w)))
         }
         Form::Counts => Ok(is_once(s)),
         Form::Sums(_) => Ok(is_once(s)),
@@ -109,16 +109,16 @@ fn is_in_own_loop(s: &Site, d: &Site) -> bool
 }
 
 #[tactic(auto, using(crate::proofs::Rounds::rounds))]
-fn is_in_loop_of(all: &[Site], s: &Site, d: usize) -> bool
+fn is_in_loop_of(all: &Sites, s: &Site, d: usize) -> bool
     ensures { result ≡ specs.is_in_own_loop (site_of s.now) (slice_get (map site_of all.now) d) }
 {
-    match all.get(d) {
+    match all.as_slice().get(d) {
         None => false,
         Some(d) => is_in_own_loop(s, d),
     }
 }
 
-fn fits_local(all: &[Site], s: &Site, d: usize, form: Form) -> bool
+fn fits_local(all: &Sites, s: &Site, d: usize, form: Form) -> bool
     ensures { result ≡ specs.fits_local (map site_of all.now) (site_of s.now) d (form_in_code form.entry) }
 {
     match form {
@@ -171,7 +171,7 @@ fn broken_form(alloc: Global, w: &Setting, n: usize, s: &Site) -> Result<Option<
 pub fn broken_forms(alloc: Global, w: &Setting) -> Result<Option<Span>, NoMemory>
     ensures { IfOk result (λ at. at ≡ specs.broken_forms (setting_in_code w.now)) }
 {
-    for (n, s) in w.sites.iter().enumerate() {
+    for (n, s) in w.sites.as_slice().iter().enumerate() {
         if let Some(at) = broken_form(alloc, w, n, s)? {
             return Ok(Some(at));
         }

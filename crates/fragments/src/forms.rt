@@ -9,7 +9,7 @@ ghost use Rattle.fragments.specs.Sites as sites;
 
 use crate::bindings::{RowColumn, row_at, row_column_at};
 use crate::counting::{is_add, is_literal_one, is_variable};
-use crate::sites::Site;
+use crate::sites::Sites;
 use java_ast::{Expr, ExprNode, Stmt, StmtNode};
 use qbs_base::{Name, Scalar};
 
@@ -78,7 +78,7 @@ fn literal_form<'a>(value: &Scalar) -> Form<'a>
 }
 
 // What is added to a variable: 1, or a column.
-fn added_form<'a>(all: &[Site], n: usize, e: &'a Expr) -> Form<'a>
+fn added_form<'a>(all: &Sites, n: usize, e: &'a Expr) -> Form<'a>
     ensures { form_in_code result ≡ (if setting.is_literal_number 1 (expression e.now) then specs.counts else specs.sums_column (sites.row_column_at (map site_of all.now) n (expression e.now))) }
 {
     if is_literal_one(e) {
@@ -89,7 +89,7 @@ fn added_form<'a>(all: &[Site], n: usize, e: &'a Expr) -> Form<'a>
 }
 
 // A sum with the variable on either side.
-fn sum_form<'a>(all: &[Site], n: usize, x: &Name, a: &'a Expr, b: &'a Expr) -> Form<'a>
+fn sum_form<'a>(all: &Sites, n: usize, x: &Name, a: &'a Expr, b: &'a Expr) -> Form<'a>
     ensures { form_in_code result ≡ specs.sum_form (map site_of all.now) n x.now (expression a.now) (expression b.now) }
 {
     if is_variable(x, a) {
@@ -101,7 +101,7 @@ fn sum_form<'a>(all: &[Site], n: usize, x: &Name, a: &'a Expr, b: &'a Expr) -> F
     }
 }
 
-fn assigned_form<'a>(all: &[Site], n: usize, x: &Name, e: &'a Expr) -> Form<'a>
+fn assigned_form<'a>(all: &Sites, n: usize, x: &Name, e: &'a Expr) -> Form<'a>
     ensures { form_in_code result ≡ specs.assigned_form (map site_of all.now) n x.now (expression e.now) }
 {
     match &e.node {
@@ -120,7 +120,7 @@ fn assigned_form<'a>(all: &[Site], n: usize, x: &Name, e: &'a Expr) -> Form<'a>
 
 /// The form of a statement that stands at this number.
 #[tactic(auto, using(crate::proofs::Nodes::nodes))]
-pub fn form_of<'a>(all: &[Site], n: usize, s: &'a Stmt) -> Form<'a>
+pub fn form_of<'a>(all: &Sites, n: usize, s: &'a Stmt) -> Form<'a>
     ensures { form_in_code result ≡ specs.form_of (map site_of all.now) n (statement s.now) }
 {
     match &s.node {

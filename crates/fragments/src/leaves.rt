@@ -2,18 +2,17 @@
 ghost use Rattle.std.specs.Prelude.{◌≡◌, ◌++◌, true, OnOk, option_copied, map, nat_eq, length};
 ghost use Rattle.std.specs.List.{filter, list_any};
 ghost use Rattle.std.specs.Option.{option_map};
-ghost use Rattle.java_ast.specs.Reading.{expression, statement};
+ghost use Rattle.java_ast.specs.Reading.{expression, expressions, statement};
+ghost use Rattle.fragments.specs.Indexed.{takes_at};
 ghost use Rattle.fragments.specs.KernelConditions as specs;
-ghost use Rattle.fragments.specs.Names.{is_among, names_in};
+ghost use Rattle.fragments.specs.Names.{is_among, names_in, names_among};
 ghost use Rattle.fragments.specs.Reading.{exprs_lent, form_in_code, round_of, site_of, test_of};
 ghost use Rattle.fragments.specs.Sites as sites;
 
 use crate::best::is_or;
 use crate::counting::is_and;
 use crate::forms::{Form, form_of};
-use crate::names::mentions;
-use crate::sites::{Round, Site};
-use crate::updates::target_of;
+use crate::sites::{Round, Sites};
 use java_ast::{Expr, ExprNode, Op};
 use qbs_base::{Items, Name, NoMemory};
 
@@ -57,32 +56,68 @@ fn is_inner_test(number: usize, r: &Round) -> bool
     false
 }
 
-fn mentions_target(e: &Expr, x: Option<&Name>) -> bool
-    ensures { result ≡ list_any (λ m. is_among (names_in (expression e.now)) m) (specs.name_where true (option_copied x.entry)) }
+// The site takes a best value, and this `if` stands round it inside its innermost loop.
+#[tactic(auto, using(crate::proofs::Rounds::rounds))]
+fn takes_under(all: &Sites, number: usize, n: usize) -> bool
+    ensures { result ≡ takes_at (map site_of all.now) number n }
 {
-    match x {
+    match all.as_slice().get(n) {
         None => false,
-        Some(m) => mentions(e, m),
+        Some(s) => is_inner_test(number, &s.round) && is_taking(form_of(all, n, s.statement)),
     }
 }
 
-// An expression mentions the variable that a site sets by `m = x.f`, where this `if` stands round it inside its
-// innermost loop.
-fn mentions_best(all: &[Site], number: usize, n: usize, s: &Site, e: &Expr) -> bool
-    ensures { result ≡ list_any (λ m. is_among (names_in (expression e.now)) m) (specs.best_under (map site_of all.now) number n (site_of s.now)) }
+fn some_takes_under(all: &Sites, number: usize, updates: &[usize]) -> bool
+    ensures { result ≡ list_any (takes_at (map site_of all.now) number) updates.now }
 {
-    if is_inner_test(number, &s.round) && is_taking(form_of(all, n, s.statement)) {
-        mentions_target(e, target_of(s.statement))
-    } else {
-        false
+    for n in updates {
+        if takes_under(all, number, *n) {
+            return true;
+        }
+    }
+    false
+}
+
+// A variable is set by `m = x.f` where this `if` stands round that inside its innermost loop.
+fn is_best(all: &Sites, number: usize, m: &Name) -> bool
+    ensures { result ≡ is_among (specs.all_best_under (map site_of all.now) number 0 (map site_of all.now)) m.now }
+{
+    some_takes_under(all, number, all.updates(m))
+}
+
+// An expression mentions such a variable.
+#[cycle(best)]
+#[tactic(auto, using(crate::proofs::IndexedBest::best, crate::proofs::Nodes::nodes))]
+fn mentions_best(all: &Sites, number: usize, e: &Expr) -> bool
+    ensures { result ≡ list_any (is_among (specs.all_best_under (map site_of all.now) number 0 (map site_of all.now))) (names_in (expression e.now)) }
+{
+    match &e.node {
+        ExprNode::Lit(_) => false,
+        ExprNode::Var(x) => is_best(all, number, x),
+        ExprNode::Field(row, _) => mentions_best(all, number, row),
+        ExprNode::Binary(_, a, b) => mentions_best(all, number, a) || mentions_best(all, number, b),
+        ExprNode::Not(a) => mentions_best(all, number, a),
+        ExprNode::Equals(a, b) => mentions_best(all, number, a) || mentions_best(all, number, b),
+        ExprNode::Size(x) => is_best(all, number, x),
+        ExprNode::Get(x, a) => is_best(all, number, x) || mentions_best(all, number, a),
+        ExprNode::Contains(x, a) => is_best(all, number, x) || mentions_best(all, number, a),
+        ExprNode::Fetch(_) => false,
+        ExprNode::Query(_, _, args) => some_mentions_best(all, number, args),
+        ExprNode::QueryLong(_, args) => some_mentions_best(all, number, args),
+        ExprNode::QueryBoolean(_, args) => some_mentions_best(all, number, args),
+        ExprNode::NewList => false,
+        ExprNode::NewSet(None) => false,
+        ExprNode::NewSet(Some(a)) => mentions_best(all, number, a),
     }
 }
 
-fn mentions_some_best(all: &[Site], number: usize, e: &Expr) -> bool
-    ensures { result ≡ list_any (λ m. is_among (names_in (expression e.now)) m) (specs.all_best_under (map site_of all.now) number 0 (map site_of all.now)) }
+#[cycle(best)]
+#[tactic(auto, using(crate::proofs::IndexedBest::best))]
+fn some_mentions_best(all: &Sites, number: usize, es: &[Expr]) -> bool
+    ensures { result ≡ list_any (is_among (specs.all_best_under (map site_of all.now) number 0 (map site_of all.now))) (names_among (expressions es.now)) }
 {
-    for (n, s) in all.iter().enumerate() {
-        if mentions_best(all, number, n, s, e) {
+    for e in es {
+        if mentions_best(all, number, e) {
             return true;
         }
     }
@@ -122,8 +157,9 @@ fn compares(e: &Expr) -> bool
 }
 
 /// Whether a leaf of the `if` with this number is the conjunct that a best value is compared by.
-pub fn is_excepted(all: &[Site], number: usize, e: &Expr) -> bool
+#[tactic(auto, using(crate::proofs::IndexedBest::names_turned))]
+pub fn is_excepted(all: &Sites, number: usize, e: &Expr) -> bool
     ensures { result ≡ specs.is_excepted (map site_of all.now) number (expression e.now) }
 {
-    compares(e) && mentions_some_best(all, number, e)
+    compares(e) && mentions_best(all, number, e)
 }

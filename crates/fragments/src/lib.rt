@@ -1,31 +1,61 @@
 //! The loops of programs, and what a rewrite of one has to keep.
 #![tactic(auto)]
 
+mod accs;
 mod accumulators;
+mod atoms;
+mod beside;
 mod best;
+mod binders;
 mod bindings;
+mod block_parts;
 mod conditions;
+mod context;
 mod counting;
+mod counts;
 mod entries;
 mod fitting;
 mod forms;
+mod formulas;
+mod groups;
+mod guards;
+mod judging;
+mod keeping;
 mod known;
 pub mod laws;
+mod leaf_list;
 mod leaves;
 mod limits;
 mod lists;
+mod located;
+mod lowered;
+mod lowered_there;
+mod lowering;
+mod marks;
 pub mod meaning;
+mod mentioned;
 mod name_list;
+mod named_values;
 mod names;
+mod numbering;
+mod pools;
+mod position;
 mod runs;
+mod scopes;
+mod setters;
 mod setting;
 mod shapes;
 mod sites;
+mod small;
+mod source_lists;
 mod starts;
-#[cfg(test)]
-mod tests;
+mod tally;
 mod updates;
+mod verdict;
 mod walk;
 pub mod worked;
 
+pub use located::needed;
+pub use lowered::{Lowered, Outside};
+pub use verdict::lower;
 pub use walk::{loops, loops_of};

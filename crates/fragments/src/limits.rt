@@ -12,7 +12,7 @@ use crate::bindings::{Binding, binding_at};
 use crate::counting::{counting_in, limit_of};
 use crate::lists::{Source, is_sorted_source, source_in};
 use crate::setting::Setting;
-use crate::sites::{Site, place_where};
+use crate::sites::{Site, Sites, place_where};
 use java_ast::{JTy, Stmt, StmtNode};
 use java_mean::JavaType;
 use qbs_base::{Name, Span};
@@ -61,10 +61,10 @@ fn declares_list(s: &Stmt) -> bool
 }
 
 #[tactic(auto, using(crate::proofs::Rounds::rounds))]
-fn declares_list_at(all: &[Site], n: usize) -> bool
+fn declares_list_at(all: &Sites, n: usize) -> bool
     ensures { result ≡ specs.found_list (slice_get (map site_of all.now) n) }
 {
-    match all.get(n) {
+    match all.as_slice().get(n) {
         None => false,
         Some(s) => declares_list(s.statement),
     }
@@ -77,7 +77,7 @@ fn is_list_bound(w: &Setting, x: &Name, b: Binding) -> bool
     match b {
         Binding::Row(_) => false,
         Binding::Local(n) => declares_list_at(w.sites, n),
-        Binding::Outer => is_listed(w.types.type_of(x)),
+        Binding::Outer => is_listed(w.fragment.types.type_of(x)),
     }
 }
 
@@ -104,7 +104,7 @@ fn is_barred(w: &Setting, n: usize, s: &Stmt) -> bool
 fn has_barred(w: &Setting) -> bool
     ensures { result ≡ sites.any_site (specs.is_barred_site (setting_in_code w.now)) 0 (map site_of w.now.sites.now) }
 {
-    for (n, s) in w.sites.iter().enumerate() {
+    for (n, s) in w.sites.as_slice().iter().enumerate() {
         if is_barred(w, n, s.statement) {
             return true;
         }
@@ -133,7 +133,8 @@ fn allows_limit(w: &Setting, s: &Stmt, limit: Option<u64>) -> bool
     match limit {
         None => true,
         Some(_) => {
-            count_loops(w.sites) == 1 && !(is_sorted_source(source_in(w.run, s)) && has_barred(w))
+            count_loops(w.sites.as_slice()) == 1
+                && !(is_sorted_source(source_in(w.fragment.run, s)) && has_barred(w))
         }
     }
 }
@@ -154,7 +155,7 @@ fn broken_list(w: &Setting, n: usize, s: &Site) -> Option<Span>
     let s = s.statement;
     place_where(
         is_loop(s)
-            && !(is_found_source(source_in(w.run, s))
+            && !(is_found_source(source_in(w.fragment.run, s))
                 && allows_limit(w, s, limit_of(counting_in(s)))),
         s.span,
     )
@@ -164,7 +165,7 @@ fn broken_list(w: &Setting, n: usize, s: &Site) -> Option<Span>
 pub fn broken_lists(w: &Setting) -> Option<Span>
     ensures { result ≡ specs.broken_lists (setting_in_code w.now) }
 {
-    for (n, s) in w.sites.iter().enumerate() {
+    for (n, s) in w.sites.as_slice().iter().enumerate() {
         if let Some(at) = broken_list(w, n, s) {
             return Some(at);
         }
@@ -174,10 +175,10 @@ pub fn broken_lists(w: &Setting) -> Option<Span>
 
 /// K3: the first loop in three others.
 #[tactic(auto, using(crate::proofs::Rounds::rounds))]
-pub fn broken_depth(all: &[Site]) -> Option<Span>
+pub fn broken_depth(all: &Sites) -> Option<Span>
     ensures { result ≡ sites.first_broken specs.too_deep 0 (map site_of all.now) }
 {
-    for (n, s) in all.iter().enumerate() {
+    for (n, s) in all.as_slice().iter().enumerate() {
         if is_loop(s.statement) && s.round.loops.len() > 2 {
             return Some(s.statement.span);
         }

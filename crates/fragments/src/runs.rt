@@ -7,7 +7,7 @@ ghost use Rattle.fragments.specs.Reading.{fragment_in_code};
 ghost use Rattle.fragments.specs.Setting as specs;
 
 use crate::names::{block_mentions, same_name, touches};
-use crate::setting::Setting;
+use crate::setting::Fragment;
 use java_ast::{Expr, Stmt, StmtNode};
 use qbs_base::Name;
 
@@ -66,10 +66,10 @@ pub fn given_by<'a>(x: &Name, s: &'a Stmt) -> Option<&'a Expr>
 
 /// Whether a variable is live: visible before the run, or mentioned behind the loop.
 #[tactic(auto, using(crate::proofs::Sets::sets))]
-pub fn is_live(w: &Setting, x: &Name) -> bool
-    ensures { result ≡ fragment.is_live (fragment_in_code w.now) x.now }
+pub fn is_live(f: &Fragment, x: &Name) -> bool
+    ensures { result ≡ fragment.is_live (fragment_in_code f.now) x.now }
 {
-    w.visible.has(x) || block_mentions(w.behind, x)
+    f.visible.has(x) || block_mentions(f.behind, x)
 }
 
 /// What stands behind the statement with this number.

@@ -4,21 +4,27 @@ ghost use Rattle.java_ast.specs.Reading.{statements};
 ghost use Rattle.fragments.specs.Names.{with_names, declared_among};
 ghost use Rattle.fragments.specs.Seen.{names_seen};
 
-use crate::sites::Site;
+use crate::sites::Sites;
 use java_ast::Stmt;
 use java_types::Scope;
 use schema::Schema;
 
-/// A fragment under a schema: the types of the variables that are visible at the loop, the names that
-/// are visible before the run, the run, the loop and what stands behind it, and the sites of the loop.
+/// A loop and the run before it: the names that are visible before the run, those that are visible at the loop with
+/// their types, the run, the loop, and what stands behind it in its block.
 #[derive(Clone, Copy)]
-pub struct Setting<'a> {
-    pub schema: &'a Schema,
-    pub types: &'a Scope<'a>,
+pub struct Fragment<'a> {
     pub visible: &'a Scope<'a>,
+    pub types: &'a Scope<'a>,
     pub run: &'a [Stmt],
     pub looped: &'a Stmt,
     pub behind: &'a [Stmt],
-    pub sites: &'a [Site<'a>],
     ghost scoped: { names_seen types.now ≡ with_names (names_seen visible.now) (declared_among (statements run.now)) },
+}
+
+/// A fragment under a schema, with the sites of its loop.
+#[derive(Clone, Copy)]
+pub struct Setting<'a> {
+    pub schema: &'a Schema,
+    pub fragment: Fragment<'a>,
+    pub sites: &'a Sites<'a>,
 }

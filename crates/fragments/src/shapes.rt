@@ -8,7 +8,7 @@ ghost use Rattle.fragments.specs.Sites as sites;
 
 use crate::counting::is_while;
 use crate::setting::Setting;
-use crate::sites::{Site, place_where};
+use crate::sites::{Site, Sites, place_where};
 use java_ast::{Expr, ExprNode, JTy, Stmt, StmtNode};
 use qbs_base::{Scalar, Span};
 
@@ -84,10 +84,10 @@ fn is_after_flag(s: Option<&Stmt>) -> bool
 }
 
 #[tactic(auto, using(crate::proofs::Rounds::rounds))]
-fn is_while_site(all: &[Site], n: usize) -> bool
+fn is_while_site(all: &Sites, n: usize) -> bool
     ensures { result ≡ specs.is_while_site (slice_get (map site_of all.now) n) }
 {
-    match all.get(n) {
+    match all.as_slice().get(n) {
         None => false,
         Some(s) => is_while(s.statement),
     }
@@ -105,7 +105,7 @@ pub fn innermost(loops: &[usize]) -> Option<usize>
 }
 
 // The innermost loop of some is one that counts.
-fn is_counted(all: &[Site], n: Option<usize>) -> bool
+fn is_counted(all: &Sites, n: Option<usize>) -> bool
     ensures { result ≡ specs.is_counted (map site_of all.now) n }
 {
     match n {
@@ -115,7 +115,7 @@ fn is_counted(all: &[Site], n: Option<usize>) -> bool
 }
 
 #[tactic(auto, using(crate::proofs::Nodes::nodes))]
-fn is_allowed(all: &[Site], s: &Site, t: &Stmt) -> bool
+fn is_allowed(all: &Sites, s: &Site, t: &Stmt) -> bool
     ensures { result ≡ specs.is_allowed (map site_of all.now) (site_of s.now) (statement t.now) }
 {
     match &t.node {
@@ -142,7 +142,7 @@ fn is_allowed(all: &[Site], s: &Site, t: &Stmt) -> bool
 }
 
 #[tactic(auto, using(crate::proofs::Rounds::rounds))]
-fn broken_statement(all: &[Site], n: usize, s: &Site) -> Option<Span>
+fn broken_statement(all: &Sites, n: usize, s: &Site) -> Option<Span>
     ensures { result ≡ specs.broken_statement (map site_of all.now) n (site_of s.now) }
 {
     place_where(!is_allowed(all, s, s.statement), s.statement.span)
@@ -152,7 +152,7 @@ fn broken_statement(all: &[Site], n: usize, s: &Site) -> Option<Span>
 pub fn broken_statements(w: &Setting) -> Option<Span>
     ensures { result ≡ specs.broken_statements (setting_in_code w.now) }
 {
-    for (n, s) in w.sites.iter().enumerate() {
+    for (n, s) in w.sites.as_slice().iter().enumerate() {
         if let Some(at) = broken_statement(w.sites, n, s) {
             return Some(at);
         }

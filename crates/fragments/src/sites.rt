@@ -2,12 +2,21 @@
 ghost use Rattle.std.specs.Prelude.{◌≡◌, ◌++◌, ◌∷◌, [], OnOk, IfOk, map, length, Option, option_copied};
 ghost use Rattle.std.specs.Option.{option_map};
 ghost use Rattle.java_ast.specs.Reading.{expression, statement, statements};
+ghost use Rattle.fragments.specs.Bound.{bindings_of};
+ghost use Rattle.fragments.specs.Indexed.{passing, ends, updates_under};
+ghost use Rattle.fragments.specs.KernelConditions.{updates_flag_under};
+ghost use Rattle.fragments.specs.KernelStarts.{updates_name};
+ghost use Rattle.fragments.specs.KernelStatements.{updates_local};
 ghost use Rattle.fragments.specs.Reading.{test_of, round_of, site_of};
 ghost use Rattle.fragments.specs.Sites as specs;
 
+use crate::bindings::Binding;
+use crate::groups::{ByName, ByNumber, NumberSet};
+use crate::marks::{binders_of, breaks_of, flags_of, guards_of, unders_of, updates_of};
 use java_ast::{Expr, Stmt, StmtNode};
-use qbs_base::{Items, NoMemory, Span};
+use qbs_base::{Items, Name, NoMemory, Span};
 use std::alloc::Global;
+use std::marker::Model;
 
 /// An `if` round a place: its number among the sites, how many loops stand round it, its condition,
 /// and whether the place is in the branch where that holds.
@@ -35,7 +44,110 @@ pub struct Site<'a> {
     pub previous: Option<&'a Stmt>,
 }
 
-pub type Sites<'a> = Items<Site<'a>>;
+/// The statements of a loop in text order, as which contracts see them, with what is found of them at once: what they
+/// bind names to, the updates of each name and each flag, the `break`s of each loop, the updates under each `if`, and
+/// the `if`s round a flag's update.
+#[derive(Drop)]
+pub struct Sites<'a> {
+    list: Items<Site<'a>>,
+    binders: ByName<'a, Binding>,
+    updates: ByName<'a, usize>,
+    flags: ByNumber,
+    breaks: ByNumber,
+    unders: ByNumber,
+    guards: NumberSet,
+}
+
+impl<'a> Model for Sites<'a> {
+    ghost use Rattle.std.specs.Prelude.{List, map};
+    ghost use Rattle.fragments.specs.declared.sites.Site.{Site};
+    ghost use Rattle.std.specs.Coded.{codes};
+    ghost use Rattle.java_ast.specs.contracts.tree.StmtNode as statements;
+    ghost use Rattle.java_ast.specs.contracts.tree.ExprNode as expressions;
+
+    ghost Value = { List Site };
+
+    ghost coded = { Prim.hlevel (codes, statements.the_row.coded, expressions.the_row.coded) };
+
+    ghost use Rattle.fragments.specs.Indexed.{IsIndex};
+    ghost use Rattle.fragments.specs.Reading.{site_of};
+
+    ghost view = { λ s. s.list };
+
+    ghost invariant = { λ s. IsIndex s.binders s.updates s.flags s.breaks s.unders s.guards (map site_of s.list) };
+}
+
+impl<'a> Sites<'a> {
+    fn new(alloc: Global, list: Items<Site<'a>>) -> Result<Sites<'a>, NoMemory>
+        ensures { IfOk result (λ s. s ≡ list.entry) }
+    {
+        let all = list.as_slice();
+        let binders = binders_of(alloc, all)?;
+        let updates = updates_of(alloc, all)?;
+        let flags = flags_of(alloc, all, &binders)?;
+        let breaks = breaks_of(alloc, all)?;
+        let unders = unders_of(alloc, all)?;
+        let guards = guards_of(alloc, all, &binders)?;
+        Ok(Sites {
+            list,
+            binders,
+            updates,
+            flags,
+            breaks,
+            unders,
+            guards,
+        })
+    }
+
+    /// The sites, lent in order.
+    pub fn as_slice(&self) -> &[Site<'a>]
+        ensures { result.now ≡ self.now }
+    {
+        self.list.as_slice()
+    }
+
+    /// What the sites bind a name to, in their order. Like the other look-ups it takes one hash.
+    pub fn bindings(&self, name: &Name) -> &[Binding]
+        ensures { result.now ≡ bindings_of name.now 0 (map site_of self.now) }
+    {
+        self.binders.of(name)
+    }
+
+    /// The sites that update a name.
+    pub fn updates(&self, name: &Name) -> &[usize]
+        ensures { result.now ≡ passing (updates_name name.now) 0 (map site_of self.now) }
+    {
+        self.updates.of(name)
+    }
+
+    /// The sites that update the local variable that is declared at this number.
+    pub fn flag_updates(&self, d: usize) -> &[usize]
+        ensures { result.now ≡ passing (updates_local (map site_of self.now) d) 0 (map site_of self.now) }
+    {
+        self.flags.of(d)
+    }
+
+    /// The `break`s of a loop.
+    pub fn breaks(&self, number: usize) -> &[usize]
+        ensures { result.now ≡ passing (ends number) 0 (map site_of self.now) }
+    {
+        self.breaks.of(number)
+    }
+
+    /// The updates in a branch of this `if`, or further down in one.
+    pub fn updates_under(&self, number: usize) -> &[usize]
+        ensures { result.now ≡ passing (updates_under number) 0 (map site_of self.now) }
+    {
+        self.unders.of(number)
+    }
+
+    /// Whether the update of a local variable stands in a branch of this `if`.
+    pub fn is_round_flag(&self, number: usize) -> bool
+        ensures { result ≡ specs.any_site (updates_flag_under (map site_of self.now) number) 0 (map site_of self.now) }
+    {
+        self.guards.has(number)
+    }
+}
 
 fn copy_round<'a>(alloc: Global, r: &Round<'a>) -> Result<Round<'a>, NoMemory>
     ensures { IfOk result (λ c. round_of c ≡ round_of r.now) }
@@ -78,7 +190,7 @@ fn push_site<'a>(
     r: &Round<'a>,
     previous: Option<&'a Stmt>,
     s: &'a Stmt,
-    met: &mut Sites<'a>,
+    met: &mut Items<Site<'a>>,
 ) -> Result<(), NoMemory>
     ensures { OnOk result (map site_of met.new ≡ specs.with_site (map site_of met.old) (round_of r.now) (option_map (λ p. statement p.now) previous.entry) (statement s.now)) }
 {
@@ -97,7 +209,7 @@ fn walk<'a>(
     r: &Round<'a>,
     previous: Option<&'a Stmt>,
     s: &'a Stmt,
-    met: &mut Sites<'a>,
+    met: &mut Items<Site<'a>>,
 ) -> Result<(), NoMemory>
     ensures { OnOk result (map site_of met.new ≡ specs.walk (round_of r.now) (option_map (λ p. statement p.now) previous.entry) (statement s.now) (map site_of met.old)) }
 {
@@ -143,7 +255,7 @@ fn walk_all<'a>(
     alloc: Global,
     r: &Round<'a>,
     block: &'a [Stmt],
-    met: &mut Sites<'a>,
+    met: &mut Items<Site<'a>>,
 ) -> Result<(), NoMemory>
     ensures { OnOk result (map site_of met.new ≡ specs.walk_all (round_of r.now) None (statements block.now) (map site_of met.old)) }
 {
@@ -172,7 +284,7 @@ pub fn sites_of<'a>(
     push_site(alloc, &outside, None, looped, &mut met)?;
     let inner = in_loop(alloc, &outside, 0)?;
     walk_all(alloc, &inner, body, &mut met)?;
-    Ok(met)
+    Sites::new(alloc, met)
 }
 
 /// A place, where something holds.

@@ -1,50 +1,59 @@
 // What accumulators and flags start with.
-ghost use Rattle.std.specs.Prelude.{◌≡◌, ◌&&◌, IfOk, not, option_copied, map};
+ghost use Rattle.std.specs.Prelude.{◌≡◌, ◌&&◌, IfOk, not, option_copied, map, slice_get};
 ghost use Rattle.std.specs.List.{filter, list_any};
 ghost use Rattle.std.specs.Option.{option_map};
 ghost use Rattle.qbs_base.specs.Scalar.{scalar_same};
 ghost use Rattle.qbs_base.specs.declared.scalar.Scalar.TheVariants as scalars;
 ghost use Rattle.java_ast.specs.Reading.{expression, statement, statements};
 ghost use Rattle.fragments.specs.Fragment as fragment;
+ghost use Rattle.fragments.specs.Indexed.{form_there, form_of_first as of_first};
 ghost use Rattle.fragments.specs.KernelStarts as specs;
 ghost use Rattle.fragments.specs.Reading.{form_in_code, fragment_in_code, names_lent, setting_in_code, site_of};
 ghost use Rattle.fragments.specs.Setting as setting;
 ghost use Rattle.fragments.specs.Sites as sites;
 
-use crate::bindings::is_name;
 use crate::counting::is_literal_zero;
 use crate::forms::{Form, form_of};
 use crate::names::touches;
 use crate::runs::{behind_number, first_touching, given_by};
 use crate::setting::Setting;
-use crate::sites::{Site, place_where};
-use crate::updates::{first_place, is_none, target_of, updates_local};
+use crate::sites::{Site, Sites, place_where};
+use crate::updates::{first_place, is_none};
 use java_ast::{Expr, ExprNode, Stmt, StmtNode};
 use qbs_base::{Items, Name, NoMemory, Scalar, Span};
 use std::alloc::Global;
 
+#[tactic(auto, using(crate::proofs::Rounds::rounds))]
+fn form_at<'a>(all: &Sites<'a>, n: usize) -> Form<'a>
+    ensures { form_in_code result ≡ form_there (map site_of all.now) n (slice_get (map site_of all.now) n) }
+{
+    match all.as_slice().get(n) {
+        None => Form::Other,
+        Some(s) => form_of(all, n, s.statement),
+    }
+}
+
+fn form_of_first<'a>(all: &Sites<'a>, updates: &[usize]) -> Form<'a>
+    ensures { form_in_code result ≡ of_first (map site_of all.now) updates.now }
+{
+    match updates.split_first() {
+        None => Form::Other,
+        Some((n, _)) => form_at(all, *n),
+    }
+}
+
 /// The form of the update of an accumulator.
-pub fn form_of_name<'a>(all: &[Site<'a>], x: &Name) -> Form<'a>
+pub fn form_of_name<'a>(all: &Sites<'a>, x: &Name) -> Form<'a>
     ensures { form_in_code result ≡ specs.form_found (map site_of all.now) (specs.update_of (map site_of all.now) x.now) }
 {
-    for (n, s) in all.iter().enumerate() {
-        if is_name(target_of(s.statement), x) {
-            return form_of(all, n, s.statement);
-        }
-    }
-    Form::Other
+    form_of_first(all, all.updates(x))
 }
 
 /// The form of the update of the flag that is declared at this number.
-pub fn form_of_flag<'a>(all: &[Site<'a>], d: usize) -> Form<'a>
+pub fn form_of_flag<'a>(all: &Sites<'a>, d: usize) -> Form<'a>
     ensures { form_in_code result ≡ specs.form_found (map site_of all.now) (specs.update_of_flag (map site_of all.now) d) }
 {
-    for (n, s) in all.iter().enumerate() {
-        if updates_local(all, d, n, s) {
-            return form_of(all, n, s.statement);
-        }
-    }
-    Form::Other
+    form_of_first(all, all.flag_updates(d))
 }
 
 fn is_empty_collection(e: &Expr) -> bool
@@ -126,14 +135,14 @@ fn is_touched(x: &Name, run: &[Stmt]) -> bool
 }
 
 // A statement of a run starts an accumulator: nothing behind it mentions that.
-fn starts(all: &[Site], s: &Stmt, behind: &[Stmt], x: &Name) -> bool
+fn starts(all: &Sites, s: &Stmt, behind: &[Stmt], x: &Name) -> bool
     ensures { result ≡ specs.starts (map site_of all.now) (statement s.now) (statements behind.now) x.now }
 {
     may_start_so(form_of_name(all, x), given_by(x, s)) && !is_touched(x, behind)
 }
 
 // A statement mentions one of these accumulators and doesn't start it.
-fn spoils_one(all: &[Site], s: &Stmt, behind: &[Stmt], xs: &[&Name]) -> bool
+fn spoils_one(all: &Sites, s: &Stmt, behind: &[Stmt], xs: &[&Name]) -> bool
     ensures { result ≡ list_any (λ x. setting.touches x (statement s.now) && not (specs.starts (map site_of all.now) (statement s.now) (statements behind.now) x)) (names_lent xs.now) }
 {
     for x in xs {
@@ -161,7 +170,7 @@ fn untouched<'a>(alloc: Global, s: &Stmt, xs: &[&'a Name]) -> Result<Items<&'a N
 #[tactic(auto, using(crate::proofs::Rounds::rounds))]
 fn broken_starts_of(
     alloc: Global,
-    all: &[Site],
+    all: &Sites,
     at: Span,
     accs: &[&Name],
     run: &[Stmt],
@@ -180,7 +189,7 @@ fn broken_starts_of(
 }
 
 #[tactic(auto, using(crate::proofs::Nodes::nodes))]
-fn starts_flag(all: &[Site], d: usize, s: &Stmt) -> bool
+fn starts_flag(all: &Sites, d: usize, s: &Stmt) -> bool
     ensures { result ≡ specs.starts_flag (map site_of all.now) d (statement s.now) }
 {
     match &s.node {
@@ -194,16 +203,16 @@ fn starts_flag(all: &[Site], d: usize, s: &Stmt) -> bool
 }
 
 #[tactic(auto, using(crate::proofs::Rounds::rounds))]
-fn broken_flag_start(all: &[Site], d: usize, s: &Site) -> Option<Span>
+fn broken_flag_start(all: &Sites, d: usize, s: &Site) -> Option<Span>
     ensures { result ≡ specs.broken_flag_start (map site_of all.now) d (site_of s.now) }
 {
     place_where(!starts_flag(all, d, s.statement), s.statement.span)
 }
 
-fn first_flag_start(all: &[Site]) -> Option<Span>
+fn first_flag_start(all: &Sites) -> Option<Span>
     ensures { result ≡ sites.first_broken (specs.broken_flag_start (map site_of all.now)) 0 (map site_of all.now) }
 {
-    for (d, s) in all.iter().enumerate() {
+    for (d, s) in all.as_slice().iter().enumerate() {
         if let Some(at) = broken_flag_start(all, d, s) {
             return Some(at);
         }
@@ -215,9 +224,9 @@ fn first_flag_start(all: &[Site]) -> Option<Span>
 /// where none mentions one, and then the first flag that isn't declared with the opposite of its update.
 #[tactic(auto, using(crate::proofs::Rounds::rounds))]
 pub fn broken_starts(alloc: Global, w: &Setting, accs: &[&Name]) -> Result<Option<Span>, NoMemory>
-    requires { names_lent accs.now ≡ fragment.accumulators (fragment_in_code w.now) }
+    requires { names_lent accs.now ≡ fragment.accumulators (fragment_in_code w.now.fragment) }
     ensures { IfOk result (λ o. o ≡ specs.broken_starts (setting_in_code w.now)) }
 {
-    let first = broken_starts_of(alloc, w.sites, w.looped.span, accs, w.run)?;
+    let first = broken_starts_of(alloc, w.sites, w.fragment.looped.span, accs, w.fragment.run)?;
     Ok(first_place(first, first_flag_start(w.sites)))
 }

@@ -1,35 +1,48 @@
 // How often variables are updated in a loop.
-ghost use Rattle.std.specs.Prelude.{◌≡◌, ◌<◌, ◌^◌, ◌≤◌, IfOk, option_copied, map, take, length};
-ghost use Rattle.std.specs.List.{filter};
+ghost use Rattle.std.specs.Prelude.{◌≡◌, ◌<◌, ◌^◌, ◌≤◌, IfOk, nat_lt, option_copied, map};
+ghost use Rattle.std.specs.List.{filter, list_any};
 ghost use Rattle.std.specs.Option.{option_map};
 ghost use Rattle.java_ast.specs.Reading.{statement};
 ghost use Rattle.fragments.specs.Fragment as fragment;
+ghost use Rattle.fragments.specs.Indexed.{is_other, ends_elsewhere, repeated_by, repeated_name};
 ghost use Rattle.fragments.specs.KernelStatements as specs;
+ghost use Rattle.fragments.specs.Listed.{IsListed};
 ghost use Rattle.fragments.specs.Reading.{fragment_in_code, names_lent, site_of, setting_in_code};
 ghost use Rattle.fragments.specs.Sites as sites;
 
-use crate::bindings::{Binding, binding_at, first_sites, same_binding};
-use crate::names::same_name;
-use crate::runs::is_live;
-use crate::setting::Setting;
-use crate::shapes::innermost;
-use crate::sites::{Site, place_where};
+use crate::bindings::{Binding, binding_at, same_binding};
+use crate::mentioned::put_all_mentioned;
+use crate::name_list::NameList;
+use crate::setting::{Fragment, Setting};
+use crate::sites::{Site, Sites, place_where};
 use java_ast::{Stmt, StmtNode};
 use qbs_base::{Items, Name, NoMemory, Span};
 use std::alloc::Global;
+
+// Whether a variable is visible before the run, or among those that are mentioned behind the loop.
+#[tactic(auto, using(crate::proofs::Sets::sets))]
+fn is_live_beside(f: &Fragment, mentioned: &NameList, x: &Name) -> bool
+    requires listed { IsListed mentioned.now }
+    requires names { names_lent mentioned.now.names ≡ fragment.mentioned_behind (fragment_in_code f.now) }
+    ensures { result ≡ fragment.is_live (fragment_in_code f.now) x.now }
+{
+    f.visible.has(x) || mentioned.seen.has(x)
+}
 
 /// The live ones of some accumulators.
 #[tactic(auto, using(crate::proofs::Kept::kept))]
 pub fn live_among<'a>(
     alloc: Global,
-    w: &Setting,
+    f: &Fragment,
     names: &[&'a Name],
 ) -> Result<Items<&'a Name>, NoMemory>
-    ensures { IfOk result (λ r. names_lent r ≡ filter (fragment.is_live (fragment_in_code w.now)) (names_lent names.now)) }
+    ensures { IfOk result (λ r. names_lent r ≡ filter (fragment.is_live (fragment_in_code f.now)) (names_lent names.now)) }
 {
+    let mut mentioned = NameList::new(alloc);
+    put_all_mentioned(f.behind, &mut mentioned)?;
     let mut live = Items::new(alloc);
     for x in names {
-        if is_live(w, x) {
+        if is_live_beside(f, &mentioned, x) {
             live.push(*x)?;
         }
     }
@@ -58,7 +71,7 @@ pub fn is_update(s: &Stmt) -> bool
 }
 
 /// What a target is bound to at a site.
-pub fn target_bound(all: &[Site], n: usize, x: Option<&Name>) -> Binding
+pub fn target_bound(all: &Sites, n: usize, x: Option<&Name>) -> Binding
     ensures { result ≡ specs.target_bound (map site_of all.now) n (option_copied x.entry) }
 {
     match x {
@@ -67,129 +80,8 @@ pub fn target_bound(all: &[Site], n: usize, x: Option<&Name>) -> Binding
     }
 }
 
-fn same_target(x: Option<&Name>, b: Binding, y: Option<&Name>, c: Binding) -> bool
-    ensures { result ≡ specs.same_target (option_copied x.entry) b (option_copied y.entry) c }
-{
-    match (x, y) {
-        (Some(x), Some(y)) => same_name(x, y) && same_binding(b, c),
-        _ => false,
-    }
-}
-
-fn share_target(all: &[Site], n: usize, s: &Site, m: usize, t: &Site) -> bool
-    ensures { result ≡ specs.share_target (map site_of all.now) n (site_of s.now) m (site_of t.now) }
-{
-    let x = target_of(s.statement);
-    let y = target_of(t.statement);
-    same_target(x, target_bound(all, n, x), y, target_bound(all, m, y))
-}
-
-fn is_row(b: Binding) -> bool
-    ensures { result ≡ specs.is_row b }
-{
-    match b {
-        Binding::Row(_) => true,
-        _ => false,
-    }
-}
-
-fn shares_with_one(all: &[Site], n: usize, s: &Site, before: &[Site]) -> bool
-    ensures { result ≡ sites.any_site (λ m t. specs.share_target (map site_of all.now) n (site_of s.now) m t) 0 (map site_of before.now) }
-{
-    for (m, t) in before.iter().enumerate() {
-        if share_target(all, n, s, m, t) {
-            return true;
-        }
-    }
-    false
-}
-
-fn is_repeated(all: &[Site], n: usize, s: &Site) -> bool
-    ensures { result ≡ specs.is_repeated (map site_of all.now) n (site_of s.now) }
-{
-    !is_row(target_bound(all, n, target_of(s.statement)))
-        && shares_with_one(all, n, s, first_sites(all, n))
-}
-
-#[tactic(auto, using(crate::proofs::Nodes::nodes))]
-fn is_break(s: &Stmt) -> bool
-    ensures { result ≡ specs.is_break (statement s.now) }
-{
-    match &s.node {
-        StmtNode::Break => true,
-        _ => false,
-    }
-}
-
-/// Whether a number is among numbers.
-pub fn has_number(numbers: &[usize], n: usize) -> bool
-    ensures { result ≡ sites.has_number numbers.now n }
-{
-    for m in numbers {
-        if n == *m {
-            return true;
-        }
-    }
-    false
-}
-
-fn is_innermost_of(loops: &[usize], n: Option<usize>) -> bool
-    ensures { result ≡ specs.is_innermost_of loops.now n }
-{
-    match n {
-        None => false,
-        Some(n) => has_number(loops, n),
-    }
-}
-
-// The site stands in a loop that this `break` ends, and isn't what stands directly before it.
-fn is_beside_break(n: usize, s: &Site, m: usize, t: &Site) -> bool
-    requires { n < 2 ^ 63 }
-    ensures { result ≡ specs.is_beside_break n (site_of s.now) m (site_of t.now) }
-{
-    is_break(t.statement)
-        && (is_innermost_of(
-            s.round.loops.as_slice(),
-            innermost(t.round.loops.as_slice()),
-        ) && n + 1 != m)
-}
-
-fn is_beside_some_break(all: &[Site], n: usize, s: &Site) -> bool
-    requires { n < 2 ^ 63 }
-    ensures { result ≡ specs.is_beside_some_break (map site_of all.now) n (site_of s.now) }
-{
-    for (m, t) in all.iter().enumerate() {
-        if is_beside_break(n, s, m, t) {
-            return true;
-        }
-    }
-    false
-}
-
-#[tactic(auto, using(crate::proofs::Rounds::rounds))]
-fn broken_update(all: &[Site], n: usize, s: &Site) -> Option<Span>
-    requires { n < 2 ^ 63 }
-    ensures { result ≡ specs.broken_update (map site_of all.now) n (site_of s.now) }
-{
-    place_where(
-        is_update(s.statement) && (is_repeated(all, n, s) || is_beside_some_break(all, n, s)),
-        s.statement.span,
-    )
-}
-
-fn first_broken_update(all: &[Site]) -> Option<Span>
-    ensures { result ≡ sites.first_broken (specs.broken_update (map site_of all.now)) 0 (map site_of all.now) }
-{
-    for (n, s) in all.iter().enumerate() {
-        if let Some(at) = broken_update(all, n, s) {
-            return Some(at);
-        }
-    }
-    None
-}
-
 /// Whether a site updates the local variable that is declared at this number.
-pub fn updates_local(all: &[Site], d: usize, n: usize, s: &Site) -> bool
+pub fn updates_local(all: &Sites, d: usize, n: usize, s: &Site) -> bool
     ensures { result ≡ specs.updates_local (map site_of all.now) d n (site_of s.now) }
 {
     is_update(s.statement)
@@ -199,15 +91,117 @@ pub fn updates_local(all: &[Site], d: usize, n: usize, s: &Site) -> bool
         )
 }
 
-fn is_updated(all: &[Site], d: usize) -> bool
-    ensures { result ≡ sites.any_site (specs.updates_local (map site_of all.now) d) 0 (map site_of all.now) }
+/// Whether a statement is a `break`.
+#[tactic(auto, using(crate::proofs::Nodes::nodes))]
+pub fn is_break(s: &Stmt) -> bool
+    ensures { result ≡ specs.is_break (statement s.now) }
 {
-    for (n, s) in all.iter().enumerate() {
-        if updates_local(all, d, n, s) {
+    match &s.node {
+        StmtNode::Break => true,
+        _ => false,
+    }
+}
+
+/// Whether one of some numbers is below this one.
+pub fn some_below(numbers: &[usize], n: usize) -> bool
+    ensures { result ≡ list_any (λ m. nat_lt m n) numbers.now }
+{
+    for m in numbers {
+        if *m < n {
             return true;
         }
     }
     false
+}
+
+// An update before a site sets a name that is bound there as here.
+fn is_repeated_name(all: &Sites, n: usize, x: &Name, b: Binding) -> bool
+    ensures { result ≡ repeated_by (map site_of all.now) n x.now b }
+{
+    match b {
+        Binding::Row(_) => false,
+        Binding::Local(d) => some_below(all.flag_updates(d), n),
+        Binding::Outer => some_below(all.updates(x), n),
+    }
+}
+
+fn is_repeated_target(all: &Sites, n: usize, x: Option<&Name>) -> bool
+    ensures { result ≡ repeated_name (map site_of all.now) n (option_copied x.entry) }
+{
+    match x {
+        None => false,
+        Some(x) => is_repeated_name(all, n, x, binding_at(all, n, x)),
+    }
+}
+
+fn is_repeated(all: &Sites, n: usize, s: &Site) -> bool
+    ensures { result ≡ specs.is_repeated (map site_of all.now) n (site_of s.now) }
+{
+    is_repeated_target(all, n, target_of(s.statement))
+}
+
+/// Whether another number than n is among some. Where none is there twice, two of them are looked at.
+pub fn some_other(numbers: &[usize], n: usize) -> bool
+    ensures { result ≡ list_any (is_other n) numbers.now }
+{
+    for m in numbers {
+        if n != *m {
+            return true;
+        }
+    }
+    false
+}
+
+// A `break` ends one of these loops, and doesn't stand directly behind the site.
+#[tactic(auto, using(crate::proofs::Rounds::rounds))]
+fn some_ends_elsewhere(all: &Sites, n: usize, loops: &[usize]) -> bool
+    requires { n < 2 ^ 63 }
+    ensures { result ≡ list_any (ends_elsewhere (map site_of all.now) n) loops.now }
+{
+    for l in loops {
+        if some_other(all.breaks(*l), n + 1) {
+            return true;
+        }
+    }
+    false
+}
+
+fn is_beside_some_break(all: &Sites, n: usize, s: &Site) -> bool
+    requires { n < 2 ^ 63 }
+    ensures { result ≡ specs.is_beside_some_break (map site_of all.now) n (site_of s.now) }
+{
+    some_ends_elsewhere(all, n, s.round.loops.as_slice())
+}
+
+#[tactic(auto, using(crate::proofs::Rounds::rounds))]
+fn broken_update(all: &Sites, n: usize, s: &Site) -> Option<Span>
+    requires { n < 2 ^ 63 }
+    ensures { result ≡ specs.broken_update (map site_of all.now) n (site_of s.now) }
+{
+    place_where(
+        is_update(s.statement) && (is_repeated(all, n, s) || is_beside_some_break(all, n, s)),
+        s.statement.span,
+    )
+}
+
+fn first_broken_update(all: &Sites) -> Option<Span>
+    ensures { result ≡ sites.first_broken (specs.broken_update (map site_of all.now)) 0 (map site_of all.now) }
+{
+    for (n, s) in all.as_slice().iter().enumerate() {
+        if let Some(at) = broken_update(all, n, s) {
+            return Some(at);
+        }
+    }
+    None
+}
+
+fn is_updated(all: &Sites, d: usize) -> bool
+    ensures { result ≡ sites.any_site (specs.updates_local (map site_of all.now) d) 0 (map site_of all.now) }
+{
+    match all.flag_updates(d).split_first() {
+        None => false,
+        Some(_) => true,
+    }
 }
 
 /// Whether a statement is a declaration.
@@ -221,16 +215,16 @@ pub fn is_declaration(s: &Stmt) -> bool
     }
 }
 
-fn is_idle_flag(all: &[Site], d: usize, s: &Site) -> bool
+fn is_idle_flag(all: &Sites, d: usize, s: &Site) -> bool
     ensures { result ≡ specs.is_idle_flag (map site_of all.now) d (site_of s.now) }
 {
     is_declaration(s.statement) && !is_updated(all, d)
 }
 
-fn has_idle_flag(all: &[Site]) -> bool
+fn has_idle_flag(all: &Sites) -> bool
     ensures { result ≡ sites.any_site (specs.is_idle_flag (map site_of all.now)) 0 (map site_of all.now) }
 {
-    for (d, s) in all.iter().enumerate() {
+    for (d, s) in all.as_slice().iter().enumerate() {
         if is_idle_flag(all, d, s) {
             return true;
         }
@@ -262,11 +256,14 @@ pub fn first_place(a: Option<Span>, b: Option<Span>) -> Option<Span>
 /// was updated before, or that stands beside the one before a `break` of its loop.
 #[tactic(auto, using(crate::proofs::Rounds::rounds))]
 pub fn broken_updates(w: &Setting, needed: &[&Name]) -> Option<Span>
-    requires { names_lent needed.now ≡ fragment.needed_of (fragment_in_code w.now) }
+    requires { names_lent needed.now ≡ fragment.needed_of (fragment_in_code w.now.fragment) }
     ensures { result ≡ specs.broken_updates (setting_in_code w.now) }
 {
     first_place(
-        place_where(is_none(needed) || has_idle_flag(w.sites), w.looped.span),
+        place_where(
+            is_none(needed) || has_idle_flag(w.sites),
+            w.fragment.looped.span,
+        ),
         first_broken_update(w.sites),
     )
 }

@@ -1,0 +1,12 @@
+use Rattle.std.proofs.Common.{sym, subst}
+use Rattle.fragments.specs.Lowered.{names_read}
+use Rattle.fragments.specs.Reading.{exprs_lent, fragment_in_code}
+use Rattle.fragments.specs.Wanted.{AreWanted}
+use Rattle.fragments.proofs.KeptNumbers.{first_are_wanted}
+use Rattle.fragments.proofs.keeping.wanted_of.Goals as goal
+
+pub returns-clause-wanted : goal.returns-clause-wanted
+returns-clause-wanted c =
+    let f = fragment_in_code c.args.f.now in
+    let further = names_read (exprs_lent c.args.entries.now) in
+    c.in_ok-put_all_following.ensures.wanted further (subst (AreWanted f further) (sym c.in_ok-list.ensures.names) (first_are_wanted f further))

@@ -1,0 +1,66 @@
+use Rattle.std.proofs.Common.{◌≡◌, ℕ, List, Option, Some, None, true, subst}
+use Rattle.std.proofs.lemmas.Result.{IfOk-weaker, IfErr-weaker}
+use Rattle.qbs_base.specs.Values.{Schema}
+use Rattle.java_ast.specs.declared.tree.Program.{Program}
+use Rattle.java_ast.specs.Reading.{program}
+use Rattle.java_types.specs.Texts.{read_by}
+use Rattle.kernel_lang.specs.Typed.{is_typed}
+use Rattle.kernel_lang.specs.Whole.{fragment_of}
+use Rattle.fragments.specs.Kernel.{setting_at}
+use Rattle.fragments.specs.KeptStatements.{with_numbers}
+use Rattle.fragments.specs.Locating.{IsLocatedAt, IsFoundAt}
+use Rattle.fragments.specs.Lowers.{lowering_in_code, IsLowered, IsOutside, IsMeant}
+use Rattle.fragments.specs.Placing.{fragment_once_at}
+use Rattle.fragments.specs.Setting.{Setting}
+use Rattle.fragments.specs.Verdicts.{BreaksFirst, IsLoweredFrom}
+use Rattle.fragments.specs.declared.position.Located.{Located}
+use Rattle.fragments.proofs.KeptMeant.{lowered_is_meant}
+use Rattle.fragments.proofs.SettingThere.{setting_located, loop_is_found, located_may, located_lowered, located_fits, located_breaks}
+use Rattle.fragments.proofs.verdict.lower.Goals as goal
+
+pub unreachable-requires : goal.unreachable-requires
+unreachable-requires c =
+    let none : fragment_once_at c.args.path.now (program c.program.result.now) ≡ None = subst (IsFoundAt (Some c.args.schema.now) c.args.path.now (program c.program.result.now)) c.in-None.is c.in_ok-located.ensures in
+    loop_is_found c.args.schema.now c.args.path.now (program c.args.typed.now.program) c.requires.typed c.requires.loops (subst (λ (p : Program). fragment_once_at c.args.path.now (program p) ≡ None) c.program.ensures none)
+
+-- where the loop stands, from the facts that are known of what was found
+found_there : (schema : Schema) (path : List ℕ) (p q : Program) (o : Option Located) (l : Located) → p ≡ q → o ≡ Some l → IsFoundAt (Some schema) path (program p) o → IsLocatedAt (Some schema) path (program q) l
+found_there schema path p q o l same is found = subst (λ (z : Program). IsLocatedAt (Some schema) path (program z) l) same (subst (IsFoundAt (Some schema) path (program p)) is found)
+
+pub lower_located-requires : goal.lower_located-requires
+lower_located-requires c =
+    located_may c.args.schema.now c.args.path.now (program c.args.typed.now.program) c.in-Some.there c.requires.typed
+    (found_there c.args.schema.now c.args.path.now c.program.result.now c.args.typed.now.program c.in_ok-located.field-0 c.in-Some.there c.program.ensures c.in-Some.is c.in_ok-located.ensures)
+    c.args.typed.now.numbers
+
+pub returns-clause-lowered : goal.returns-clause-lowered
+returns-clause-lowered c =
+    IfOk-weaker c.lower_located.result (λ l. IsLoweredFrom (setting_located c.args.schema.now c.in-Some.there) c.in-Some.there.first (lowering_in_code l) l.first l.kept) (λ l. IsLowered c.args.schema.now (read_by c.args.schema.now) (program c.args.typed.now.program) c.args.path.now (lowering_in_code l) l.first l.kept)
+    (λ l. located_lowered c.args.schema.now c.args.path.now (program c.args.typed.now.program) c.in-Some.there c.requires.typed
+    (found_there c.args.schema.now c.args.path.now c.program.result.now c.args.typed.now.program c.in_ok-located.field-0 c.in-Some.there c.program.ensures c.in-Some.is c.in_ok-located.ensures)
+    (lowering_in_code l) l.first l.kept)
+    c.lower_located.ensures.lowered
+
+pub returns-clause-outside : goal.returns-clause-outside
+returns-clause-outside c =
+    IfErr-weaker c.lower_located.result (BreaksFirst (setting_located c.args.schema.now c.in-Some.there)) (IsOutside c.args.schema.now (read_by c.args.schema.now) (program c.args.typed.now.program) c.args.path.now)
+    (located_breaks c.args.schema.now c.args.path.now (program c.args.typed.now.program) c.in-Some.there c.requires.typed
+    (found_there c.args.schema.now c.args.path.now c.program.result.now c.args.typed.now.program c.in_ok-located.field-0 c.in-Some.there c.program.ensures c.in-Some.is c.in_ok-located.ensures))
+    c.lower_located.ensures.outside
+
+pub returns-clause-fits : goal.returns-clause-fits
+returns-clause-fits c =
+    IfOk-weaker c.lower_located.result (λ l. IsLoweredFrom (setting_located c.args.schema.now c.in-Some.there) c.in-Some.there.first (lowering_in_code l) l.first l.kept) (λ l. is_typed c.args.schema.now (fragment_of l.frag) ≡ true)
+    (λ l. located_fits c.args.schema.now c.args.path.now (program c.args.typed.now.program) c.in-Some.there c.requires.typed
+    (found_there c.args.schema.now c.args.path.now c.program.result.now c.args.typed.now.program c.in_ok-located.field-0 c.in-Some.there c.program.ensures c.in-Some.is c.in_ok-located.ensures)
+    c.args.typed.now.numbers (lowering_in_code l) l.first l.kept)
+    c.lower_located.ensures.lowered
+
+pub returns-clause-means : goal.returns-clause-means
+returns-clause-means c =
+    IfOk-weaker c.lower_located.result (λ l. IsLoweredFrom (setting_located c.args.schema.now c.in-Some.there) c.in-Some.there.first (lowering_in_code l) l.first l.kept) (λ l. (w : Setting) → setting_at c.args.schema.now (read_by c.args.schema.now) c.args.path.now (program c.args.typed.now.program) ≡ Some w → IsMeant c.args.schema.now (read_by c.args.schema.now) (program c.args.typed.now.program) c.args.path.now w (with_numbers l.kept l.first w.fragment.run))
+    (λ l k. lowered_is_meant c.args.schema.now (read_by c.args.schema.now) (program c.args.typed.now.program) c.args.path.now (lowering_in_code l) l.first l.kept c.requires.typed c.args.typed.now.numbers
+    (located_lowered c.args.schema.now c.args.path.now (program c.args.typed.now.program) c.in-Some.there c.requires.typed
+    (found_there c.args.schema.now c.args.path.now c.program.result.now c.args.typed.now.program c.in_ok-located.field-0 c.in-Some.there c.program.ensures c.in-Some.is c.in_ok-located.ensures)
+    (lowering_in_code l) l.first l.kept k))
+    c.lower_located.ensures.lowered

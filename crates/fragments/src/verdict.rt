@@ -1,0 +1,42 @@
+// Loops, lowered.
+ghost use Rattle.std.specs.Prelude.{◌≡◌, IfOk, IfErr, true};
+ghost use Rattle.java_ast.specs.Reading.{program as plain_program};
+ghost use Rattle.java_types.specs.Texts.{read_by};
+ghost use Rattle.java_mean.specs.WellTyped.{IsWellTyped};
+ghost use Rattle.kernel_lang.specs.Typed.{is_typed};
+ghost use Rattle.kernel_lang.specs.Whole.{fragment_of};
+ghost use Rattle.fragments.specs.Kernel.{setting_at};
+ghost use Rattle.fragments.specs.KeptStatements.{with_numbers};
+ghost use Rattle.fragments.specs.Lowers.{lowering_in_code, IsLowered, IsOutside, IsMeant};
+ghost use Rattle.fragments.specs.Setting.{Setting};
+ghost use Rattle.fragments.specs.Walking.{IsLoopOf};
+
+use crate::located::located;
+use crate::lowered::{Lowered, Outside};
+use crate::lowered_there::lower_located;
+use java_ast::Path;
+use java_types::Typed;
+use qbs_base::{Fail, NoMemory};
+use schema::Schema;
+use std::alloc::Global;
+
+/// The lowered fragment of a loop that has the kernel form. Otherwise the error is the rule that the loop breaks first, with
+/// the first place in the text that breaks it, or want of memory.
+pub fn lower(
+    alloc: Global,
+    schema: &Schema,
+    typed: &Typed,
+    path: &Path,
+) -> Result<Lowered, Fail<Outside>>
+    requires typed { IsWellTyped schema.now (read_by schema.now) (plain_program typed.now.program) }
+    requires loops { IsLoopOf (plain_program typed.now.program) path.now }
+    ensures lowered { IfOk result (λ l. IsLowered schema.now (read_by schema.now) (plain_program typed.now.program) path.now (lowering_in_code l) l.first l.kept) }
+    ensures outside { IfErr result (IsOutside schema.now (read_by schema.now) (plain_program typed.now.program) path.now) }
+    ensures fits { IfOk result (λ l. is_typed schema.now (fragment_of l.frag) ≡ true) }
+    ensures means { IfOk result (λ l. (w : Setting) → setting_at schema.now (read_by schema.now) path.now (plain_program typed.now.program) ≡ Some w → IsMeant schema.now (read_by schema.now) (plain_program typed.now.program) path.now w (with_numbers l.kept l.first w.fragment.run)) }
+{
+    match located(alloc, Some(schema), typed.program(), path)? {
+        None => unreachable!(),
+        Some(there) => lower_located(alloc, schema, &there),
+    }
+}
