@@ -1,4 +1,14 @@
 //! Examples that several crates take part in, computed.
 #![tactic(auto)]
 
+#[cfg(test)]
+mod class_rows;
 pub mod laws;
+#[cfg(test)]
+mod loop_rows;
+#[cfg(test)]
+mod loop_tests;
+#[cfg(test)]
+mod loops;
+#[cfg(test)]
+mod shown;
