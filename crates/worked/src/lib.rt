@@ -3,6 +3,8 @@
 
 #[cfg(test)]
 mod class_rows;
+#[cfg(test)]
+mod condition_rows;
 pub mod laws;
 #[cfg(test)]
 mod loop_rows;
@@ -12,3 +14,5 @@ mod loop_tests;
 mod loops;
 #[cfg(test)]
 mod shown;
+#[cfg(test)]
+mod update_rows;

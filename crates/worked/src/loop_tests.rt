@@ -1,10 +1,9 @@
 // What is said of loops is what was worked out by hand.
 use crate::class_rows::{FRAGMENTS, VERDICTS};
-use crate::loop_rows::{
-    BEST, CONDITIONS, COUNTING, COUNTS, FLAGS, FORMS, KNOWN, LISTS, NAMES, PLACES, STARTS,
-    STATEMENTS, UPDATES,
-};
+use crate::condition_rows::{CONDITIONS, COUNTS, FLAGS, KNOWN, STARTS};
+use crate::loop_rows::{COUNTING, LISTS, NAMES};
 use crate::loops::{Detail, said_of_loops};
+use crate::update_rows::{BEST, FORMS, PLACES, STATEMENTS, UPDATES};
 use qbs_base::NoMemory;
 use std::alloc::Global;
 use std::process::Abort;
