@@ -10,8 +10,6 @@ mod lexer;
 mod literals;
 mod piece;
 mod place;
-#[cfg(test)]
-mod tests;
 mod token;
 
 pub use lexer::lex;

@@ -6,7 +6,7 @@ use crate::token::{LexRule, TokenNode};
 
 /// What stands at the front of some bytes: white space or a comment of so many bytes, a token of
 /// so many bytes, or neither, because the byte after so many breaks a rule.
-#[derive(Debug, Drop)]
+#[derive(Drop)]
 pub enum Piece {
     Gap(usize),
     Token(TokenNode, usize),

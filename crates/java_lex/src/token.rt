@@ -3,7 +3,7 @@ use qbs_base::{Items, Name, Span, Text};
 use thiserror::Error;
 
 /// The tokens of a text in order, and the empty span at its end.
-#[derive(Debug, Drop)]
+#[derive(Drop)]
 pub struct Tokens {
     pub list: TokenList,
     pub end: Span,
@@ -12,7 +12,7 @@ pub struct Tokens {
 pub type TokenList = Items<Token>;
 
 /// A token and where it stands.
-#[derive(Debug, Drop)]
+#[derive(Drop)]
 pub struct Token {
     pub span: Span,
     pub node: TokenNode,
@@ -21,7 +21,7 @@ pub struct Token {
 /// What a token is. A reserved word is a `Word`. `long` is true where `L` was written behind the
 /// integer. A `Text` is what the literal stands for, its escapes read. A `Sign` has the bytes of one
 /// operator or mark of punctuation.
-#[derive(Clone, Debug, PartialEq, Eq, Drop)]
+#[derive(Clone, PartialEq, Eq, Drop)]
 pub enum TokenNode {
     Word(Name),
     Integer { value: i64, long: bool },

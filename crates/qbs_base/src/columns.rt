@@ -2,7 +2,7 @@
 use crate::{Items, Name, Ty};
 
 /// A column of a table.
-#[derive(Clone, Debug, Drop)]
+#[derive(Clone, Drop)]
 pub struct Column {
     pub name: Name,
     pub ty: Ty,
@@ -11,7 +11,7 @@ pub struct Column {
 pub type Columns = Items<Column>;
 
 /// A table of a schema: its name and its columns in order. A schema is a list of tables.
-#[derive(Clone, Debug, Drop)]
+#[derive(Clone, Drop)]
 pub struct Table {
     pub name: Name,
     pub columns: Columns,

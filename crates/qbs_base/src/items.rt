@@ -7,7 +7,7 @@ use std::marker::Model;
 
 /// A list of items, which contracts see as a list: neither its room nor its allocator is part of
 /// what it is. It is made from a `Vec` and gives it back without taking memory.
-#[derive(Clone, Debug, Drop)]
+#[derive(Clone, Drop)]
 pub struct Items<T> {
     items: Vec<T>,
 }

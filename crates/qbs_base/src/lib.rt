@@ -31,6 +31,3 @@ pub use sinks::{CleanSink, MemSink, RealSink, Sink, WriteAnswer};
 pub use span::Span;
 pub use status::Status;
 pub use texts::{Bytes, Name, Names, Text, Texts, Words};
-
-#[cfg(test)]
-mod tests;

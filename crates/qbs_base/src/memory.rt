@@ -18,7 +18,7 @@ impl<T: Drop> From<AllocFailed<T>> for NoMemory {
 }
 
 /// Why a call gave no value: a fault of its own kind, or want of memory.
-#[derive(Debug, Drop)]
+#[derive(Drop)]
 pub enum Fail<F> {
     Fault(F),
     NoMemory,

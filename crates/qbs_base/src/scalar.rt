@@ -5,7 +5,7 @@ use crate::{Items, Text};
 use std::cmp::Ordering;
 
 /// A value of a cell: a whole number of 64 bits, a truth value or a text.
-#[derive(Clone, Debug, PartialEq, Eq, Drop)]
+#[derive(Clone, PartialEq, Eq, Drop)]
 pub enum Scalar {
     Long(i64),
     Bool(bool),
@@ -43,7 +43,7 @@ pub type Numbers = Items<u64>;
 pub type NumberLists = Items<Numbers>;
 
 /// A row: its kind and its cells in the order of the columns.
-#[derive(Clone, Debug, Drop)]
+#[derive(Clone, Drop)]
 pub struct Row {
     pub kind: Kind,
     pub cells: Cells,
@@ -55,7 +55,7 @@ pub type RowLists = Items<Rows>;
 
 /// A value of the source language: a scalar, a row, or a list or set of rows. A list of scalars
 /// has rows of kind `Plain` with one cell.
-#[derive(Clone, Debug, Drop)]
+#[derive(Clone, Drop)]
 pub enum Value {
     One(Scalar),
     Whole(Row),

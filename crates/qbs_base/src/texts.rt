@@ -14,7 +14,7 @@ use std::marker::Model;
 pub type Bytes = Items<u8>;
 
 /// Bytes that are UTF-8.
-#[derive(Clone, Debug, Drop)]
+#[derive(Clone, Drop)]
 pub struct Text {
     items: String,
 }

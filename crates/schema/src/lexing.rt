@@ -134,7 +134,7 @@ fn keep(tokens: &mut Vec<Token>, at: Span, kind: Option<Kind>) -> Result<(), NoM
 }
 
 /// The tokens of a text in order, and the empty stretch at its end.
-#[derive(Debug, Drop)]
+#[derive(Drop)]
 pub struct Tokens {
     pub list: Vec<Token>,
     pub end: Span,

@@ -12,8 +12,6 @@ mod names;
 mod parsing;
 mod place;
 mod records;
-#[cfg(test)]
-mod tests;
 mod token;
 
 pub use fault::{DataFault, DataRule, SchemaFault, SchemaRule};

@@ -22,7 +22,7 @@ use std::alloc::Global;
 use std::marker::Model;
 
 /// The tables of a database in order, with their columns.
-#[derive(Debug, Drop)]
+#[derive(Drop)]
 pub struct Schema {
     tables: Tables,
 }

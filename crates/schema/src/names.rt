@@ -40,7 +40,7 @@ pub enum Role {
 }
 
 /// The names that stand before: those of the tables, and those of the columns of the last table.
-#[derive(Debug, Drop)]
+#[derive(Drop)]
 pub struct Seen {
     pub tables: Names,
     pub columns: Names,

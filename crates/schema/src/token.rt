@@ -13,7 +13,7 @@ pub enum Sign {
 
 /// What a token is. Keywords are words too. `Digits` is a run of decimal digits, and `Stray` a byte
 /// that begins no token.
-#[derive(Debug, Drop)]
+#[derive(Drop)]
 pub enum Kind {
     Word(Name),
     Digits,
@@ -22,7 +22,7 @@ pub enum Kind {
 }
 
 /// A token and where it stands.
-#[derive(Debug, Drop)]
+#[derive(Drop)]
 pub struct Token {
     pub kind: Kind,
     pub at: Span,

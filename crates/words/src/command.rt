@@ -31,7 +31,7 @@ pub enum Key {
 }
 
 /// What the options set. Each is set once at most.
-#[derive(Clone, Debug, Drop)]
+#[derive(Clone, Drop)]
 pub struct Options {
     pub size: Option<u64>,
     pub candidates: Option<u64>,
@@ -41,7 +41,7 @@ pub struct Options {
 }
 
 /// A command and what it names. Texts are names of files and folders as they were given.
-#[derive(Debug, Drop)]
+#[derive(Drop)]
 pub enum Command {
     Rewrite {
         options: Options,

@@ -6,6 +6,3 @@ mod read;
 
 pub use command::{Command, Key, Options, Verb};
 pub use read::read_words;
-
-#[cfg(test)]
-mod tests;
