@@ -1,6 +1,6 @@
--- The plain trees of statements with bodies, and their texts written part by part.
-use Rattle.std.specs.Prelude.{ℕ, List, ◌++◌, Vec, Option, Some, None}
-use Rattle.std.proofs.Common.{◌≡◌, ap, ◌∙◌, append_assoc, codes}
+-- The plain trees of statements with bodies.
+use Rattle.std.specs.Prelude.{ℕ, List, Vec, Option, Some, None}
+use Rattle.std.proofs.Common.{◌≡◌, ap, ◌∙◌}
 use Rattle.std.specs.declared.alloc.Global.{Global}
 use Rattle.java_ast.specs.declared.tree.JTy.{JTy}
 use Rattle.java_ast.specs.declared.tree.Expr.{Expr}
@@ -10,9 +10,7 @@ use Rattle.java_ast.specs.declared.tree.StmtNode.TheBlock.{hidden-the_row-Stmt-0
 use Rattle.java_ast.specs.Reading.{row_statements, spelled, expression, statement, statements, node_statement}
 use Rattle.java_ast.specs.Tree as plain
 use Rattle.java_ast.specs.Tree.{Statements}
-use Rattle.java_ast.specs.Canonical.{line_end, indent, braced, canonical_statements}
 use Rattle.java_ast.proofs.Rows.{statements_hidden}
-use Rattle.java_ast.proofs.Nodes.{in_three}
 
 pub if_is : (s : Stmt) (cond : Expr) (v : Vec Stmt Global) (o : Option (Vec Stmt Global)) → (out-Stmt s).node ≡ If cond v o → o ≡ None → statement s ≡ plain.If (out-Stmt s).span (expression cond) (statements v.items)
 if_is s cond v o is none = ap (λ n. node_statement n (out-Stmt s).span) (is ∙ ap (λ (p : Option (Vec Stmt Global)). If cond v p) none) ∙ ap (plain.If (out-Stmt s).span (expression cond)) (statements_hidden v)
@@ -28,21 +26,3 @@ for_each_is s ty name list v is = ap (λ n. node_statement n (out-Stmt s).span) 
 
 pub while_is : (s : Stmt) (cond : Expr) (v : Vec Stmt Global) → (out-Stmt s).node ≡ While cond v → statement s ≡ plain.While (out-Stmt s).span (expression cond) (statements v.items)
 while_is s cond v is = ap (λ n. node_statement n (out-Stmt s).span) is ∙ ap (plain.While (out-Stmt s).span (expression cond)) (statements_hidden v)
-
--- a head with a body
-abbrev body_text : List ℕ → List Stmt → List ℕ
-body_text margin ss = braced margin (canonical_statements (margin ++ indent) (statements ss))
-
-pub with_body : (old margin a b d new head : List ℕ) (lent items : List Stmt) → lent ≡ items → a ≡ old ++ margin → b ≡ a ++ head → d ≡ b ++ body_text margin lent → new ≡ d ++ line_end → new ≡ old ++ (((margin ++ head) ++ body_text margin items) ++ line_end)
-with_body old margin a b d new head lent items same first second third last =
-    in_three old b d new (margin ++ head) (body_text margin lent) line_end (second ∙ ap (λ (w : List ℕ). w ++ head) first ∙ append_assoc old margin head) third last
-    ∙ ap (λ (ss : List Stmt). old ++ (((margin ++ head) ++ body_text margin ss) ++ line_end)) same
-
-pub with_bodies : (old margin a b d e f new head : List ℕ) (lent items lent' items' : List Stmt) → lent ≡ items → lent' ≡ items' → a ≡ old ++ margin → b ≡ a ++ head → d ≡ b ++ body_text margin lent → e ≡ d ++ codes " else" → f ≡ e ++ body_text margin lent' → new ≡ f ++ line_end
-    → new ≡ old ++ (((((margin ++ head) ++ body_text margin items) ++ codes " else") ++ body_text margin items') ++ line_end)
-with_bodies old margin a b d e f new head lent items lent' items' same same' first second third fourth fifth last =
-    let up_to_else : e ≡ old ++ (((margin ++ head) ++ body_text margin lent) ++ codes " else") =
-    in_three old b d e (margin ++ head) (body_text margin lent) (codes " else") (second ∙ ap (λ (w : List ℕ). w ++ head) first ∙ append_assoc old margin head) third fourth in
-    in_three old e f new (((margin ++ head) ++ body_text margin lent) ++ codes " else") (body_text margin lent') line_end up_to_else fifth last
-    ∙ ap (λ (ss : List Stmt). old ++ (((((margin ++ head) ++ body_text margin ss) ++ codes " else") ++ body_text margin lent') ++ line_end)) same
-    ∙ ap (λ (ss : List Stmt). old ++ (((((margin ++ head) ++ body_text margin items) ++ codes " else") ++ body_text margin ss) ++ line_end)) same'

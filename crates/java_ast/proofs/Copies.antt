@@ -9,7 +9,7 @@ use Rattle.java_ast.specs.declared.tree.Stmt.{Stmt, out-Stmt}
 use Rattle.java_ast.specs.declared.tree.StmtNode.{If, ForEach, While}
 use Rattle.java_ast.specs.Reading.{spelled, expression, expressions, statement, statements}
 use Rattle.java_ast.specs.Tree as plain
-use Rattle.java_ast.specs.Tree.{Expression, Expressions, Statement, Statements, Spelled}
+use Rattle.java_ast.specs.Tree.{Expression, Statement, Statements}
 use Rattle.java_ast.proofs.Nodes.{query_is, query_long_is, query_boolean_is}
 use Rattle.java_ast.proofs.Bodies.{if_is, if_else_is, for_each_is, while_is}
 
@@ -21,56 +21,46 @@ pub statement_in_list : (xs : List Stmt) (c s : Stmt) (rest : List Stmt) → sta
 statement_in_list [] c s rest h = ap (λ (x : Statement). plain.Then x (statements rest)) h
 statement_in_list (x ∷ xs) c s rest h = ap (plain.Then (statement x)) (statement_in_list xs c s rest h)
 
-pub query_copied : (e r : Expr) (ty ty' : JTy) (text text' : List ℕ) (v v' : Vec Expr Global) (es : List Expr) → (out-Expr e).node ≡ Query ty text v → es ≡ v.items → expression r ≡ plain.Query (out-Expr e).span (spelled ty') text' (expressions v'.items) → spelled ty' ≡ spelled ty → text' ≡ text → expressions v'.items ≡ expressions es → expression r ≡ expression e
-query_copied e r ty ty' text text' v v' es is lent built hty htext hes =
+pub query_copied : (e r : Expr) (ty : JTy) (text : List ℕ) (v v' : Vec Expr Global) (es : List Expr) → (out-Expr e).node ≡ Query ty text v → es ≡ v.items → expression r ≡ plain.Query (out-Expr e).span (spelled ty) text (expressions v'.items) → expressions v'.items ≡ expressions es → expression r ≡ expression e
+query_copied e r ty text v v' es is lent built hes =
     built
-    ∙ ap (λ (x : Spelled). plain.Query (out-Expr e).span x text' (expressions v'.items)) hty
-    ∙ ap (λ (x : List ℕ). plain.Query (out-Expr e).span (spelled ty) x (expressions v'.items)) htext
     ∙ ap (plain.Query (out-Expr e).span (spelled ty) text) (hes ∙ ap expressions lent)
     ∙ sym (query_is e ty text v is)
 
-pub query_long_copied : (e r : Expr) (text text' : List ℕ) (v v' : Vec Expr Global) (es : List Expr) → (out-Expr e).node ≡ QueryLong text v → es ≡ v.items → expression r ≡ plain.QueryLong (out-Expr e).span text' (expressions v'.items) → text' ≡ text → expressions v'.items ≡ expressions es → expression r ≡ expression e
-query_long_copied e r text text' v v' es is lent built htext hes =
+pub query_long_copied : (e r : Expr) (text : List ℕ) (v v' : Vec Expr Global) (es : List Expr) → (out-Expr e).node ≡ QueryLong text v → es ≡ v.items → expression r ≡ plain.QueryLong (out-Expr e).span text (expressions v'.items) → expressions v'.items ≡ expressions es → expression r ≡ expression e
+query_long_copied e r text v v' es is lent built hes =
     built
-    ∙ ap (λ (x : List ℕ). plain.QueryLong (out-Expr e).span x (expressions v'.items)) htext
     ∙ ap (plain.QueryLong (out-Expr e).span text) (hes ∙ ap expressions lent)
     ∙ sym (query_long_is e text v is)
 
-pub query_boolean_copied : (e r : Expr) (text text' : List ℕ) (v v' : Vec Expr Global) (es : List Expr) → (out-Expr e).node ≡ QueryBoolean text v → es ≡ v.items → expression r ≡ plain.QueryBoolean (out-Expr e).span text' (expressions v'.items) → text' ≡ text → expressions v'.items ≡ expressions es → expression r ≡ expression e
-query_boolean_copied e r text text' v v' es is lent built htext hes =
+pub query_boolean_copied : (e r : Expr) (text : List ℕ) (v v' : Vec Expr Global) (es : List Expr) → (out-Expr e).node ≡ QueryBoolean text v → es ≡ v.items → expression r ≡ plain.QueryBoolean (out-Expr e).span text (expressions v'.items) → expressions v'.items ≡ expressions es → expression r ≡ expression e
+query_boolean_copied e r text v v' es is lent built hes =
     built
-    ∙ ap (λ (x : List ℕ). plain.QueryBoolean (out-Expr e).span x (expressions v'.items)) htext
     ∙ ap (plain.QueryBoolean (out-Expr e).span text) (hes ∙ ap expressions lent)
     ∙ sym (query_boolean_is e text v is)
 
 -- each body is what was lent, or what stands there in its place
-pub if_of : (s r : Stmt) (cond cond' : Expr) (v v' : Vec Stmt Global) (o : Option (Vec Stmt Global)) (ss : List Stmt) → (out-Stmt s).node ≡ If cond v o → o ≡ None → ss ≡ v.items → statement r ≡ plain.If (out-Stmt s).span (expression cond') (statements v'.items) → expression cond' ≡ expression cond → statements v'.items ≡ statements ss → statement r ≡ statement s
-if_of s r cond cond' v v' o ss is is_none lent built hcond hss =
+pub if_of : (s r : Stmt) (cond : Expr) (v v' : Vec Stmt Global) (o : Option (Vec Stmt Global)) (ss : List Stmt) → (out-Stmt s).node ≡ If cond v o → o ≡ None → ss ≡ v.items → statement r ≡ plain.If (out-Stmt s).span (expression cond) (statements v'.items) → statements v'.items ≡ statements ss → statement r ≡ statement s
+if_of s r cond v v' o ss is is_none lent built hss =
     built
-    ∙ ap (λ (x : Expression). plain.If (out-Stmt s).span x (statements v'.items)) hcond
     ∙ ap (plain.If (out-Stmt s).span (expression cond)) (hss ∙ ap statements lent)
     ∙ sym (if_is s cond v o is is_none)
 
-pub if_else_of : (s r : Stmt) (cond cond' : Expr) (v v' w w' : Vec Stmt Global) (o : Option (Vec Stmt Global)) (ss ts : List Stmt) → (out-Stmt s).node ≡ If cond v o → o ≡ Some w → ss ≡ v.items → ts ≡ w.items → statement r ≡ plain.IfElse (out-Stmt s).span (expression cond') (statements v'.items) (statements w'.items) → expression cond' ≡ expression cond → statements v'.items ≡ statements ss → statements w'.items ≡ statements ts → statement r ≡ statement s
-if_else_of s r cond cond' v v' w w' o ss ts is some lent lent' built hcond hss hts =
+pub if_else_of : (s r : Stmt) (cond : Expr) (v v' w w' : Vec Stmt Global) (o : Option (Vec Stmt Global)) (ss ts : List Stmt) → (out-Stmt s).node ≡ If cond v o → o ≡ Some w → ss ≡ v.items → ts ≡ w.items → statement r ≡ plain.IfElse (out-Stmt s).span (expression cond) (statements v'.items) (statements w'.items) → statements v'.items ≡ statements ss → statements w'.items ≡ statements ts → statement r ≡ statement s
+if_else_of s r cond v v' w w' o ss ts is some lent lent' built hss hts =
     built
-    ∙ ap (λ (x : Expression). plain.IfElse (out-Stmt s).span x (statements v'.items) (statements w'.items)) hcond
     ∙ ap (λ (x : Statements). plain.IfElse (out-Stmt s).span (expression cond) x (statements w'.items)) (hss ∙ ap statements lent)
     ∙ ap (plain.IfElse (out-Stmt s).span (expression cond) (statements v.items)) (hts ∙ ap statements lent')
     ∙ sym (if_else_is s cond v w o is some)
 
-pub for_each_of : (s r : Stmt) (ty ty' : JTy) (name name' : List ℕ) (list list' : Expr) (v v' : Vec Stmt Global) (ss : List Stmt) → (out-Stmt s).node ≡ ForEach ty name list v → ss ≡ v.items → statement r ≡ plain.ForEach (out-Stmt s).span (spelled ty') name' (expression list') (statements v'.items) → spelled ty' ≡ spelled ty → name' ≡ name → expression list' ≡ expression list → statements v'.items ≡ statements ss → statement r ≡ statement s
-for_each_of s r ty ty' name name' list list' v v' ss is lent built hty hname hlist hss =
+pub for_each_of : (s r : Stmt) (ty : JTy) (name : List ℕ) (list : Expr) (v v' : Vec Stmt Global) (ss : List Stmt) → (out-Stmt s).node ≡ ForEach ty name list v → ss ≡ v.items → statement r ≡ plain.ForEach (out-Stmt s).span (spelled ty) name (expression list) (statements v'.items) → statements v'.items ≡ statements ss → statement r ≡ statement s
+for_each_of s r ty name list v v' ss is lent built hss =
     built
-    ∙ ap (λ (x : Spelled). plain.ForEach (out-Stmt s).span x name' (expression list') (statements v'.items)) hty
-    ∙ ap (λ (x : List ℕ). plain.ForEach (out-Stmt s).span (spelled ty) x (expression list') (statements v'.items)) hname
-    ∙ ap (λ (x : Expression). plain.ForEach (out-Stmt s).span (spelled ty) name x (statements v'.items)) hlist
     ∙ ap (plain.ForEach (out-Stmt s).span (spelled ty) name (expression list)) (hss ∙ ap statements lent)
     ∙ sym (for_each_is s ty name list v is)
 
-pub while_of : (s r : Stmt) (cond cond' : Expr) (v v' : Vec Stmt Global) (ss : List Stmt) → (out-Stmt s).node ≡ While cond v → ss ≡ v.items → statement r ≡ plain.While (out-Stmt s).span (expression cond') (statements v'.items) → expression cond' ≡ expression cond → statements v'.items ≡ statements ss → statement r ≡ statement s
-while_of s r cond cond' v v' ss is lent built hcond hss =
+pub while_of : (s r : Stmt) (cond : Expr) (v v' : Vec Stmt Global) (ss : List Stmt) → (out-Stmt s).node ≡ While cond v → ss ≡ v.items → statement r ≡ plain.While (out-Stmt s).span (expression cond) (statements v'.items) → statements v'.items ≡ statements ss → statement r ≡ statement s
+while_of s r cond v v' ss is lent built hss =
     built
-    ∙ ap (λ (x : Expression). plain.While (out-Stmt s).span x (statements v'.items)) hcond
     ∙ ap (plain.While (out-Stmt s).span (expression cond)) (hss ∙ ap statements lent)
     ∙ sym (while_is s cond v is)

@@ -9,7 +9,7 @@ use Rattle.java_ast.specs.declared.tree.StmtNode.{If, ForEach, While}
 use Rattle.java_ast.specs.declared.tree.Method.{Method}
 use Rattle.java_ast.specs.Reading.{spelled, expression, statement, statements, method}
 use Rattle.java_ast.specs.Tree as plain
-use Rattle.java_ast.specs.Tree.{Expression, Statement, Statements, Nothing, Then, Spelled, PlainMethod, PlainProgram}
+use Rattle.java_ast.specs.Tree.{Statement, Statements, Nothing, Then, PlainMethod, PlainProgram}
 use Rattle.java_ast.specs.Path.{numbered, and_then, first_of, behind_of, with_range, with_numbered, with_branch, replaced_in, with_body, with_methods, with_method, replaced_at}
 use Rattle.java_ast.proofs.Bodies.{if_is, if_else_is, for_each_is, while_is}
 
@@ -87,34 +87,28 @@ not_placed path below rest at further n first others block is is_below found =
 abbrev chosen : Bool → (Statements → Statements) → List Stmt → Statements
 chosen b change ss = cond b (change (statements ss)) (statements ss)
 
-pub if_with : (s r : Stmt) (cond cond' : Expr) (v v' : Vec Stmt Global) (o : Option (Vec Stmt Global)) (ss : List Stmt) (b : ℕ) (change : Statements → Statements) → (out-Stmt s).node ≡ If cond v o → o ≡ None → ss ≡ v.items → statement r ≡ plain.If (out-Stmt s).span (expression cond') (statements v'.items) → expression cond' ≡ expression cond → statements v'.items ≡ chosen (b == 0) change ss → statement r ≡ with_branch b change (statement s)
-if_with s r cond cond' v v' o ss b change is is_none lent built hcond hss =
+pub if_with : (s r : Stmt) (cond : Expr) (v v' : Vec Stmt Global) (o : Option (Vec Stmt Global)) (ss : List Stmt) (b : ℕ) (change : Statements → Statements) → (out-Stmt s).node ≡ If cond v o → o ≡ None → ss ≡ v.items → statement r ≡ plain.If (out-Stmt s).span (expression cond) (statements v'.items) → statements v'.items ≡ chosen (b == 0) change ss → statement r ≡ with_branch b change (statement s)
+if_with s r cond v v' o ss b change is is_none lent built hss =
     built
-    ∙ ap (λ (x : Expression). plain.If (out-Stmt s).span x (statements v'.items)) hcond
     ∙ ap (plain.If (out-Stmt s).span (expression cond)) (hss ∙ ap (chosen (b == 0) change) lent)
     ∙ ap (with_branch b change) (sym (if_is s cond v o is is_none))
 
-pub if_else_with : (s r : Stmt) (cond cond' : Expr) (v v' w w' : Vec Stmt Global) (o : Option (Vec Stmt Global)) (ss ts : List Stmt) (b : ℕ) (change : Statements → Statements) → (out-Stmt s).node ≡ If cond v o → o ≡ Some w → ss ≡ v.items → ts ≡ w.items → statement r ≡ plain.IfElse (out-Stmt s).span (expression cond') (statements v'.items) (statements w'.items) → expression cond' ≡ expression cond → statements v'.items ≡ chosen (b == 0) change ss → statements w'.items ≡ chosen (b == 1) change ts → statement r ≡ with_branch b change (statement s)
-if_else_with s r cond cond' v v' w w' o ss ts b change is some lent lent' built hcond hss hts =
+pub if_else_with : (s r : Stmt) (cond : Expr) (v v' w w' : Vec Stmt Global) (o : Option (Vec Stmt Global)) (ss ts : List Stmt) (b : ℕ) (change : Statements → Statements) → (out-Stmt s).node ≡ If cond v o → o ≡ Some w → ss ≡ v.items → ts ≡ w.items → statement r ≡ plain.IfElse (out-Stmt s).span (expression cond) (statements v'.items) (statements w'.items) → statements v'.items ≡ chosen (b == 0) change ss → statements w'.items ≡ chosen (b == 1) change ts → statement r ≡ with_branch b change (statement s)
+if_else_with s r cond v v' w w' o ss ts b change is some lent lent' built hss hts =
     built
-    ∙ ap (λ (x : Expression). plain.IfElse (out-Stmt s).span x (statements v'.items) (statements w'.items)) hcond
     ∙ ap (λ (x : Statements). plain.IfElse (out-Stmt s).span (expression cond) x (statements w'.items)) (hss ∙ ap (chosen (b == 0) change) lent)
     ∙ ap (plain.IfElse (out-Stmt s).span (expression cond) (chosen (b == 0) change v.items)) (hts ∙ ap (chosen (b == 1) change) lent')
     ∙ ap (with_branch b change) (sym (if_else_is s cond v w o is some))
 
-pub for_each_with : (s r : Stmt) (ty ty' : JTy) (name name' : List ℕ) (list list' : Expr) (v v' : Vec Stmt Global) (ss : List Stmt) (b : ℕ) (change : Statements → Statements) → (out-Stmt s).node ≡ ForEach ty name list v → ss ≡ v.items → statement r ≡ plain.ForEach (out-Stmt s).span (spelled ty') name' (expression list') (statements v'.items) → spelled ty' ≡ spelled ty → name' ≡ name → expression list' ≡ expression list → statements v'.items ≡ chosen (b == 0) change ss → statement r ≡ with_branch b change (statement s)
-for_each_with s r ty ty' name name' list list' v v' ss b change is lent built hty hname hlist hss =
+pub for_each_with : (s r : Stmt) (ty : JTy) (name : List ℕ) (list : Expr) (v v' : Vec Stmt Global) (ss : List Stmt) (b : ℕ) (change : Statements → Statements) → (out-Stmt s).node ≡ ForEach ty name list v → ss ≡ v.items → statement r ≡ plain.ForEach (out-Stmt s).span (spelled ty) name (expression list) (statements v'.items) → statements v'.items ≡ chosen (b == 0) change ss → statement r ≡ with_branch b change (statement s)
+for_each_with s r ty name list v v' ss b change is lent built hss =
     built
-    ∙ ap (λ (x : Spelled). plain.ForEach (out-Stmt s).span x name' (expression list') (statements v'.items)) hty
-    ∙ ap (λ (x : List ℕ). plain.ForEach (out-Stmt s).span (spelled ty) x (expression list') (statements v'.items)) hname
-    ∙ ap (λ (x : Expression). plain.ForEach (out-Stmt s).span (spelled ty) name x (statements v'.items)) hlist
     ∙ ap (plain.ForEach (out-Stmt s).span (spelled ty) name (expression list)) (hss ∙ ap (chosen (b == 0) change) lent)
     ∙ ap (with_branch b change) (sym (for_each_is s ty name list v is))
 
-pub while_with : (s r : Stmt) (cond cond' : Expr) (v v' : Vec Stmt Global) (ss : List Stmt) (b : ℕ) (change : Statements → Statements) → (out-Stmt s).node ≡ While cond v → ss ≡ v.items → statement r ≡ plain.While (out-Stmt s).span (expression cond') (statements v'.items) → expression cond' ≡ expression cond → statements v'.items ≡ chosen (b == 0) change ss → statement r ≡ with_branch b change (statement s)
-while_with s r cond cond' v v' ss b change is lent built hcond hss =
+pub while_with : (s r : Stmt) (cond : Expr) (v v' : Vec Stmt Global) (ss : List Stmt) (b : ℕ) (change : Statements → Statements) → (out-Stmt s).node ≡ While cond v → ss ≡ v.items → statement r ≡ plain.While (out-Stmt s).span (expression cond) (statements v'.items) → statements v'.items ≡ chosen (b == 0) change ss → statement r ≡ with_branch b change (statement s)
+while_with s r cond v v' ss b change is lent built hss =
     built
-    ∙ ap (λ (x : Expression). plain.While (out-Stmt s).span x (statements v'.items)) hcond
     ∙ ap (plain.While (out-Stmt s).span (expression cond)) (hss ∙ ap (chosen (b == 0) change) lent)
     ∙ ap (with_branch b change) (sym (while_is s cond v is))
 

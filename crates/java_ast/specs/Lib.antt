@@ -1,4 +1,3 @@
-pub mod Canonical
 pub mod Path
 pub mod Reading
 pub mod Tree

@@ -2,10 +2,11 @@
 ghost use Rattle.std.specs.Prelude.{◌≡◌, ◌++◌, OnOk, IfOk, map};
 ghost use Rattle.std.specs.Option.{option_map};
 ghost use Rattle.java_ast.specs.Reading.{spelled, expression, expressions, statement, statements, param};
+ghost use Rattle.java_ast.specs.Tree as plain;
 
 use crate::build::{for_each, if_else, if_only, query, query_boolean, query_long, while_loop};
 use crate::{Expr, ExprNode, JTy, Param, Params, Stmt, StmtNode};
-use qbs_base::{Bools, Name, Names, NoMemory, Text};
+use qbs_base::{Bools, Name, Names, NoMemory, Scalar, Span, Text};
 use std::alloc::Global;
 
 pub fn copy_text(text: &Text) -> Result<Text, NoMemory>
@@ -85,75 +86,128 @@ pub fn copy_params(alloc: Global, params: &[Param]) -> Result<Params, NoMemory>
     Ok(all)
 }
 
+fn copy_literal(span: Span, value: &Scalar) -> Result<Expr, NoMemory>
+    ensures { IfOk result (λ c. expression c ≡ plain.Lit span value.now) }
+{
+    let node = ExprNode::Lit(value.clone()?);
+    Ok(Expr { span, node })
+}
+
+fn copy_variable(span: Span, name: &Name) -> Result<Expr, NoMemory>
+    ensures { IfOk result (λ c. expression c ≡ plain.Var span name.now) }
+{
+    let node = ExprNode::Var(name.clone()?);
+    Ok(Expr { span, node })
+}
+
+fn copy_size(span: Span, name: &Name) -> Result<Expr, NoMemory>
+    ensures { IfOk result (λ c. expression c ≡ plain.Size span name.now) }
+{
+    let node = ExprNode::Size(name.clone()?);
+    Ok(Expr { span, node })
+}
+
+fn copy_fetch(span: Span, table: &Name) -> Result<Expr, NoMemory>
+    ensures { IfOk result (λ c. expression c ≡ plain.Fetch span table.now) }
+{
+    let node = ExprNode::Fetch(table.clone()?);
+    Ok(Expr { span, node })
+}
+
+/// The column of a row, with a copy of its name.
+fn copy_field(span: Span, row: Box<Expr>, name: &Name) -> Result<Expr, NoMemory>
+    ensures { IfOk result (λ c. expression c ≡ plain.Field span (expression row.value) name.now) }
+{
+    let name = name.clone()?;
+    let node = ExprNode::Field(row, name);
+    Ok(Expr { span, node })
+}
+
+fn copy_get(span: Span, name: &Name, place: Box<Expr>) -> Result<Expr, NoMemory>
+    ensures { IfOk result (λ c. expression c ≡ plain.Get span name.now (expression place.value)) }
+{
+    let name = name.clone()?;
+    let node = ExprNode::Get(name, place);
+    Ok(Expr { span, node })
+}
+
+fn copy_contains(span: Span, name: &Name, member: Box<Expr>) -> Result<Expr, NoMemory>
+    ensures { IfOk result (λ c. expression c ≡ plain.Contains span name.now (expression member.value)) }
+{
+    let name = name.clone()?;
+    let node = ExprNode::Contains(name, member);
+    Ok(Expr { span, node })
+}
+
+/// A query of these arguments, with copies of its other parts.
+fn copy_query(
+    alloc: Global,
+    span: Span,
+    element: &JTy,
+    text: &Text,
+    arguments: Vec<Expr>,
+) -> Result<Expr, NoMemory>
+    ensures { IfOk result (λ c. expression c ≡ plain.Query span (spelled element.now) text.now (expressions arguments.items)) }
+{
+    let text = copy_text(text)?;
+    let element = copy_type(alloc, element)?;
+    Ok(query(span, element, text, arguments))
+}
+
+fn copy_query_long(span: Span, text: &Text, arguments: Vec<Expr>) -> Result<Expr, NoMemory>
+    ensures { IfOk result (λ c. expression c ≡ plain.QueryLong span text.now (expressions arguments.items)) }
+{
+    let text = copy_text(text)?;
+    Ok(query_long(span, text, arguments))
+}
+
+fn copy_query_boolean(span: Span, text: &Text, arguments: Vec<Expr>) -> Result<Expr, NoMemory>
+    ensures { IfOk result (λ c. expression c ≡ plain.QueryBoolean span text.now (expressions arguments.items)) }
+{
+    let text = copy_text(text)?;
+    Ok(query_boolean(span, text, arguments))
+}
+
 #[cycle(copy_expression)]
 pub fn copy_expression(alloc: Global, e: &Expr) -> Result<Expr, NoMemory>
     ensures { IfOk result (λ c. expression c ≡ expression e.now) }
 {
     let span = e.span;
     match &e.node {
-        ExprNode::Lit(value) => {
-            let node = ExprNode::Lit(value.clone()?);
-            Ok(Expr { span, node })
-        }
-        ExprNode::Var(name) => {
-            let node = ExprNode::Var(name.clone()?);
-            Ok(Expr { span, node })
-        }
-        ExprNode::Field(row, name) => {
-            let row = Box::new(alloc, copy_expression(alloc, row)?)?;
-            let node = ExprNode::Field(row, name.clone()?);
-            Ok(Expr { span, node })
-        }
+        ExprNode::Lit(value) => copy_literal(span, value),
+        ExprNode::Var(name) => copy_variable(span, name),
+        ExprNode::Field(row, name) => copy_field(span, copy_boxed(alloc, row)?, name),
         ExprNode::Binary(op, a, b) => {
-            let a = Box::new(alloc, copy_expression(alloc, a)?)?;
-            let b = Box::new(alloc, copy_expression(alloc, b)?)?;
+            let a = copy_boxed(alloc, a)?;
+            let b = copy_boxed(alloc, b)?;
             let node = ExprNode::Binary(*op, a, b);
             Ok(Expr { span, node })
         }
         ExprNode::Not(inner) => {
-            let inner = Box::new(alloc, copy_expression(alloc, inner)?)?;
-            let node = ExprNode::Not(inner);
+            let node = ExprNode::Not(copy_boxed(alloc, inner)?);
             Ok(Expr { span, node })
         }
         ExprNode::Equals(a, b) => {
-            let a = Box::new(alloc, copy_expression(alloc, a)?)?;
-            let b = Box::new(alloc, copy_expression(alloc, b)?)?;
+            let a = copy_boxed(alloc, a)?;
+            let b = copy_boxed(alloc, b)?;
             let node = ExprNode::Equals(a, b);
             Ok(Expr { span, node })
         }
-        ExprNode::Size(name) => {
-            let node = ExprNode::Size(name.clone()?);
-            Ok(Expr { span, node })
-        }
-        ExprNode::Get(name, place) => {
-            let place = Box::new(alloc, copy_expression(alloc, place)?)?;
-            let node = ExprNode::Get(name.clone()?, place);
-            Ok(Expr { span, node })
-        }
-        ExprNode::Contains(name, member) => {
-            let member = Box::new(alloc, copy_expression(alloc, member)?)?;
-            let node = ExprNode::Contains(name.clone()?, member);
-            Ok(Expr { span, node })
-        }
-        ExprNode::Fetch(table) => {
-            let node = ExprNode::Fetch(table.clone()?);
-            Ok(Expr { span, node })
-        }
+        ExprNode::Size(name) => copy_size(span, name),
+        ExprNode::Get(name, place) => copy_get(span, name, copy_boxed(alloc, place)?),
+        ExprNode::Contains(name, member) => copy_contains(span, name, copy_boxed(alloc, member)?),
+        ExprNode::Fetch(table) => copy_fetch(span, table),
         ExprNode::Query(element, text, arguments) => {
-            let element = copy_type(alloc, element)?;
-            let text = copy_text(text)?;
             let arguments = copy_expressions(alloc, arguments)?;
-            Ok(query(span, element, text, arguments))
+            copy_query(alloc, span, element, text, arguments)
         }
         ExprNode::QueryLong(text, arguments) => {
-            let text = copy_text(text)?;
             let arguments = copy_expressions(alloc, arguments)?;
-            Ok(query_long(span, text, arguments))
+            copy_query_long(span, text, arguments)
         }
         ExprNode::QueryBoolean(text, arguments) => {
-            let text = copy_text(text)?;
             let arguments = copy_expressions(alloc, arguments)?;
-            Ok(query_boolean(span, text, arguments))
+            copy_query_boolean(span, text, arguments)
         }
         ExprNode::NewList => {
             let node = ExprNode::NewList;
@@ -165,12 +219,21 @@ pub fn copy_expression(alloc: Global, e: &Expr) -> Result<Expr, NoMemory>
                 Ok(Expr { span, node })
             }
             Some(of) => {
-                let of = Box::new(alloc, copy_expression(alloc, of)?)?;
+                let of = copy_boxed(alloc, of)?;
                 let node = ExprNode::NewSet(Some(of));
                 Ok(Expr { span, node })
             }
         },
     }
+}
+
+/// A copy in a box of its own.
+#[cycle(copy_expression)]
+fn copy_boxed(alloc: Global, e: &Expr) -> Result<Box<Expr>, NoMemory>
+    ensures { IfOk result (λ c. expression c.value ≡ expression e.now) }
+{
+    let copy = copy_expression(alloc, e)?;
+    Ok(Box::new(alloc, copy)?)
 }
 
 #[cycle(copy_expression)]
@@ -193,46 +256,143 @@ fn copy_value(alloc: Global, value: &Option<Expr>) -> Result<Option<Expr>, NoMem
     }
 }
 
+fn copy_declare(
+    alloc: Global,
+    span: Span,
+    ty: &JTy,
+    name: &Name,
+    value: &Expr,
+) -> Result<Stmt, NoMemory>
+    ensures { IfOk result (λ c. statement c ≡ plain.Declare span (spelled ty.now) name.now (expression value.now)) }
+{
+    let name = name.clone()?;
+    let ty = copy_type(alloc, ty)?;
+    let value = copy_expression(alloc, value)?;
+    let node = StmtNode::Declare { ty, name, value };
+    Ok(Stmt { span, node })
+}
+
+fn copy_assign(alloc: Global, span: Span, name: &Name, value: &Expr) -> Result<Stmt, NoMemory>
+    ensures { IfOk result (λ c. statement c ≡ plain.Assign span name.now (expression value.now)) }
+{
+    let name = name.clone()?;
+    let value = copy_expression(alloc, value)?;
+    let node = StmtNode::Assign { name, value };
+    Ok(Stmt { span, node })
+}
+
+fn copy_add(alloc: Global, span: Span, name: &Name, value: &Expr) -> Result<Stmt, NoMemory>
+    ensures { IfOk result (λ c. statement c ≡ plain.Add span name.now (expression value.now)) }
+{
+    let name = name.clone()?;
+    let value = copy_expression(alloc, value)?;
+    let node = StmtNode::Add { name, value };
+    Ok(Stmt { span, node })
+}
+
+fn copy_sort(
+    alloc: Global,
+    span: Span,
+    name: &Name,
+    keys: &[Name],
+    down: &[bool],
+) -> Result<Stmt, NoMemory>
+    ensures { IfOk result (λ c. statement c ≡ plain.Sort span name.now keys.now down.now) }
+{
+    let name = name.clone()?;
+    let keys = copy_names(alloc, keys)?;
+    let down = copy_bools(alloc, down)?;
+    let node = StmtNode::Sort { name, keys, down };
+    Ok(Stmt { span, node })
+}
+
+fn copy_print(alloc: Global, span: Span, value: &Expr) -> Result<Stmt, NoMemory>
+    ensures { IfOk result (λ c. statement c ≡ plain.Print span (expression value.now)) }
+{
+    let value = copy_expression(alloc, value)?;
+    let node = StmtNode::Print { value };
+    Ok(Stmt { span, node })
+}
+
+fn copy_return(alloc: Global, span: Span, value: &Option<Expr>) -> Result<Stmt, NoMemory>
+    ensures { IfOk result (λ c. statement c ≡ plain.Return span (option_map expression value.now)) }
+{
+    let value = copy_value(alloc, value)?;
+    let node = StmtNode::Return { value };
+    Ok(Stmt { span, node })
+}
+
+/// An `if` without an `else`, with this body and a copy of its condition.
+pub fn if_copied(alloc: Global, span: Span, cond: &Expr, yes: Vec<Stmt>) -> Result<Stmt, NoMemory>
+    ensures { IfOk result (λ c. statement c ≡ plain.If span (expression cond.now) (statements yes.items)) }
+{
+    let cond = copy_expression(alloc, cond)?;
+    Ok(if_only(span, cond, yes))
+}
+
+/// An `if` with these bodies and a copy of its condition.
+pub fn if_else_copied(
+    alloc: Global,
+    span: Span,
+    cond: &Expr,
+    yes: Vec<Stmt>,
+    other: Vec<Stmt>,
+) -> Result<Stmt, NoMemory>
+    ensures { IfOk result (λ c. statement c ≡ plain.IfElse span (expression cond.now) (statements yes.items) (statements other.items)) }
+{
+    let cond = copy_expression(alloc, cond)?;
+    Ok(if_else(span, cond, yes, other))
+}
+
+/// A walk over a list, with this body and copies of its other parts.
+pub fn for_each_copied(
+    alloc: Global,
+    span: Span,
+    ty: &JTy,
+    name: &Name,
+    list: &Expr,
+    body: Vec<Stmt>,
+) -> Result<Stmt, NoMemory>
+    ensures { IfOk result (λ c. statement c ≡ plain.ForEach span (spelled ty.now) name.now (expression list.now) (statements body.items)) }
+{
+    let name = copy_text(name)?;
+    let ty = copy_type(alloc, ty)?;
+    let list = copy_expression(alloc, list)?;
+    Ok(for_each(span, ty, name, list, body))
+}
+
+/// A `while` with this body and a copy of its condition.
+pub fn while_copied(
+    alloc: Global,
+    span: Span,
+    cond: &Expr,
+    body: Vec<Stmt>,
+) -> Result<Stmt, NoMemory>
+    ensures { IfOk result (λ c. statement c ≡ plain.While span (expression cond.now) (statements body.items)) }
+{
+    let cond = copy_expression(alloc, cond)?;
+    Ok(while_loop(span, cond, body))
+}
+
 #[cycle(copy_statement)]
 pub fn copy_statement(alloc: Global, s: &Stmt) -> Result<Stmt, NoMemory>
     ensures { IfOk result (λ c. statement c ≡ statement s.now) }
 {
     let span = s.span;
     match &s.node {
-        StmtNode::Declare { ty, name, value } => {
-            let ty = copy_type(alloc, ty)?;
-            let name = name.clone()?;
-            let value = copy_expression(alloc, value)?;
-            let node = StmtNode::Declare { ty, name, value };
-            Ok(Stmt { span, node })
-        }
-        StmtNode::Assign { name, value } => {
-            let name = name.clone()?;
-            let value = copy_expression(alloc, value)?;
-            let node = StmtNode::Assign { name, value };
-            Ok(Stmt { span, node })
-        }
-        StmtNode::Add { name, value } => {
-            let name = name.clone()?;
-            let value = copy_expression(alloc, value)?;
-            let node = StmtNode::Add { name, value };
-            Ok(Stmt { span, node })
-        }
+        StmtNode::Declare { ty, name, value } => copy_declare(alloc, span, ty, name, value),
+        StmtNode::Assign { name, value } => copy_assign(alloc, span, name, value),
+        StmtNode::Add { name, value } => copy_add(alloc, span, name, value),
         StmtNode::Sort { name, keys, down } => {
-            let name = name.clone()?;
-            let keys = copy_names(alloc, keys.as_slice())?;
-            let down = copy_bools(alloc, down.as_slice())?;
-            let node = StmtNode::Sort { name, keys, down };
-            Ok(Stmt { span, node })
+            copy_sort(alloc, span, name, keys.as_slice(), down.as_slice())
         }
         StmtNode::If { cond, yes, other } => {
-            let cond = copy_expression(alloc, cond)?;
             let yes = copy_statements(alloc, yes)?;
             match other {
-                None => Ok(if_only(span, cond, yes)),
+                None => if_copied(alloc, span, cond, yes),
                 Some(other) => {
                     let other = copy_statements(alloc, other)?;
-                    Ok(if_else(span, cond, yes, other))
+                    if_else_copied(alloc, span, cond, yes, other)
                 }
             }
         }
@@ -242,27 +402,15 @@ pub fn copy_statement(alloc: Global, s: &Stmt) -> Result<Stmt, NoMemory>
             list,
             body,
         } => {
-            let ty = copy_type(alloc, ty)?;
-            let name = copy_text(name)?;
-            let list = copy_expression(alloc, list)?;
             let body = copy_statements(alloc, body)?;
-            Ok(for_each(span, ty, name, list, body))
+            for_each_copied(alloc, span, ty, name, list, body)
         }
         StmtNode::While { cond, body } => {
-            let cond = copy_expression(alloc, cond)?;
             let body = copy_statements(alloc, body)?;
-            Ok(while_loop(span, cond, body))
+            while_copied(alloc, span, cond, body)
         }
-        StmtNode::Print { value } => {
-            let value = copy_expression(alloc, value)?;
-            let node = StmtNode::Print { value };
-            Ok(Stmt { span, node })
-        }
-        StmtNode::Return { value } => {
-            let value = copy_value(alloc, value)?;
-            let node = StmtNode::Return { value };
-            Ok(Stmt { span, node })
-        }
+        StmtNode::Print { value } => copy_print(alloc, span, value),
+        StmtNode::Return { value } => copy_return(alloc, span, value),
         StmtNode::Break => {
             let node = StmtNode::Break;
             Ok(Stmt { span, node })

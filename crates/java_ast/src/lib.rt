@@ -3,18 +3,13 @@
 
 mod build;
 mod copy;
-mod literals;
 mod path;
-mod printing;
 mod programs;
 mod replace;
-#[cfg(test)]
-mod tests;
 mod tree;
 
 pub use copy::{copy_expression, copy_statement, copy_statements};
 pub use path::at_path;
-pub use printing::print_program;
 pub use programs::copy_program;
 pub use replace::replace_at;
 pub use tree::{

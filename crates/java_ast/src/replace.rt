@@ -4,8 +4,9 @@ ghost use Rattle.java_ast.specs.Tree as plain;
 ghost use Rattle.java_ast.specs.Reading.{statement, statements, method as plain_method, program as plain_program};
 ghost use Rattle.java_ast.specs.Path.{and_then, with_range, with_branch, replaced_in, replaced_at, statement_at, last_of};
 
-use crate::build::{for_each, if_else, if_only, while_loop};
-use crate::copy::{copy_expression, copy_statement, copy_statements, copy_text, copy_type};
+use crate::copy::{
+    copy_statement, copy_statements, for_each_copied, if_copied, if_else_copied, while_copied,
+};
 use crate::path::{numbered_method, numbered_statement};
 use crate::programs::{method_with, program_with, push_methods};
 use crate::{Method, Methods, Path, Program, Stmt, StmtNode, Stmts};
@@ -115,13 +116,12 @@ fn statement_with(
     let span = s.span;
     match &s.node {
         StmtNode::If { cond, yes, other } => {
-            let cond = copy_expression(alloc, cond)?;
             let yes = branch_with(alloc, yes, at == 0, number, path, first, others)?;
             match other {
-                None => Ok(if_only(span, cond, yes)),
+                None => if_copied(alloc, span, cond, yes),
                 Some(other) => {
                     let other = branch_with(alloc, other, at == 1, number, path, first, others)?;
-                    Ok(if_else(span, cond, yes, other))
+                    if_else_copied(alloc, span, cond, yes, other)
                 }
             }
         }
@@ -131,16 +131,12 @@ fn statement_with(
             list,
             body,
         } => {
-            let ty = copy_type(alloc, ty)?;
-            let name = copy_text(name)?;
-            let list = copy_expression(alloc, list)?;
             let body = branch_with(alloc, body, at == 0, number, path, first, others)?;
-            Ok(for_each(span, ty, name, list, body))
+            for_each_copied(alloc, span, ty, name, list, body)
         }
         StmtNode::While { cond, body } => {
-            let cond = copy_expression(alloc, cond)?;
             let body = branch_with(alloc, body, at == 0, number, path, first, others)?;
-            Ok(while_loop(span, cond, body))
+            while_copied(alloc, span, cond, body)
         }
         StmtNode::Declare { .. }
         | StmtNode::Assign { .. }

@@ -15,7 +15,7 @@ pub struct Program {
 pub type Methods = Items<Method>;
 
 /// How a method may be reached.
-#[derive(Clone, Copy, Debug, PartialEq, Eq)]
+#[derive(Clone, Copy)]
 pub enum Access {
     Plain,
     Public,
@@ -45,7 +45,7 @@ pub type Params = Items<Param>;
 
 /// A type as it is spelled. `int` and `long` are two spellings of one type. The boxed ones stand
 /// only as elements of lists and sets.
-#[derive(Clone, PartialEq, Eq, Drop)]
+#[derive(Drop)]
 pub enum JTy {
     Int,
     Long,
@@ -116,7 +116,7 @@ pub enum StmtNode {
 }
 
 /// A binary operator.
-#[derive(Clone, Copy, Debug, PartialEq, Eq)]
+#[derive(Clone, Copy)]
 pub enum Op {
     Or,
     And,

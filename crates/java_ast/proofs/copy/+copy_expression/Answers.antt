@@ -1,4 +1,5 @@
 use Rattle.std.proofs.Common.{◌≡◌, ◌∙◌, ◌<◌, ◌++◌, ◌∷◌, List, suc, length, drop, ap, sym, add-one, drop-cons}
+use Rattle.std.proofs.lemmas.Result.{IfOk-weaker}
 use Rattle.java_ast.specs.declared.tree.Expr.{Expr}
 use Rattle.java_ast.specs.Reading.{expressions}
 use Rattle.java_ast.proofs.Copies.{expression_in, query_copied, query_long_copied, query_boolean_copied}
@@ -6,18 +7,18 @@ use Rattle.java_ast.proofs.copy.+copy_expression.Goals as goal
 
 pub copy_expression-returns-in_ok-arguments-in-Query : goal.copy_expression-returns-in_ok-arguments-in-Query
 copy_expression-returns-in_ok-arguments-in-Query t c =
-    query_copied c.args.e.now c.query.result c.in-Query.element c.in_ok-element-in-Query.element c.in-Query.text c.in_ok-text-in-Query.text c.in-Query.arguments c.in_ok-arguments-in-Query.arguments c.deref-in-Query.result.now
-    c.in-Query.is c.deref-in-Query.ensures.value c.query.ensures c.in_ok-element-in-Query.ensures c.in_ok-text-in-Query.ensures c.in_ok-arguments-in-Query.ensures
+    IfOk-weaker c.copy_query.result _ _ (λ r built. query_copied c.args.e.now r c.in-Query.element c.in-Query.text c.in-Query.arguments c.in_ok-arguments-in-Query.arguments c.deref-in-Query.result.now
+    c.in-Query.is c.deref-in-Query.ensures.value built c.in_ok-arguments-in-Query.ensures) c.copy_query.ensures
 
 pub copy_expression-returns-in_ok-arguments-in-QueryLong : goal.copy_expression-returns-in_ok-arguments-in-QueryLong
 copy_expression-returns-in_ok-arguments-in-QueryLong t c =
-    query_long_copied c.args.e.now c.query_long.result c.in-QueryLong.text c.in_ok-text-in-QueryLong.text c.in-QueryLong.arguments c.in_ok-arguments-in-QueryLong.arguments c.deref-in-QueryLong.result.now
-    c.in-QueryLong.is c.deref-in-QueryLong.ensures.value c.query_long.ensures c.in_ok-text-in-QueryLong.ensures c.in_ok-arguments-in-QueryLong.ensures
+    IfOk-weaker c.copy_query_long.result _ _ (λ r built. query_long_copied c.args.e.now r c.in-QueryLong.text c.in-QueryLong.arguments c.in_ok-arguments-in-QueryLong.arguments c.deref-in-QueryLong.result.now
+    c.in-QueryLong.is c.deref-in-QueryLong.ensures.value built c.in_ok-arguments-in-QueryLong.ensures) c.copy_query_long.ensures
 
 pub copy_expression-returns-in_ok-arguments-in-QueryBoolean : goal.copy_expression-returns-in_ok-arguments-in-QueryBoolean
 copy_expression-returns-in_ok-arguments-in-QueryBoolean t c =
-    query_boolean_copied c.args.e.now c.query_boolean.result c.in-QueryBoolean.text c.in_ok-text-in-QueryBoolean.text c.in-QueryBoolean.arguments c.in_ok-arguments-in-QueryBoolean.arguments c.deref-in-QueryBoolean.result.now
-    c.in-QueryBoolean.is c.deref-in-QueryBoolean.ensures.value c.query_boolean.ensures c.in_ok-text-in-QueryBoolean.ensures c.in_ok-arguments-in-QueryBoolean.ensures
+    IfOk-weaker c.copy_query_boolean.result _ _ (λ r built. query_boolean_copied c.args.e.now r c.in-QueryBoolean.text c.in-QueryBoolean.arguments c.in_ok-arguments-in-QueryBoolean.arguments c.deref-in-QueryBoolean.result.now
+    c.in-QueryBoolean.is c.deref-in-QueryBoolean.ensures.value built c.in_ok-arguments-in-QueryBoolean.ensures) c.copy_query_boolean.ensures
 
 pub copy_expressions-loop-e-preserved : goal.copy_expressions-loop-e-preserved
 copy_expressions-loop-e-preserved t c =

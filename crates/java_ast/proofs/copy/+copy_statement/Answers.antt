@@ -1,4 +1,5 @@
 use Rattle.std.proofs.Common.{◌≡◌, ◌∙◌, ◌<◌, ◌++◌, ◌∷◌, List, suc, length, drop, ap, sym, add-one, drop-cons}
+use Rattle.std.proofs.lemmas.Result.{IfOk-weaker}
 use Rattle.java_ast.specs.declared.tree.Stmt.{Stmt}
 use Rattle.java_ast.specs.Reading.{statements}
 use Rattle.java_ast.proofs.Copies.{statement_in_list, if_of, if_else_of, for_each_of, while_of}
@@ -6,23 +7,23 @@ use Rattle.java_ast.proofs.copy.+copy_statement.Goals as goal
 
 pub copy_statement-returns-in-None : goal.copy_statement-returns-in-None
 copy_statement-returns-in-None t c =
-    if_of c.args.s.now c.if_only.result c.in-If.cond c.in_ok-cond-in-If.cond c.in-If.yes c.in_ok-yes-in-If.yes c.in-If.other c.deref.result.now
-    c.in-If.is c.in-None.is c.deref.ensures.value c.if_only.ensures c.in_ok-cond-in-If.ensures c.in_ok-yes-in-If.ensures
+    IfOk-weaker c.if_copied.result _ _ (λ r built. if_of c.args.s.now r c.in-If.cond c.in-If.yes c.in_ok-yes-in-If.yes c.in-If.other c.deref.result.now
+    c.in-If.is c.in-None.is c.deref.ensures.value built c.in_ok-yes-in-If.ensures) c.if_copied.ensures
 
 pub copy_statement-returns-in_ok-other-in-Some : goal.copy_statement-returns-in_ok-other-in-Some
 copy_statement-returns-in_ok-other-in-Some t c =
-    if_else_of c.args.s.now c.if_else.result c.in-If.cond c.in_ok-cond-in-If.cond c.in-If.yes c.in_ok-yes-in-If.yes c.in-Some.other c.in_ok-other-in-Some.other c.in-If.other c.deref.result.now c.deref-in-Some.result.now
-    c.in-If.is c.in-Some.is c.deref.ensures.value c.deref-in-Some.ensures.value c.if_else.ensures c.in_ok-cond-in-If.ensures c.in_ok-yes-in-If.ensures c.in_ok-other-in-Some.ensures
+    IfOk-weaker c.if_else_copied.result _ _ (λ r built. if_else_of c.args.s.now r c.in-If.cond c.in-If.yes c.in_ok-yes-in-If.yes c.in-Some.other c.in_ok-other-in-Some.other c.in-If.other c.deref.result.now c.deref-in-Some.result.now
+    c.in-If.is c.in-Some.is c.deref.ensures.value c.deref-in-Some.ensures.value built c.in_ok-yes-in-If.ensures c.in_ok-other-in-Some.ensures) c.if_else_copied.ensures
 
 pub copy_statement-returns-in_ok-body-in-ForEach : goal.copy_statement-returns-in_ok-body-in-ForEach
 copy_statement-returns-in_ok-body-in-ForEach t c =
-    for_each_of c.args.s.now c.for_each.result c.in-ForEach.ty c.in_ok-ty-in-ForEach.ty c.in-ForEach.name c.in_ok-name-in-ForEach.name c.in-ForEach.list c.in_ok-list-in-ForEach.list c.in-ForEach.body c.in_ok-body-in-ForEach.body c.deref-in-ForEach.result.now
-    c.in-ForEach.is c.deref-in-ForEach.ensures.value c.for_each.ensures c.in_ok-ty-in-ForEach.ensures c.in_ok-name-in-ForEach.ensures c.in_ok-list-in-ForEach.ensures c.in_ok-body-in-ForEach.ensures
+    IfOk-weaker c.for_each_copied.result _ _ (λ r built. for_each_of c.args.s.now r c.in-ForEach.ty c.in-ForEach.name c.in-ForEach.list c.in-ForEach.body c.in_ok-body-in-ForEach.body c.deref-in-ForEach.result.now
+    c.in-ForEach.is c.deref-in-ForEach.ensures.value built c.in_ok-body-in-ForEach.ensures) c.for_each_copied.ensures
 
 pub copy_statement-returns-in_ok-body-in-While : goal.copy_statement-returns-in_ok-body-in-While
 copy_statement-returns-in_ok-body-in-While t c =
-    while_of c.args.s.now c.while_loop.result c.in-While.cond c.in_ok-cond-in-While.cond c.in-While.body c.in_ok-body-in-While.body c.deref-in-While.result.now
-    c.in-While.is c.deref-in-While.ensures.value c.while_loop.ensures c.in_ok-cond-in-While.ensures c.in_ok-body-in-While.ensures
+    IfOk-weaker c.while_copied.result _ _ (λ r built. while_of c.args.s.now r c.in-While.cond c.in-While.body c.in_ok-body-in-While.body c.deref-in-While.result.now
+    c.in-While.is c.deref-in-While.ensures.value built c.in_ok-body-in-While.ensures) c.while_copied.ensures
 
 pub copy_statements-loop-s-preserved : goal.copy_statements-loop-s-preserved
 copy_statements-loop-s-preserved t c =

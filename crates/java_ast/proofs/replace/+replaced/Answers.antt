@@ -1,9 +1,9 @@
-use Rattle.std.specs.Prelude.{List, Vec}
+use Rattle.std.specs.Prelude.{Vec}
 use Rattle.std.proofs.Common.{◌≡◌, ◌∙◌}
 use Rattle.std.proofs.lemmas.Result.{IfOk-weaker}
 use Rattle.std.specs.declared.alloc.Global.{Global}
 use Rattle.java_ast.specs.declared.tree.Stmt.{Stmt}
-use Rattle.java_ast.specs.Tree.{Statements, Then}
+use Rattle.java_ast.specs.Tree.{Then}
 use Rattle.java_ast.specs.Reading.{statement, statements}
 use Rattle.java_ast.specs.Path.{and_then, replaced_in}
 use Rattle.java_ast.proofs.Ranges.{placed, not_placed, if_with, if_else_with, for_each_with, while_with}
@@ -11,23 +11,23 @@ use Rattle.java_ast.proofs.replace.+replaced.Goals as goal
 
 pub statement_with-returns-in-None : goal.statement_with-returns-in-None
 statement_with-returns-in-None t c =
-    if_with c.args.s.now c.if_only.result c.in-If.cond c.in_ok-cond-in-If.cond c.in-If.yes c.in_ok-yes-in-If.yes c.in-If.other c.deref.result.now c.args.at (replaced_in c.args.path.now c.args.number c.args.first (statements c.args.others.now))
-    c.in-If.is c.in-None.is c.deref.ensures.value c.if_only.ensures c.in_ok-cond-in-If.ensures c.in_ok-yes-in-If.ensures
+    IfOk-weaker c.if_copied.result _ _ (λ r built. if_with c.args.s.now r c.in-If.cond c.in-If.yes c.in_ok-yes-in-If.yes c.in-If.other c.deref.result.now c.args.at (replaced_in c.args.path.now c.args.number c.args.first (statements c.args.others.now))
+    c.in-If.is c.in-None.is c.deref.ensures.value built c.in_ok-yes-in-If.ensures) c.if_copied.ensures
 
 pub statement_with-returns-in_ok-other-in-Some : goal.statement_with-returns-in_ok-other-in-Some
 statement_with-returns-in_ok-other-in-Some t c =
-    if_else_with c.args.s.now c.if_else.result c.in-If.cond c.in_ok-cond-in-If.cond c.in-If.yes c.in_ok-yes-in-If.yes c.in-Some.other c.in_ok-other-in-Some.other c.in-If.other c.deref.result.now c.deref-in-Some.result.now c.args.at (replaced_in c.args.path.now c.args.number c.args.first (statements c.args.others.now))
-    c.in-If.is c.in-Some.is c.deref.ensures.value c.deref-in-Some.ensures.value c.if_else.ensures c.in_ok-cond-in-If.ensures c.in_ok-yes-in-If.ensures c.in_ok-other-in-Some.ensures
+    IfOk-weaker c.if_else_copied.result _ _ (λ r built. if_else_with c.args.s.now r c.in-If.cond c.in-If.yes c.in_ok-yes-in-If.yes c.in-Some.other c.in_ok-other-in-Some.other c.in-If.other c.deref.result.now c.deref-in-Some.result.now c.args.at (replaced_in c.args.path.now c.args.number c.args.first (statements c.args.others.now))
+    c.in-If.is c.in-Some.is c.deref.ensures.value c.deref-in-Some.ensures.value built c.in_ok-yes-in-If.ensures c.in_ok-other-in-Some.ensures) c.if_else_copied.ensures
 
 pub statement_with-returns-in_ok-body-in-ForEach : goal.statement_with-returns-in_ok-body-in-ForEach
 statement_with-returns-in_ok-body-in-ForEach t c =
-    for_each_with c.args.s.now c.for_each.result c.in-ForEach.ty c.in_ok-ty-in-ForEach.ty c.in-ForEach.name c.in_ok-name-in-ForEach.name c.in-ForEach.list c.in_ok-list-in-ForEach.list c.in-ForEach.body c.in_ok-body-in-ForEach.body c.deref-in-ForEach.result.now c.args.at (replaced_in c.args.path.now c.args.number c.args.first (statements c.args.others.now))
-    c.in-ForEach.is c.deref-in-ForEach.ensures.value c.for_each.ensures c.in_ok-ty-in-ForEach.ensures c.in_ok-name-in-ForEach.ensures c.in_ok-list-in-ForEach.ensures c.in_ok-body-in-ForEach.ensures
+    IfOk-weaker c.for_each_copied.result _ _ (λ r built. for_each_with c.args.s.now r c.in-ForEach.ty c.in-ForEach.name c.in-ForEach.list c.in-ForEach.body c.in_ok-body-in-ForEach.body c.deref-in-ForEach.result.now c.args.at (replaced_in c.args.path.now c.args.number c.args.first (statements c.args.others.now))
+    c.in-ForEach.is c.deref-in-ForEach.ensures.value built c.in_ok-body-in-ForEach.ensures) c.for_each_copied.ensures
 
 pub statement_with-returns-in_ok-body-in-While : goal.statement_with-returns-in_ok-body-in-While
 statement_with-returns-in_ok-body-in-While t c =
-    while_with c.args.s.now c.while_loop.result c.in-While.cond c.in_ok-cond-in-While.cond c.in-While.body c.in_ok-body-in-While.body c.deref-in-While.result.now c.args.at (replaced_in c.args.path.now c.args.number c.args.first (statements c.args.others.now))
-    c.in-While.is c.deref-in-While.ensures.value c.while_loop.ensures c.in_ok-cond-in-While.ensures c.in_ok-body-in-While.ensures
+    IfOk-weaker c.while_copied.result _ _ (λ r built. while_with c.args.s.now r c.in-While.cond c.in-While.body c.in_ok-body-in-While.body c.deref-in-While.result.now c.args.at (replaced_in c.args.path.now c.args.number c.args.first (statements c.args.others.now))
+    c.in-While.is c.deref-in-While.ensures.value built c.in_ok-body-in-While.ensures) c.while_copied.ensures
 
 pub block_with-returns-in_default-numbered_statement : goal.block_with-returns-in_default-numbered_statement
 block_with-returns-in_default-numbered_statement t c =

@@ -1,4 +1,3 @@
-use Rattle.std.proofs.Common.{List}
 use Rattle.java_ast.proofs.Ranges.{joined_is}
 use Rattle.java_ast.proofs.replace.joined.Goals as goal
 

@@ -1,4 +1,3 @@
-use Rattle.std.proofs.Common.{List}
 use Rattle.java_ast.proofs.Ranges.{range_is}
 use Rattle.java_ast.proofs.replace.range_with.Goals as goal
 

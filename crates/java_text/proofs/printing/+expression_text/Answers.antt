@@ -1,7 +1,8 @@
 use Rattle.std.specs.String.{string_bytes}
 use Rattle.std.proofs.lemmas.Result.{IfOk-weaker}
-use Rattle.java_ast.proofs.Nodes.{query_is, query_long_is, query_boolean_is, new_set_is, with_arguments, with_query}
-use Rattle.java_ast.proofs.printing.+expression_text.Goals as goal
+use Rattle.java_ast.proofs.Nodes.{query_is, query_long_is, query_boolean_is, new_set_is}
+use Rattle.java_text.proofs.Parts.{with_arguments, with_query}
+use Rattle.java_text.proofs.printing.+expression_text.Goals as goal
 
 pub put_expression-returns-in_ok-put_arguments-in-Query : goal.put_expression-returns-in_ok-put_arguments-in-Query
 put_expression-returns-in_ok-put_arguments-in-Query t c =

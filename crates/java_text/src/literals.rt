@@ -1,6 +1,6 @@
 // The canonical text of a literal.
 ghost use Rattle.std.specs.Prelude.{◌≡◌, ◌++◌, OnOk, string_bytes, codes};
-ghost use Rattle.java_ast.specs.Canonical.{word_if, canonical_integer, literal_text};
+ghost use Rattle.java_text.specs.Canonical.{word_if, canonical_integer, literal_text};
 
 use qbs_base::{Scalar, push_text_literal};
 use std::alloc::AllocError;

@@ -1,7 +1,8 @@
 use Rattle.std.specs.String.{string_bytes}
 use Rattle.std.proofs.lemmas.Result.{IfOk-weaker}
-use Rattle.java_ast.proofs.Bodies.{if_is, if_else_is, for_each_is, while_is, with_body, with_bodies}
-use Rattle.java_ast.proofs.printing.+statement_text.Goals as goal
+use Rattle.java_ast.proofs.Bodies.{if_is, if_else_is, for_each_is, while_is}
+use Rattle.java_text.proofs.Parts.{with_body, with_bodies}
+use Rattle.java_text.proofs.printing.+statement_text.Goals as goal
 
 pub put_statement-returns-in-None : goal.put_statement-returns-in-None
 put_statement-returns-in-None t c =
