@@ -11,7 +11,7 @@ use Rattle.java_ast.specs.declared.tree.Op.{Op}
 use Rattle.java_ast.specs.declared.tree.Op.TheVariants as ops
 use Rattle.java_ast.specs.Tree as plain
 use Rattle.java_ast.specs.Tree.{Spelled, Expression, Expressions}
-use Rattle.java_ast.specs.Canonical.{rank_of}
+use Rattle.java_text.specs.Canonical.{rank_of}
 use Rattle.java_lex.specs.declared.token.TokenNode.{TokenNode}
 use Rattle.java_lex.specs.declared.token.TokenNode.TheVariants as nodes
 use Rattle.java_parser.specs.Marks.{Tok, nowhere, extent}

@@ -6,7 +6,7 @@ use Rattle.std.proofs.lemmas.Bool.Decides.{nat_tests}
 use Rattle.qbs_base.specs.declared.span.Span.{Span}
 use Rattle.java_ast.specs.Tree as plain
 use Rattle.java_ast.specs.Tree.{Spelled, Expression, Statement, Statements, PlainParam, PlainMethod, PlainProgram}
-use Rattle.java_ast.specs.Canonical.{canonical}
+use Rattle.java_text.specs.Canonical.{canonical}
 use Rattle.java_lex.specs.declared.token.Token.{Token}
 use Rattle.java_lex.specs.declared.token.Tokens.{Tokens}
 use Rattle.java_lex.specs.Lexing.{lexed}

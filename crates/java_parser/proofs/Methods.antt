@@ -8,7 +8,7 @@ use Rattle.java_ast.specs.declared.tree.Access.{Access}
 use Rattle.java_ast.specs.declared.tree.Access.TheVariants as accesses
 use Rattle.java_ast.specs.Tree as plain
 use Rattle.java_ast.specs.Tree.{Spelled, Statements, PlainParam, PlainMethod, PlainProgram}
-use Rattle.java_ast.specs.Canonical.{canonical}
+use Rattle.java_text.specs.Canonical.{canonical}
 use Rattle.java_lex.specs.declared.token.Token.{Token}
 use Rattle.java_lex.specs.declared.token.TokenNode.{TokenNode}
 use Rattle.java_lex.specs.declared.token.TokenNode.TheVariants as nodes

@@ -9,7 +9,7 @@ use Rattle.java_ast.specs.declared.tree.Access.{Access}
 use Rattle.java_ast.specs.declared.tree.Access.TheVariants as accesses
 use Rattle.java_ast.specs.Tree as plain
 use Rattle.java_ast.specs.Tree.{Spelled, Expression, Statement, Statements, PlainParam, PlainMethod, PlainProgram}
-use Rattle.java_ast.specs.Canonical.{line_end, indent, separated, canonical_type, canonical_expression, first_or_false, reversed_text, comparing_text, canonical_key, canonical_keys, braced, returned_text, declared_text, walked_text, tested_text, canonical_statement, canonical_statements, access_text, word_if, result_text, canonical_param, modifiers_text, named_text, head_text, canonical_method, package_text, import_text, imports_text, class_text, canonical}
+use Rattle.java_text.specs.Canonical.{line_end, indent, separated, canonical_type, canonical_expression, first_or_false, reversed_text, comparing_text, canonical_key, canonical_keys, braced, returned_text, declared_text, walked_text, tested_text, canonical_statement, canonical_statements, access_text, word_if, result_text, canonical_param, modifiers_text, named_text, head_text, canonical_method, package_text, import_text, imports_text, class_text, canonical}
 use Rattle.java_lex.specs.declared.token.TokenNode.{TokenNode}
 use Rattle.java_lex.specs.Cutting.{HasNodes}
 use Rattle.java_lex.specs.Lexing.{tokens_from}

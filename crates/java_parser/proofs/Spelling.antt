@@ -12,7 +12,7 @@ use Rattle.java_ast.specs.declared.tree.Op.{Op}
 use Rattle.java_ast.specs.declared.tree.Op.TheVariants as ops
 use Rattle.java_ast.specs.Tree as plain
 use Rattle.java_ast.specs.Tree.{Spelled, Expression, Expressions}
-use Rattle.java_ast.specs.Canonical.{canonical_type, literal_text, rank_of, operator_text, opening, closing, canonical_expression, canonical_arguments}
+use Rattle.java_text.specs.Canonical.{canonical_type, literal_text, rank_of, operator_text, opening, closing, canonical_expression, canonical_arguments}
 use Rattle.java_lex.specs.declared.token.TokenNode.{TokenNode}
 use Rattle.java_lex.specs.declared.token.TokenNode.TheVariants.{Integer, Text, Sign}
 use Rattle.java_lex.specs.Bytes.{is_name_start, is_name_part, is_digit}

@@ -159,6 +159,7 @@ fn conditional(
     let (first, rest) = body(alloc, room, rest)?;
     let (other, rest) = otherwise(alloc, room, first.open_if, rest)?;
     let span = between(tokens, rest);
+    let cond = Box::into_inner(cond);
     let yes = first.statements;
     match other {
         None => {
@@ -214,6 +215,7 @@ fn for_each(alloc: Global, room: u32, tokens: &[Token]) -> Result<(bool, Stmt, &
         open_if,
         statements,
     } = inner;
+    let list = Box::into_inner(list);
     let body = statements;
     let node = StmtNode::ForEach {
         ty,
@@ -236,6 +238,7 @@ fn repeated(alloc: Global, room: u32, tokens: &[Token]) -> Result<(bool, Stmt, &
         open_if,
         statements,
     } = inner;
+    let cond = Box::into_inner(cond);
     let body = statements;
     let node = StmtNode::While { cond, body };
     Ok((open_if, Stmt { span, node }, rest))

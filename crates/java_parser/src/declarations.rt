@@ -47,6 +47,7 @@ fn declared_as(
     let rest = sign("=", rest)?;
     let (value, rest) = value(alloc, room, rest)?;
     let name = name.clone()?;
+    let value = Box::into_inner(value);
     Ok((StmtNode::Declare { ty, name, value }, rest))
 }
 
@@ -138,8 +139,12 @@ pub fn named_item(alloc: Global, room: u32, tokens: &[Token]) -> Result<(Stmt, &
 // ---- heads
 
 #[tactic(auto, unfolding(crate::specs::ReadingBodies::if_head_at))]
-pub fn if_head(alloc: Global, room: u32, tokens: &[Token]) -> Result<(Expr, &[Token]), ReadError>
-    ensures { Gives (λ x. (expression_of x.0, all_strict x.1.now)) result (if_head_at room (all_strict tokens.now)) }
+pub fn if_head(
+    alloc: Global,
+    room: u32,
+    tokens: &[Token],
+) -> Result<(Box<Expr>, &[Token]), ReadError>
+    ensures { Gives (λ x. (expression_of x.0.value, all_strict x.1.now)) result (if_head_at room (all_strict tokens.now)) }
 {
     let rest = word("if", tokens)?;
     let (condition, rest) = condition(alloc, room, rest)?;
@@ -147,8 +152,12 @@ pub fn if_head(alloc: Global, room: u32, tokens: &[Token]) -> Result<(Expr, &[To
 }
 
 #[tactic(auto, unfolding(crate::specs::ReadingBodies::while_head_at))]
-pub fn while_head(alloc: Global, room: u32, tokens: &[Token]) -> Result<(Expr, &[Token]), ReadError>
-    ensures { Gives (λ x. (expression_of x.0, all_strict x.1.now)) result (while_head_at room (all_strict tokens.now)) }
+pub fn while_head(
+    alloc: Global,
+    room: u32,
+    tokens: &[Token],
+) -> Result<(Box<Expr>, &[Token]), ReadError>
+    ensures { Gives (λ x. (expression_of x.0.value, all_strict x.1.now)) result (while_head_at room (all_strict tokens.now)) }
 {
     let rest = word("while", tokens)?;
     let (condition, rest) = condition(alloc, room, rest)?;
@@ -161,8 +170,8 @@ fn walk(
     alloc: Global,
     room: u32,
     tokens: &[Token],
-) -> Result<(JTy, &Name, Expr, &[Token]), ReadError>
-    ensures { Gives (λ x. ((spelled x.0, (x.1.now, expression_of x.2)), all_strict x.3.now)) result (walk_at room (all_strict tokens.now)) }
+) -> Result<(JTy, &Name, Box<Expr>, &[Token]), ReadError>
+    ensures { Gives (λ x. ((spelled x.0, (x.1.now, expression_of x.2.value)), all_strict x.3.now)) result (walk_at room (all_strict tokens.now)) }
 {
     let (ty, rest) = spelling(alloc, tokens)?;
     let (name, rest) = name(rest)?;
@@ -176,8 +185,8 @@ fn walk_part(
     alloc: Global,
     room: u32,
     tokens: &[Token],
-) -> Result<(JTy, &Name, Expr, &[Token]), ReadError>
-    ensures { Gives (λ x. ((spelled x.0, (x.1.now, expression_of x.2)), all_strict x.3.now)) result (walk_part_at room (all_strict tokens.now)) }
+) -> Result<(JTy, &Name, Box<Expr>, &[Token]), ReadError>
+    ensures { Gives (λ x. ((spelled x.0, (x.1.now, expression_of x.2.value)), all_strict x.3.now)) result (walk_part_at room (all_strict tokens.now)) }
 {
     let rest = opening(room, "(", tokens)?;
     let (ty, name, list, rest) = walk(alloc, less(room), rest)?;
@@ -191,8 +200,8 @@ pub fn for_head(
     alloc: Global,
     room: u32,
     tokens: &[Token],
-) -> Result<(JTy, &Name, Expr, &[Token]), ReadError>
-    ensures { Gives (λ x. ((spelled x.0, (x.1.now, expression_of x.2)), all_strict x.3.now)) result (for_head_at room (all_strict tokens.now)) }
+) -> Result<(JTy, &Name, Box<Expr>, &[Token]), ReadError>
+    ensures { Gives (λ x. ((spelled x.0, (x.1.now, expression_of x.2.value)), all_strict x.3.now)) result (for_head_at room (all_strict tokens.now)) }
 {
     let rest = word("for", tokens)?;
     let (ty, name, list, rest) = walk_part(alloc, room, rest)?;

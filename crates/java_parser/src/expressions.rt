@@ -10,7 +10,7 @@ ghost use Rattle.java_parser.specs.Calls.{seen};
 ghost use Rattle.java_parser.specs.Reading.{chain_at};
 ghost use Rattle.java_parser.specs.Reading.{is_sign as is_this_sign};
 ghost use Rattle.java_parser.specs.Expressions.{name_or_none, ranks, longest as longest_of};
-ghost use Rattle.java_parser.specs.ReadingExpressions.{next_argument_at, arguments_at, query_of_element_at, query_of_long_at, query_of_truth_at, call_at, called_at, suffix_at, suffix_by, query_in, query_inside, source_at, source_end_at, new_at, grouped_at, atom_at, dotted_at, behind_variable_at, named_at, head_at, part_at, postfix_at, negation_at, unary_at, is_operator, operand_at, rank_in, rank_at, inside, expression_at};
+ghost use Rattle.java_parser.specs.ReadingExpressions.{next_argument_at, arguments_at, query_of_element_at, query_of_long_at, query_of_truth_at, call_at, called_at, suffix_at, suffix_by, query_in, query_inside, source_at, source_end_at, new_at, grouped_at, literal_at, atom_at, dotted_at, behind_variable_at, named_at, head_at, part_at, postfix_at, negation_at, unary_at, is_operator, operand_at, rank_in, rank_at, inside, expression_at};
 
 use crate::atoms::{
     creation, element_query, is_next_operator, is_next_variable, literal, operator, query_start,
@@ -51,8 +51,12 @@ fn longest(room: u32) -> u32
 
 /// An expression, where so many more things may be open.
 #[tactic(auto, unfolding(crate::specs::ReadingExpressions::expression_at))]
-pub fn expression(alloc: Global, room: u32, tokens: &[Token]) -> Result<(Expr, &[Token]), ReadError>
-    ensures { Gives (λ x. (expression_of x.0, all_strict x.1.now)) result (expression_at room (all_strict tokens.now)) }
+pub fn expression(
+    alloc: Global,
+    room: u32,
+    tokens: &[Token],
+) -> Result<(Box<Expr>, &[Token]), ReadError>
+    ensures { Gives (λ x. (expression_of x.0.value, all_strict x.1.now)) result (expression_at room (all_strict tokens.now)) }
 {
     ranked(alloc, room, RANKS, tokens)
 }
@@ -60,8 +64,8 @@ pub fn expression(alloc: Global, room: u32, tokens: &[Token]) -> Result<(Expr, &
 /// What stands behind something that opens.
 #[cycle(expressions)]
 #[tactic(auto, unfolding(crate::specs::ReadingExpressions::inside, crate::specs::ReadingExpressions::rank_at))]
-fn enclosed(alloc: Global, room: u32, tokens: &[Token]) -> Result<(Expr, &[Token]), ReadError>
-    ensures { Gives (λ x. (expression_of x.0, all_strict x.1.now)) result (inside room ranks (all_strict tokens.now)) }
+fn enclosed(alloc: Global, room: u32, tokens: &[Token]) -> Result<(Box<Expr>, &[Token]), ReadError>
+    ensures { Gives (λ x. (expression_of x.0.value, all_strict x.1.now)) result (inside room ranks (all_strict tokens.now)) }
 {
     if room == 0 {
         return Err(too_deep(tokens));
@@ -72,8 +76,8 @@ fn enclosed(alloc: Global, room: u32, tokens: &[Token]) -> Result<(Expr, &[Token
 /// What stands behind a `!`.
 #[cycle(expressions)]
 #[tactic(auto, unfolding(crate::specs::ReadingExpressions::inside, crate::specs::ReadingExpressions::rank_in))]
-fn negated(alloc: Global, room: u32, tokens: &[Token]) -> Result<(Expr, &[Token]), ReadError>
-    ensures { Gives (λ x. (expression_of x.0, all_strict x.1.now)) result (inside room 0 (all_strict tokens.now)) }
+fn negated(alloc: Global, room: u32, tokens: &[Token]) -> Result<(Box<Expr>, &[Token]), ReadError>
+    ensures { Gives (λ x. (expression_of x.0.value, all_strict x.1.now)) result (inside room 0 (all_strict tokens.now)) }
 {
     if room == 0 {
         return Err(too_deep(tokens));
@@ -89,8 +93,8 @@ fn ranked(
     room: u32,
     rank: u32,
     tokens: &[Token],
-) -> Result<(Expr, &[Token]), ReadError>
-    ensures { Gives (λ x. (expression_of x.0, all_strict x.1.now)) result (rank_at room rank (all_strict tokens.now)) }
+) -> Result<(Box<Expr>, &[Token]), ReadError>
+    ensures { Gives (λ x. (expression_of x.0.value, all_strict x.1.now)) result (rank_at room rank (all_strict tokens.now)) }
 {
     if rank == 0 {
         return unary(alloc, room, tokens);
@@ -108,10 +112,10 @@ fn chain<'a>(
     rank: u32,
     left: u32,
     from: &'a [Token],
-    first: Expr,
+    first: Box<Expr>,
     tokens: &'a [Token],
-) -> Result<(Expr, &'a [Token]), ReadError>
-    ensures { Gives (λ x. (expression_of x.0, all_strict x.1.now)) result (chain_at (is_operator rank) (operand_at rank (rank_at room rank)) left (all_strict from.now) (expression_of first) (all_strict tokens.now)) }
+) -> Result<(Box<Expr>, &'a [Token]), ReadError>
+    ensures { Gives (λ x. (expression_of x.0.value, all_strict x.1.now)) result (chain_at (is_operator rank) (operand_at rank (rank_at room rank)) left (all_strict from.now) (expression_of first.value) (all_strict tokens.now)) }
 {
     if !is_next_operator(rank, tokens) {
         return Ok((first, tokens));
@@ -121,7 +125,8 @@ fn chain<'a>(
     }
     let (node, rest) = operand(alloc, room, rank, left, first, tokens)?;
     let span = between(from, rest);
-    chain(alloc, room, rank, left - 1, from, Expr { span, node }, rest)
+    let first = nodes::boxed(alloc, Expr { span, node })?;
+    chain(alloc, room, rank, left - 1, from, first, rest)
 }
 
 /// An operator and its right operand.
@@ -132,21 +137,21 @@ fn operand(
     room: u32,
     rank: u32,
     left: u32,
-    first: Expr,
+    first: Box<Expr>,
     tokens: &[Token],
 ) -> Result<(ExprNode, &[Token]), ReadError>
-    ensures { Gives (λ x. (node_expression x.0, all_strict x.1.now)) result (operand_at rank (rank_at room rank) left (expression_of first) (all_strict tokens.now)) }
+    ensures { Gives (λ x. (node_expression x.0, all_strict x.1.now)) result (operand_at rank (rank_at room rank) left (expression_of first.value) (all_strict tokens.now)) }
 {
     let (operator, rest) = operator(left, rank, tokens)?;
     let (second, rest) = ranked(alloc, room, rank, rest)?;
-    let node = nodes::binary(alloc, operator, first, second)?;
+    let node = nodes::binary(operator, first, second);
     Ok((node, rest))
 }
 
 #[cycle(expressions)]
 #[tactic(auto, unfolding(crate::specs::ReadingExpressions::unary_at))]
-fn unary(alloc: Global, room: u32, tokens: &[Token]) -> Result<(Expr, &[Token]), ReadError>
-    ensures { Gives (λ x. (expression_of x.0, all_strict x.1.now)) result (unary_at room (inside room) (query_inside room) (all_strict tokens.now)) }
+fn unary(alloc: Global, room: u32, tokens: &[Token]) -> Result<(Box<Expr>, &[Token]), ReadError>
+    ensures { Gives (λ x. (expression_of x.0.value, all_strict x.1.now)) result (unary_at room (inside room) (query_inside room) (all_strict tokens.now)) }
 {
     if is_next_sign("!", tokens) {
         return negation(alloc, room, tokens);
@@ -156,14 +161,15 @@ fn unary(alloc: Global, room: u32, tokens: &[Token]) -> Result<(Expr, &[Token]),
 
 #[cycle(expressions)]
 #[tactic(auto, unfolding(crate::specs::ReadingExpressions::negation_at))]
-fn negation(alloc: Global, room: u32, tokens: &[Token]) -> Result<(Expr, &[Token]), ReadError>
-    ensures { Gives (λ x. (expression_of x.0, all_strict x.1.now)) result (negation_at room (inside room) (all_strict tokens.now)) }
+fn negation(alloc: Global, room: u32, tokens: &[Token]) -> Result<(Box<Expr>, &[Token]), ReadError>
+    ensures { Gives (λ x. (expression_of x.0.value, all_strict x.1.now)) result (negation_at room (inside room) (all_strict tokens.now)) }
 {
     let rest = opening(room, "!", tokens)?;
     let (operand, rest) = negated(alloc, room, rest)?;
-    let node = nodes::negation(alloc, operand)?;
+    let node = nodes::negation(operand);
     let span = between(tokens, rest);
-    Ok((Expr { span, node }, rest))
+    let whole = nodes::boxed(alloc, Expr { span, node })?;
+    Ok((whole, rest))
 }
 
 // ---- parts behind dots
@@ -171,8 +177,8 @@ fn negation(alloc: Global, room: u32, tokens: &[Token]) -> Result<(Expr, &[Token
 /// What stands alone, and its parts behind dots.
 #[cycle(expressions)]
 #[tactic(auto, unfolding(crate::specs::ReadingExpressions::postfix_at))]
-fn postfix(alloc: Global, room: u32, tokens: &[Token]) -> Result<(Expr, &[Token]), ReadError>
-    ensures { Gives (λ x. (expression_of x.0, all_strict x.1.now)) result (postfix_at room (inside room) (query_inside room) (all_strict tokens.now)) }
+fn postfix(alloc: Global, room: u32, tokens: &[Token]) -> Result<(Box<Expr>, &[Token]), ReadError>
+    ensures { Gives (λ x. (expression_of x.0.value, all_strict x.1.now)) result (postfix_at room (inside room) (query_inside room) (all_strict tokens.now)) }
 {
     let (first, left, rest) = head(alloc, room, tokens)?;
     match left {
@@ -188,8 +194,8 @@ fn head(
     alloc: Global,
     room: u32,
     tokens: &[Token],
-) -> Result<(Expr, Option<u32>, &[Token]), ReadError>
-    ensures { Gives (λ x. ((expression_of x.0, x.1), all_strict x.2.now)) result (head_at room (inside room) (query_inside room) (all_strict tokens.now)) }
+) -> Result<(Box<Expr>, Option<u32>, &[Token]), ReadError>
+    ensures { Gives (λ x. ((expression_of x.0.value, x.1), all_strict x.2.now)) result (head_at room (inside room) (query_inside room) (all_strict tokens.now)) }
 {
     if is_next_variable(tokens) {
         return named(alloc, room, tokens);
@@ -204,14 +210,15 @@ fn named(
     alloc: Global,
     room: u32,
     tokens: &[Token],
-) -> Result<(Expr, Option<u32>, &[Token]), ReadError>
-    ensures { Gives (λ x. ((expression_of x.0, x.1), all_strict x.2.now)) result (named_at room (inside room) (all_strict tokens.now)) }
+) -> Result<(Box<Expr>, Option<u32>, &[Token]), ReadError>
+    ensures { Gives (λ x. ((expression_of x.0.value, x.1), all_strict x.2.now)) result (named_at room (inside room) (all_strict tokens.now)) }
 {
     let (variable, rest) = variable(tokens)?;
     let at = between(tokens, rest);
     let (node, left, rest) = behind_variable(alloc, room, variable, at, rest)?;
     let span = between(tokens, rest);
-    Ok((Expr { span, node }, left, rest))
+    let first = nodes::boxed(alloc, Expr { span, node })?;
+    Ok((first, left, rest))
 }
 
 /// What stands behind a variable, and how many parts may follow: none where there is no dot.
@@ -247,7 +254,7 @@ fn dotted<'a>(
     let rest = sign(".", tokens)?;
     let (member, rest) = name(rest)?;
     let node = ExprNode::Var(variable.clone()?);
-    let row = Expr { span: at, node };
+    let row = nodes::boxed(alloc, Expr { span: at, node })?;
     let (node, left, rest) = suffix(
         alloc,
         room,
@@ -268,10 +275,10 @@ fn parts<'a>(
     room: u32,
     left: u32,
     from: &'a [Token],
-    first: Expr,
+    first: Box<Expr>,
     tokens: &'a [Token],
-) -> Result<(Expr, &'a [Token]), ReadError>
-    ensures { Gives (λ x. (expression_of x.0, all_strict x.1.now)) result (chain_at (is_this_sign (codes ".")) (part_at room (inside room)) left (all_strict from.now) (expression_of first) (all_strict tokens.now)) }
+) -> Result<(Box<Expr>, &'a [Token]), ReadError>
+    ensures { Gives (λ x. (expression_of x.0.value, all_strict x.1.now)) result (chain_at (is_this_sign (codes ".")) (part_at room (inside room)) left (all_strict from.now) (expression_of first.value) (all_strict tokens.now)) }
 {
     if !is_next_sign(".", tokens) {
         return Ok((first, tokens));
@@ -281,7 +288,8 @@ fn parts<'a>(
     }
     let (node, rest) = part(alloc, room, left, first, tokens)?;
     let span = between(from, rest);
-    parts(alloc, room, left - 1, from, Expr { span, node }, rest)
+    let first = nodes::boxed(alloc, Expr { span, node })?;
+    parts(alloc, room, left - 1, from, first, rest)
 }
 
 /// One part behind an expression.
@@ -291,10 +299,10 @@ fn part(
     alloc: Global,
     room: u32,
     left: u32,
-    first: Expr,
+    first: Box<Expr>,
     tokens: &[Token],
 ) -> Result<(ExprNode, &[Token]), ReadError>
-    ensures { Gives (λ x. (node_expression x.0, all_strict x.1.now)) result (part_at room (inside room) left (expression_of first) (all_strict tokens.now)) }
+    ensures { Gives (λ x. (node_expression x.0, all_strict x.1.now)) result (part_at room (inside room) left (expression_of first.value) (all_strict tokens.now)) }
 {
     let rest = opening(left, ".", tokens)?;
     let (member, rest) = name(rest)?;
@@ -309,19 +317,19 @@ fn suffix<'a>(
     alloc: Global,
     room: u32,
     bare: Option<&Name>,
-    row: Expr,
+    row: Box<Expr>,
     member: &Name,
     left: u32,
     tokens: &'a [Token],
 ) -> Result<(ExprNode, u32, &'a [Token]), ReadError>
-    ensures { Gives (λ x. ((node_expression x.0, x.1), all_strict x.2.now)) result (suffix_at room (inside room) (option_copied bare.entry) (expression_of row) member.now left (all_strict tokens.now)) }
+    ensures { Gives (λ x. ((node_expression x.0, x.1), all_strict x.2.now)) result (suffix_at room (inside room) (option_copied bare.entry) (expression_of row.value) member.now left (all_strict tokens.now)) }
 {
     if !is_next_sign("(", tokens) {
-        let node = nodes::field(alloc, row, member)?;
+        let node = nodes::field(row, member)?;
         return Ok((node, left.saturating_sub(1), tokens));
     }
     let Some(call) = call_of(bare, member.as_str()) else {
-        let node = nodes::field(alloc, row, member)?;
+        let node = nodes::field(row, member)?;
         return Ok((node, left.saturating_sub(1), tokens));
     };
     let (node, rest) = called(alloc, room, bare, row, call, tokens)?;
@@ -335,11 +343,11 @@ fn called<'a>(
     alloc: Global,
     room: u32,
     bare: Option<&Name>,
-    row: Expr,
+    row: Box<Expr>,
     call: Called,
     tokens: &'a [Token],
 ) -> Result<(ExprNode, &'a [Token]), ReadError>
-    ensures { Gives (λ x. (node_expression x.0, all_strict x.1.now)) result (called_at room (inside room) (name_or_none (option_copied bare.entry)) (expression_of row) (seen call) (all_strict tokens.now)) }
+    ensures { Gives (λ x. (node_expression x.0, all_strict x.1.now)) result (called_at room (inside room) (name_or_none (option_copied bare.entry)) (expression_of row.value) (seen call) (all_strict tokens.now)) }
 {
     let rest = opening(room, "(", tokens)?;
     let name = name_or_empty(alloc, bare)?;
@@ -355,11 +363,11 @@ fn call_parts(
     alloc: Global,
     room: u32,
     name: Name,
-    row: Expr,
+    row: Box<Expr>,
     call: Called,
     tokens: &[Token],
 ) -> Result<(ExprNode, &[Token]), ReadError>
-    ensures { Gives (λ x. (node_expression x.0, all_strict x.1.now)) result (call_at (inside room) name (expression_of row) (seen call) (all_strict tokens.now)) }
+    ensures { Gives (λ x. (node_expression x.0, all_strict x.1.now)) result (call_at (inside room) name (expression_of row.value) (seen call) (all_strict tokens.now)) }
 {
     match call {
         Called::SizeOf => Ok((ExprNode::Size(name), tokens)),
@@ -370,18 +378,15 @@ fn call_parts(
         }
         Called::EqualTo => {
             let (other, rest) = enclosed(alloc, room, tokens)?;
-            let node = nodes::equals(alloc, row, other)?;
-            Ok((node, rest))
+            Ok((nodes::equals(row, other), rest))
         }
         Called::GetFrom => {
             let (index, rest) = enclosed(alloc, room, tokens)?;
-            let node = nodes::get(alloc, name, index)?;
-            Ok((node, rest))
+            Ok((nodes::get(name, index), rest))
         }
         Called::ContainedIn => {
             let (item, rest) = enclosed(alloc, room, tokens)?;
-            let node = nodes::contains(alloc, name, item)?;
-            Ok((node, rest))
+            Ok((nodes::contains(name, item), rest))
         }
         Called::QueryOf => query_of_element(alloc, room, tokens),
         Called::QueryOfLong => query_of_long(alloc, room, tokens),
@@ -462,14 +467,18 @@ fn next_argument(alloc: Global, room: u32, tokens: &[Token]) -> Result<(Expr, &[
 {
     let rest = sign(",", tokens)?;
     let (argument, rest) = enclosed(alloc, room, rest)?;
-    Ok((argument, rest))
+    Ok((Box::into_inner(argument), rest))
 }
 
 /// A query where nothing else may stand, behind something that opens.
 #[cycle(expressions)]
 #[tactic(auto, unfolding(crate::specs::ReadingExpressions::query_inside))]
-fn enclosed_query(alloc: Global, room: u32, tokens: &[Token]) -> Result<(Expr, &[Token]), ReadError>
-    ensures { Gives (λ x. (expression_of x.0, all_strict x.1.now)) result (query_inside room (all_strict tokens.now)) }
+fn enclosed_query(
+    alloc: Global,
+    room: u32,
+    tokens: &[Token],
+) -> Result<(Box<Expr>, &[Token]), ReadError>
+    ensures { Gives (λ x. (expression_of x.0.value, all_strict x.1.now)) result (query_inside room (all_strict tokens.now)) }
 {
     if room == 0 {
         return Err(too_deep(tokens));
@@ -479,15 +488,16 @@ fn enclosed_query(alloc: Global, room: u32, tokens: &[Token]) -> Result<(Expr, &
 
 #[cycle(expressions)]
 #[tactic(auto, unfolding(crate::specs::ReadingExpressions::query_in))]
-fn query(alloc: Global, room: u32, tokens: &[Token]) -> Result<(Expr, &[Token]), ReadError>
-    ensures { Gives (λ x. (expression_of x.0, all_strict x.1.now)) result (query_in room (inside room) (all_strict tokens.now)) }
+fn query(alloc: Global, room: u32, tokens: &[Token]) -> Result<(Box<Expr>, &[Token]), ReadError>
+    ensures { Gives (λ x. (expression_of x.0.value, all_strict x.1.now)) result (query_in room (inside room) (all_strict tokens.now)) }
 {
     let (call, rest) = query_start(room, tokens)?;
     let (name, row) = nodes::nothing(alloc)?;
     let (node, rest) = call_parts(alloc, room, name, row, call, rest)?;
     let rest = sign(")", rest)?;
     let span = between(tokens, rest);
-    Ok((Expr { span, node }, rest))
+    let query = nodes::boxed(alloc, Expr { span, node })?;
+    Ok((query, rest))
 }
 
 // ---- what stands alone
@@ -500,8 +510,8 @@ fn source(
     room: u32,
     set: bool,
     tokens: &[Token],
-) -> Result<(Option<Expr>, &[Token]), ReadError>
-    ensures { Gives (λ x. (option_map expression_of x.0, all_strict x.1.now)) result (source_at (query_inside room) set (all_strict tokens.now)) }
+) -> Result<(Option<Box<Expr>>, &[Token]), ReadError>
+    ensures { Gives (λ x. (option_map (λ e. expression_of e.value) x.0, all_strict x.1.now)) result (source_at (query_inside room) set (all_strict tokens.now)) }
 {
     if set && is_next_word("db", tokens) {
         let (query, rest) = enclosed_query(alloc, room, tokens)?;
@@ -517,8 +527,8 @@ fn source_end(
     room: u32,
     set: bool,
     tokens: &[Token],
-) -> Result<(Option<Expr>, &[Token]), ReadError>
-    ensures { Gives (λ x. (option_map expression_of x.0, all_strict x.1.now)) result (source_end_at (query_inside room) set (all_strict tokens.now)) }
+) -> Result<(Option<Box<Expr>>, &[Token]), ReadError>
+    ensures { Gives (λ x. (option_map (λ e. expression_of e.value) x.0, all_strict x.1.now)) result (source_end_at (query_inside room) set (all_strict tokens.now)) }
 {
     let (query, rest) = source(alloc, room, set, tokens)?;
     let rest = sign(")", rest)?;
@@ -528,20 +538,21 @@ fn source_end(
 /// A new list or set.
 #[cycle(expressions)]
 #[tactic(auto, unfolding(crate::specs::ReadingExpressions::new_at))]
-fn new(alloc: Global, room: u32, tokens: &[Token]) -> Result<(Expr, &[Token]), ReadError>
-    ensures { Gives (λ x. (expression_of x.0, all_strict x.1.now)) result (new_at room (query_inside room) (all_strict tokens.now)) }
+fn new(alloc: Global, room: u32, tokens: &[Token]) -> Result<(Box<Expr>, &[Token]), ReadError>
+    ensures { Gives (λ x. (expression_of x.0.value, all_strict x.1.now)) result (new_at room (query_inside room) (all_strict tokens.now)) }
 {
     let (set, rest) = creation(room, tokens)?;
     let (query, rest) = source_end(alloc, room, set, rest)?;
-    let node = nodes::creation(alloc, set, query)?;
+    let node = nodes::creation(set, query);
     let span = between(tokens, rest);
-    Ok((Expr { span, node }, rest))
+    let whole = nodes::boxed(alloc, Expr { span, node })?;
+    Ok((whole, rest))
 }
 
 #[cycle(expressions)]
 #[tactic(auto, unfolding(crate::specs::ReadingExpressions::grouped_at))]
-fn grouped(alloc: Global, room: u32, tokens: &[Token]) -> Result<(Expr, &[Token]), ReadError>
-    ensures { Gives (λ x. (expression_of x.0, all_strict x.1.now)) result (grouped_at room (inside room) (all_strict tokens.now)) }
+fn grouped(alloc: Global, room: u32, tokens: &[Token]) -> Result<(Box<Expr>, &[Token]), ReadError>
+    ensures { Gives (λ x. (expression_of x.0.value, all_strict x.1.now)) result (grouped_at room (inside room) (all_strict tokens.now)) }
 {
     let rest = opening(room, "(", tokens)?;
     let (inner, rest) = enclosed(alloc, room, rest)?;
@@ -549,10 +560,18 @@ fn grouped(alloc: Global, room: u32, tokens: &[Token]) -> Result<(Expr, &[Token]
     Ok((inner, rest))
 }
 
+fn boxed_literal(alloc: Global, tokens: &[Token]) -> Result<(Box<Expr>, &[Token]), ReadError>
+    ensures { Gives (λ x. (expression_of x.0.value, all_strict x.1.now)) result (literal_at (all_strict tokens.now)) }
+{
+    let (value, rest) = literal(tokens)?;
+    let value = nodes::boxed(alloc, value)?;
+    Ok((value, rest))
+}
+
 #[cycle(expressions)]
 #[tactic(auto, unfolding(crate::specs::ReadingExpressions::atom_at))]
-fn atom(alloc: Global, room: u32, tokens: &[Token]) -> Result<(Expr, &[Token]), ReadError>
-    ensures { Gives (λ x. (expression_of x.0, all_strict x.1.now)) result (atom_at room (inside room) (query_inside room) (all_strict tokens.now)) }
+fn atom(alloc: Global, room: u32, tokens: &[Token]) -> Result<(Box<Expr>, &[Token]), ReadError>
+    ensures { Gives (λ x. (expression_of x.0.value, all_strict x.1.now)) result (atom_at room (inside room) (query_inside room) (all_strict tokens.now)) }
 {
     if is_next_sign("(", tokens) {
         return grouped(alloc, room, tokens);
@@ -560,5 +579,5 @@ fn atom(alloc: Global, room: u32, tokens: &[Token]) -> Result<(Expr, &[Token]), 
     if is_next_word("new", tokens) {
         return new(alloc, room, tokens);
     }
-    literal(tokens)
+    boxed_literal(alloc, tokens)
 }

@@ -15,11 +15,7 @@ mod parser;
 mod places;
 mod plain;
 mod printed;
-#[cfg(test)]
-mod samples;
 mod sorts;
-#[cfg(test)]
-mod tests;
 mod tokens;
 mod types;
 mod words;

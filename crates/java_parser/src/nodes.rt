@@ -13,55 +13,51 @@ use qbs_base::{Name, Text};
 use readers::ReadError;
 use std::alloc::Global;
 
-pub fn field(alloc: Global, row: Expr, member: &Name) -> Result<ExprNode, ReadError>
-    ensures ok { IfOk result (λ n. node_expression n ≡ λ at. plain.Field at (expression row) member.now) }
+/// The expression in a box.
+pub fn boxed(alloc: Global, e: Expr) -> Result<Box<Expr>, ReadError>
+    ensures ok { IfOk result (λ b. expression b.value ≡ expression e) }
+    ensures err { IfErr result (λ e. e ≡ Memory) }
+{
+    let e = Box::new(alloc, e)?;
+    Ok(e)
+}
+
+pub fn field(row: Box<Expr>, member: &Name) -> Result<ExprNode, ReadError>
+    ensures ok { IfOk result (λ n. node_expression n ≡ λ at. plain.Field at (expression row.value) member.now) }
     ensures err { IfErr result (λ e. e ≡ Memory) }
 {
     let member = member.clone()?;
-    let row = Box::new(alloc, row)?;
     Ok(ExprNode::Field(row, member))
 }
 
-pub fn binary(alloc: Global, op: Op, left: Expr, right: Expr) -> Result<ExprNode, ReadError>
-    ensures ok { IfOk result (λ n. node_expression n ≡ λ at. plain.Binary at op (expression left) (expression right)) }
-    ensures err { IfErr result (λ e. e ≡ Memory) }
+pub fn binary(op: Op, left: Box<Expr>, right: Box<Expr>) -> ExprNode
+    ensures { node_expression result ≡ λ at. plain.Binary at op (expression left.value) (expression right.value) }
 {
-    let left = Box::new(alloc, left)?;
-    let right = Box::new(alloc, right)?;
-    Ok(ExprNode::Binary(op, left, right))
+    ExprNode::Binary(op, left, right)
 }
 
-pub fn negation(alloc: Global, operand: Expr) -> Result<ExprNode, ReadError>
-    ensures ok { IfOk result (λ n. node_expression n ≡ λ at. plain.Not at (expression operand)) }
-    ensures err { IfErr result (λ e. e ≡ Memory) }
+pub fn negation(operand: Box<Expr>) -> ExprNode
+    ensures { node_expression result ≡ λ at. plain.Not at (expression operand.value) }
 {
-    let operand = Box::new(alloc, operand)?;
-    Ok(ExprNode::Not(operand))
+    ExprNode::Not(operand)
 }
 
-pub fn equals(alloc: Global, left: Expr, right: Expr) -> Result<ExprNode, ReadError>
-    ensures ok { IfOk result (λ n. node_expression n ≡ λ at. plain.Equals at (expression left) (expression right)) }
-    ensures err { IfErr result (λ e. e ≡ Memory) }
+pub fn equals(left: Box<Expr>, right: Box<Expr>) -> ExprNode
+    ensures { node_expression result ≡ λ at. plain.Equals at (expression left.value) (expression right.value) }
 {
-    let left = Box::new(alloc, left)?;
-    let right = Box::new(alloc, right)?;
-    Ok(ExprNode::Equals(left, right))
+    ExprNode::Equals(left, right)
 }
 
-pub fn get(alloc: Global, list: Name, index: Expr) -> Result<ExprNode, ReadError>
-    ensures ok { IfOk result (λ n. node_expression n ≡ λ at. plain.Get at list (expression index)) }
-    ensures err { IfErr result (λ e. e ≡ Memory) }
+pub fn get(list: Name, index: Box<Expr>) -> ExprNode
+    ensures { node_expression result ≡ λ at. plain.Get at list (expression index.value) }
 {
-    let index = Box::new(alloc, index)?;
-    Ok(ExprNode::Get(list, index))
+    ExprNode::Get(list, index)
 }
 
-pub fn contains(alloc: Global, list: Name, item: Expr) -> Result<ExprNode, ReadError>
-    ensures ok { IfOk result (λ n. node_expression n ≡ λ at. plain.Contains at list (expression item)) }
-    ensures err { IfErr result (λ e. e ≡ Memory) }
+pub fn contains(list: Name, item: Box<Expr>) -> ExprNode
+    ensures { node_expression result ≡ λ at. plain.Contains at list (expression item.value) }
 {
-    let item = Box::new(alloc, item)?;
-    Ok(ExprNode::Contains(list, item))
+    ExprNode::Contains(list, item)
 }
 
 pub fn query(ty: JTy, text: &Text, arguments: Vec<Expr>) -> Result<ExprNode, ReadError>
@@ -89,29 +85,26 @@ pub fn query_boolean(text: &Text, arguments: Vec<Expr>) -> Result<ExprNode, Read
 }
 
 /// A new list or set, of a query where there is one. A list is of none.
-pub fn creation(alloc: Global, set: bool, query: Option<Expr>) -> Result<ExprNode, ReadError>
-    ensures ok { IfOk result (λ n. node_expression n ≡ λ at. created_as set at (option_map expression query)) }
-    ensures err { IfErr result (λ e. e ≡ Memory) }
+pub fn creation(set: bool, query: Option<Box<Expr>>) -> ExprNode
+    ensures { node_expression result ≡ λ at. created_as set at (option_map (λ e. expression e.value) query) }
 {
     if !set {
-        return Ok(ExprNode::NewList);
+        return ExprNode::NewList;
     }
     match query {
-        None => Ok(ExprNode::NewSet(None)),
-        Some(query) => {
-            let query = Box::new(alloc, query)?;
-            Ok(ExprNode::NewSet(Some(query)))
-        }
+        None => ExprNode::NewSet(None),
+        Some(query) => ExprNode::NewSet(Some(query)),
     }
 }
 
 /// Stands for an expression where none is kept.
-pub fn nothing(alloc: Global) -> Result<(Name, Expr), ReadError>
-    ensures ok { IfOk result (λ x. (x.0 ≡ []) × (expression x.1 ≡ plain.Var nowhere [])) }
+pub fn nothing(alloc: Global) -> Result<(Name, Box<Expr>), ReadError>
+    ensures ok { IfOk result (λ x. (x.0 ≡ []) × (expression x.1.value ≡ plain.Var nowhere [])) }
     ensures err { IfErr result (λ e. e ≡ Memory) }
 {
     let name = Text::from_str(alloc, "")?;
     let node = ExprNode::Var(name.clone()?);
     let span = NOWHERE;
-    Ok((name, Expr { span, node }))
+    let row = boxed(alloc, Expr { span, node })?;
+    Ok((name, row))
 }

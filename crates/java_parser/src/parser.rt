@@ -89,7 +89,7 @@ fn whole_expression(alloc: Global, tokens: &[Token]) -> Result<Expr, ReadError>
     if !rest.is_empty() {
         return Err(unexpected(rest));
     }
-    Ok(expression)
+    Ok(Box::into_inner(expression))
 }
 
 /// The type that the tokens are, all of them. A fault stands at the first token with which no type

@@ -38,8 +38,12 @@ pub fn less(room: u32) -> u32
 }
 
 #[tactic(auto, unfolding(crate::specs::ReadingStatements::condition_at))]
-pub fn condition(alloc: Global, room: u32, tokens: &[Token]) -> Result<(Expr, &[Token]), ReadError>
-    ensures { Gives (λ x. (expression_of x.0, all_strict x.1.now)) result (condition_at room (all_strict tokens.now)) }
+pub fn condition(
+    alloc: Global,
+    room: u32,
+    tokens: &[Token],
+) -> Result<(Box<Expr>, &[Token]), ReadError>
+    ensures { Gives (λ x. (expression_of x.0.value, all_strict x.1.now)) result (condition_at room (all_strict tokens.now)) }
 {
     let rest = opening(room, "(", tokens)?;
     let (condition, rest) = expression(alloc, less(room), rest)?;
@@ -48,8 +52,8 @@ pub fn condition(alloc: Global, room: u32, tokens: &[Token]) -> Result<(Expr, &[
 }
 
 #[tactic(auto, unfolding(crate::specs::ReadingStatements::value_at))]
-pub fn value(alloc: Global, room: u32, tokens: &[Token]) -> Result<(Expr, &[Token]), ReadError>
-    ensures { Gives (λ x. (expression_of x.0, all_strict x.1.now)) result (value_at room (all_strict tokens.now)) }
+pub fn value(alloc: Global, room: u32, tokens: &[Token]) -> Result<(Box<Expr>, &[Token]), ReadError>
+    ensures { Gives (λ x. (expression_of x.0.value, all_strict x.1.now)) result (value_at room (all_strict tokens.now)) }
 {
     let (value, rest) = expression(alloc, room, tokens)?;
     let rest = sign(";", rest)?;
@@ -70,6 +74,7 @@ fn assignment<'a>(
     let rest = sign("=", tokens)?;
     let (value, rest) = value(alloc, room, rest)?;
     let name = target.clone()?;
+    let value = Box::into_inner(value);
     Ok((Tail::Node(StmtNode::Assign { name, value }), rest))
 }
 
@@ -84,7 +89,7 @@ fn increase<'a>(
 {
     let rest = sign("+=", tokens)?;
     let (value, rest) = value(alloc, room, rest)?;
-    Ok((Tail::Plus(value), rest))
+    Ok((Tail::Plus(Box::into_inner(value)), rest))
 }
 
 #[tactic(auto, unfolding(crate::specs::ReadingStatements::increment_at))]
@@ -109,6 +114,7 @@ fn addition<'a>(
     let (value, rest) = condition(alloc, room, rest)?;
     let rest = sign(";", rest)?;
     let name = target.clone()?;
+    let value = Box::into_inner(value);
     Ok((Tail::Node(StmtNode::Add { name, value }), rest))
 }
 
@@ -126,6 +132,7 @@ fn printing<'a>(
     let rest = word("println", rest)?;
     let (value, rest) = condition(alloc, room, rest)?;
     let rest = sign(";", rest)?;
+    let value = Box::into_inner(value);
     Ok((Tail::Node(StmtNode::Print { value }), rest))
 }
 
@@ -242,13 +249,25 @@ pub fn named_rest<'a>(
 }
 
 /// The value of a name and another one, all with one place.
-fn sum(alloc: Global, name: &Name, at: Span, value: Expr) -> Result<Expr, ReadError>
-    ensures ok { IfOk result (λ e. expression_of e ≡ plain.Binary at ops.Add (plain.Var at name.now) (expression_of value)) }
+fn sum(alloc: Global, name: &Name, at: Span, value: Box<Expr>) -> Result<Expr, ReadError>
+    ensures ok { IfOk result (λ e. expression_of e ≡ plain.Binary at ops.Add (plain.Var at name.now) (expression_of value.value)) }
     ensures err { IfErr result (λ e. e ≡ Memory) }
 {
     let node = ExprNode::Var(name.clone()?);
-    let node = nodes::binary(alloc, Op::Add, Expr { span: at, node }, value)?;
+    let left = nodes::boxed(alloc, Expr { span: at, node })?;
+    let node = nodes::binary(Op::Add, left, value);
     Ok(Expr { span: at, node })
+}
+
+/// What adds a value to that of a name, all with one place.
+fn increased(alloc: Global, target: &Name, at: Span, value: Expr) -> Result<StmtNode, ReadError>
+    ensures ok { IfOk result (λ n. node_statement n at ≡ plain.Assign at target.now (plain.Binary at ops.Add (plain.Var at target.now) (expression_of value))) }
+    ensures err { IfErr result (λ e. e ≡ Memory) }
+{
+    let value = nodes::boxed(alloc, value)?;
+    let name = target.clone()?;
+    let value = sum(alloc, target, at, value)?;
+    Ok(StmtNode::Assign { name, value })
 }
 
 /// The node of a statement with this name, this rest and this place.
@@ -256,18 +275,14 @@ pub fn node_of(alloc: Global, target: &Name, tail: Tail, at: Span) -> Result<Stm
     ensures ok { IfOk result (λ n. node_statement n at ≡ tail_of target.now tail at) }
     ensures err { IfErr result (λ e. e ≡ Memory) }
 {
-    let one = ExprNode::Lit(Scalar::Long(1));
-    let added = match tail {
-        Tail::Node(node) => return Ok(node),
-        Tail::Plus(value) => value,
-        Tail::Increment => Expr {
-            span: at,
-            node: one,
-        },
-    };
-    let value = sum(alloc, target, at, added)?;
-    let name = target.clone()?;
-    Ok(StmtNode::Assign { name, value })
+    match tail {
+        Tail::Node(node) => Ok(node),
+        Tail::Plus(value) => increased(alloc, target, at, value),
+        Tail::Increment => {
+            let node = ExprNode::Lit(Scalar::Long(1));
+            increased(alloc, target, at, Expr { span: at, node })
+        }
+    }
 }
 
 /// A statement that begins with a name.
@@ -297,7 +312,7 @@ fn returned(
         return Ok((None, rest));
     }
     let (value, rest) = value(alloc, room, tokens)?;
-    Ok((Some(value), rest))
+    Ok((Some(Box::into_inner(value)), rest))
 }
 
 #[tactic(auto, unfolding(crate::specs::ReadingStatements::returning_at))]

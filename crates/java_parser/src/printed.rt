@@ -1,6 +1,6 @@
 //! What canonical texts are read as. These do nothing.
 ghost use Rattle.std.specs.Prelude.{◌≡◌, ℕ, List, Ok};
-ghost use Rattle.java_ast.specs.Canonical.{canonical};
+ghost use Rattle.java_text.specs.Canonical.{canonical};
 ghost use Rattle.java_ast.specs.Tree.{PlainProgram};
 ghost use Rattle.java_lex.specs.Cutting.{HasNodes, nodes_of};
 ghost use Rattle.java_lex.specs.declared.token.Token.{Token};

@@ -35,29 +35,29 @@ arguments-returns t c =
 
 -- ---- what is made of what is read
 
-pub call_parts-returns-in_ok-node-in-EqualTo : goal.call_parts-returns-in_ok-node-in-EqualTo
+pub call_parts-returns-in_ok-other-in-EqualTo : goal.call_parts-returns-in_ok-other-in-EqualTo
 unfolding call_at
-call_parts-returns-in_ok-node-in-EqualTo t c = rw (c.in-EqualTo.is, c.in_ok-other-in-EqualTo.ensures, c.in_ok-node-in-EqualTo.ensures.ok) refl
+call_parts-returns-in_ok-other-in-EqualTo t c = rw (c.in-EqualTo.is, c.in_ok-other-in-EqualTo.ensures, c.equals.ensures) refl
 
-pub call_parts-returns-in_ok-node-in-GetFrom : goal.call_parts-returns-in_ok-node-in-GetFrom
+pub call_parts-returns-in_ok-index-in-GetFrom : goal.call_parts-returns-in_ok-index-in-GetFrom
 unfolding call_at
-call_parts-returns-in_ok-node-in-GetFrom t c = rw (c.in-GetFrom.is, c.in_ok-index-in-GetFrom.ensures, c.in_ok-node-in-GetFrom.ensures.ok) refl
+call_parts-returns-in_ok-index-in-GetFrom t c = rw (c.in-GetFrom.is, c.in_ok-index-in-GetFrom.ensures, c.get.ensures) refl
 
-pub call_parts-returns-in_ok-node-in-ContainedIn : goal.call_parts-returns-in_ok-node-in-ContainedIn
+pub call_parts-returns-in_ok-item-in-ContainedIn : goal.call_parts-returns-in_ok-item-in-ContainedIn
 unfolding call_at
-call_parts-returns-in_ok-node-in-ContainedIn t c = rw (c.in-ContainedIn.is, c.in_ok-item-in-ContainedIn.ensures, c.in_ok-node-in-ContainedIn.ensures.ok) refl
+call_parts-returns-in_ok-item-in-ContainedIn t c = rw (c.in-ContainedIn.is, c.in_ok-item-in-ContainedIn.ensures, c.contains.ensures) refl
 
 pub negation-returns : goal.negation-returns
 unfolding negation_at
-negation-returns t c = rw (c.in_ok-rest.ensures.value, c.in_ok-operand.ensures, c.in_ok-node.ensures.ok, c.between-span.ensures) refl
+negation-returns t c = rw (c.in_ok-rest.ensures.value, c.in_ok-operand.ensures, c.in_ok-whole.ensures.ok, c.negation-node.ensures, c.between-span.ensures) refl
 
 pub new-returns : goal.new-returns
 unfolding new_at
-new-returns t c = rw (c.in_ok-set.ensures, c.in_ok-query.ensures, c.in_ok-node.ensures.ok, c.between-span.ensures) refl
+new-returns t c = rw (c.in_ok-set.ensures, c.in_ok-query.ensures, c.in_ok-whole.ensures.ok, c.creation-node.ensures, c.between-span.ensures) refl
 
 pub operand-returns : goal.operand-returns
 unfolding operand_at
-operand-returns t c = rw (c.in_ok-operator.ensures.value, c.in_ok-second.ensures, c.in_ok-node.ensures.ok) refl
+operand-returns t c = rw (c.in_ok-operator.ensures.value, c.in_ok-second.ensures, c.binary-node.ensures) refl
 
 pub query_of_element-returns : goal.query_of_element-returns
 unfolding query_of_element_at
@@ -73,14 +73,14 @@ query_of_truth-returns t c = rw (c.in_ok-text.ensures, c.in_ok-arguments.ensures
 
 pub ranked-returns : goal.ranked-returns
 ranked-returns t c =
-    let e = ranked_on c.args.room (c.args.rank - 1) (all_strict c.args.tokens.now) (expression c.in_ok-first.first) (all_strict c.in_ok-first.rest.now) c.in_ok-first.ensures in
+    let e = ranked_on c.args.room (c.args.rank - 1) (all_strict c.args.tokens.now) (expression c.in_ok-first.first.value) (all_strict c.in_ok-first.rest.now) c.in_ok-first.ensures in
     let k : c.args.rank ≡ suc (c.args.rank - 1) = omega arith in
     rw (ap (λ (n : ℕ). rank_at c.args.room n (all_strict c.args.tokens.now)) k ∙ e, sym c.longest.ensures) c.chain.ensures
 
 pub suffix-returns-then-not-is_next_sign : goal.suffix-returns-then-not-is_next_sign
 suffix-returns-then-not-is_next_sign t c =
-    rw c.saturating_sub.ensures (not_opened c.args.room (inside c.args.room) (option_copied c.args.bare) (expression c.args.row) c.args.member.now c.args.left (all_strict c.args.tokens.now) (node_expression c.in_ok-node.node) c.in_ok-node.ensures.ok (sym c.is_next_sign.ensures ∙ c.if-not-is_next_sign.true))
+    rw c.saturating_sub.ensures (not_opened c.args.room (inside c.args.room) (option_copied c.args.bare) (expression c.args.row.value) c.args.member.now c.args.left (all_strict c.args.tokens.now) (node_expression c.in_ok-node.node) c.in_ok-node.ensures.ok (sym c.is_next_sign.ensures ∙ c.if-not-is_next_sign.true))
 
 pub suffix-returns-in_default : goal.suffix-returns-in_default
 suffix-returns-in_default t c =
-    rw c.saturating_sub-in_default.ensures (not_known c.args.room (inside c.args.room) (option_copied c.args.bare) (expression c.args.row) c.args.member.now c.args.left (all_strict c.args.tokens.now) (node_expression c.in_ok-node-2.node) c.in_ok-node-2.ensures.ok (sym (c.in_default.ensures ∙ ap (λ (m : List ℕ). call_of (option_copied c.args.bare) m) c.as_str.ensures)))
+    rw c.saturating_sub-in_default.ensures (not_known c.args.room (inside c.args.room) (option_copied c.args.bare) (expression c.args.row.value) c.args.member.now c.args.left (all_strict c.args.tokens.now) (node_expression c.in_ok-node-2.node) c.in_ok-node-2.ensures.ok (sym (c.in_default.ensures ∙ ap (λ (m : List ℕ). call_of (option_copied c.args.bare) m) c.as_str.ensures)))

@@ -7,4 +7,4 @@ use Rattle.java_parser.proofs.plain.sum.Goals as goal
 pub returns-clause-ok : goal.returns-clause-ok
 returns-clause-ok c =
     let same : c.in_ok-clone.field-0 ≡ c.args.name.now = search rules in
-    rw c.in_ok-node.ensures.ok (ap (λ (w : List ℕ). plain.Binary c.args.at ops.Add (plain.Var c.args.at w) (expression c.args.value)) same)
+    rw (c.binary-node.ensures, c.in_ok-left.ensures.ok) (ap (λ (w : List ℕ). plain.Binary c.args.at ops.Add (plain.Var c.args.at w) (expression c.args.value.value)) same)
