@@ -3,6 +3,7 @@ pub mod CanonicalQuery
 pub mod Combinations
 pub mod Computed
 pub mod Conditions
+pub mod Depths
 pub mod Doubled
 pub mod Inverted
 pub mod InvertedQuery

@@ -1,6 +1,7 @@
 -- The plain tree of each tree of the code.
 use Rattle.std.specs.declared.option.Option.{Option}
 use Rattle.std.specs.declared.option.Option.TheVariants.{Some, None}
+use Rattle.std.specs.Global.{Box}
 use Rattle.sql_ast.specs.declared.tree.Cond.{Cond}
 use Rattle.sql_ast.specs.declared.tree.Cond as conds
 use Rattle.sql_ast.specs.declared.tree.ListQuery.{ListQuery}
@@ -25,6 +26,11 @@ condition (conds.Within' opnd negated col from (conds.Some' _ a)) = plain.Within
 abbrev pub filter_of : Option Cond → Filter
 filter_of None = plain.Everything
 filter_of (Some cond) = plain.Where (condition cond)
+
+-- the WHERE of an inner SELECT
+abbrev pub inner_filter : Option (Box Cond) → Filter
+inner_filter None = plain.Everything
+inner_filter (Some cond) = plain.Where (condition cond.value)
 
 abbrev pub listing : ListQuery → PlainListing
 listing q =

@@ -14,6 +14,3 @@ pub use tree::{
     Cmp, Cond, FromItem, FromItems, ListQuery, NumberKind, NumberQuery, Queries, Query, SqlCol,
     SqlColumn, SqlItem, SqlKey, SqlKeys, SqlOpnd, TruthQuery,
 };
-
-#[cfg(test)]
-mod tests;

@@ -1,7 +1,8 @@
 // The printer of queries. Each function appends to the text so far.
 ghost use Rattle.std.specs.Prelude.{◌≡◌, ◌+◌, ◌++◌, OnOk, IfOk, string_bytes, length, codes};
 ghost use Rattle.std.specs.Fmt.{decimal, signed_decimal};
-ghost use Rattle.sql_ast.specs.Reading.{query, condition, filter_of, listing, number, truth};
+ghost use Rattle.sql_ast.specs.Reading.{query, condition, filter_of, inner_filter, listing, number, truth};
+ghost use Rattle.sql_ast.specs.Tree.{Both, Either};
 ghost use Rattle.sql_ast.specs.Canonical.{canonical, col_text, doubled, scalar_text, opnd_text, cmp_text, from_item_text, further_items_text, from_text, opening, closing, in_text, condition_text, filter_text, item_text, group_text, key_text, keys_text, limit_text, kind_text, source_text, listing_text, number_text, truth_text, exists_text, down_text, least_text, total_text};
 ghost use Rattle.std.specs.List.{flat_map};
 
@@ -160,47 +161,43 @@ fn with_items(around: u64, froms: &FromItems) -> Result<u64, NoMemory>
     around.checked_add(froms.len() as u64).ok_or(NoMemory)
 }
 
+fn put_comparison(out: &mut String, cmp: Cmp, a: &SqlOpnd, b: &SqlOpnd) -> Result<(), NoMemory>
+    ensures { OnOk result (string_bytes out.new ≡ string_bytes out.old ++ (opnd_text a.now ++ cmp_text cmp ++ opnd_text b.now)) }
+{
+    put_opnd(out, a)?;
+    put_cmp(out, cmp)?;
+    put_opnd(out, b)
+}
+
+/// Appends IN or NOT IN as far as its FROM.
+fn put_member(out: &mut String, opnd: &SqlOpnd, negated: bool, col: &SqlCol) -> Result<(), NoMemory>
+    ensures { OnOk result (string_bytes out.new ≡ string_bytes out.old ++ (opnd_text opnd.now ++ in_text negated ++ col_text col.now ++ codes " FROM ")) }
+{
+    put_opnd(out, opnd)?;
+    put_in(out, negated)?;
+    put_col(out, col)?;
+    out.push_str(" FROM ")?;
+    Ok(())
+}
+
 /// Appends a condition where so many FROM items stand in the SELECTs around, in parentheses where
 /// it binds less tightly than `rank` wants.
+#[cycle(put_condition)]
 fn put_condition(out: &mut String, around: u64, rank: u8, cond: &Cond) -> Result<(), NoMemory>
     ensures { OnOk result (string_bytes out.new ≡ string_bytes out.old ++ condition_text around rank (condition cond.now)) }
 {
     match cond {
-        Cond::Either(a, b) => {
-            open_if(out, 0 < rank)?;
-            put_condition(out, around, 0, a)?;
-            out.push_str(" OR ")?;
-            put_condition(out, around, 1, b)?;
-            close_if(out, 0 < rank)
-        }
-        Cond::Both(a, b) => {
-            open_if(out, 1 < rank)?;
-            put_condition(out, around, 1, a)?;
-            out.push_str(" AND ")?;
-            put_condition(out, around, 2, b)?;
-            close_if(out, 1 < rank)
-        }
+        Cond::Either(a, b) => put_either(out, around, rank, a, b),
+        Cond::Both(a, b) => put_both(out, around, rank, a, b),
         Cond::Not(a) => {
             out.push_str("NOT ")?;
             put_condition(out, around, 2, a)
         }
-        Cond::Compare(cmp, a, b) => {
-            put_opnd(out, a)?;
-            put_cmp(out, *cmp)?;
-            put_opnd(out, b)
-        }
+        Cond::Compare(cmp, a, b) => put_comparison(out, *cmp, a, b),
         Cond::Bare(col) => put_col(out, col),
         Cond::Exists { from, filter } => {
             out.push_str("EXISTS (SELECT 1 FROM ")?;
-            put_from(out, around, from.as_slice())?;
-            match filter {
-                None => close_if(out, true),
-                Some(a) => {
-                    out.push_str(" WHERE ")?;
-                    put_condition(out, with_items(around, from)?, 0, a)?;
-                    close_if(out, true)
-                }
-            }
+            put_inner(out, around, from, filter)
         }
         Cond::Within {
             opnd,
@@ -209,19 +206,59 @@ fn put_condition(out: &mut String, around: u64, rank: u8, cond: &Cond) -> Result
             from,
             filter,
         } => {
-            put_opnd(out, opnd)?;
-            put_in(out, *negated)?;
-            put_col(out, col)?;
-            out.push_str(" FROM ")?;
-            put_from(out, around, from.as_slice())?;
-            match filter {
-                None => close_if(out, true),
-                Some(a) => {
-                    out.push_str(" WHERE ")?;
-                    put_condition(out, with_items(around, from)?, 0, a)?;
-                    close_if(out, true)
-                }
-            }
+            put_member(out, opnd, *negated, col)?;
+            put_inner(out, around, from, filter)
+        }
+    }
+}
+
+#[cycle(put_condition)]
+fn put_either(out: &mut String, around: u64, rank: u8, a: &Cond, b: &Cond) -> Result<(), NoMemory>
+    ensures { OnOk result (string_bytes out.new ≡ string_bytes out.old ++ condition_text around rank (Either (condition a.now) (condition b.now))) }
+{
+    open_if(out, 0 < rank)?;
+    put_condition(out, around, 0, a)?;
+    out.push_str(" OR ")?;
+    put_condition(out, around, 1, b)?;
+    close_if(out, 0 < rank)
+}
+
+#[cycle(put_condition)]
+fn put_both(out: &mut String, around: u64, rank: u8, a: &Cond, b: &Cond) -> Result<(), NoMemory>
+    ensures { OnOk result (string_bytes out.new ≡ string_bytes out.old ++ condition_text around rank (Both (condition a.now) (condition b.now))) }
+{
+    open_if(out, 1 < rank)?;
+    put_condition(out, around, 1, a)?;
+    out.push_str(" AND ")?;
+    put_condition(out, around, 2, b)?;
+    close_if(out, 1 < rank)
+}
+
+/// Appends FROM and WHERE of an inner SELECT, and closes it.
+#[cycle(put_condition)]
+fn put_inner(
+    out: &mut String,
+    around: u64,
+    from: &FromItems,
+    filter: &Option<Box<Cond>>,
+) -> Result<(), NoMemory>
+    ensures { OnOk result (string_bytes out.new ≡ string_bytes out.old ++ (from_text around from.now ++ filter_text (around + length from.now) (inner_filter filter.now) ++ codes ")")) }
+{
+    put_from(out, around, from.as_slice())?;
+    put_filter(out, with_items(around, from)?, filter)?;
+    close_if(out, true)
+}
+
+/// Appends WHERE, where so many FROM items stand before it.
+#[cycle(put_condition)]
+fn put_filter(out: &mut String, around: u64, filter: &Option<Box<Cond>>) -> Result<(), NoMemory>
+    ensures { OnOk result (string_bytes out.new ≡ string_bytes out.old ++ filter_text around (inner_filter filter.now)) }
+{
+    match filter {
+        None => Ok(()),
+        Some(a) => {
+            out.push_str(" WHERE ")?;
+            put_condition(out, around, 0, a)
         }
     }
 }

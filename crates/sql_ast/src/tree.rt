@@ -12,7 +12,7 @@ pub enum Query {
 pub type Queries = Items<Query>;
 
 /// A table in FROM, by its name and its number in the schema.
-#[derive(Clone, Debug, Drop)]
+#[derive(Clone, Drop)]
 pub struct FromItem {
     pub name: Name,
     pub table: u32,
@@ -21,28 +21,28 @@ pub struct FromItem {
 pub type FromItems = Items<FromItem>;
 
 /// A column of a row: `_pos`, or one of the schema's by its name and its number.
-#[derive(Clone, Debug, Drop)]
+#[derive(Clone, Drop)]
 pub enum SqlColumn {
     Pos,
     Named { name: Name, number: u32 },
 }
 
 /// A column of a FROM item.
-#[derive(Clone, Debug, Drop)]
+#[derive(Clone, Drop)]
 pub struct SqlCol {
     pub item: u32,
     pub column: SqlColumn,
 }
 
 /// What a list query takes of each combination of rows: the row of a FROM item, or a column.
-#[derive(Clone, Debug, Drop)]
+#[derive(Clone, Drop)]
 pub enum SqlItem {
     Whole(u32),
     Column(SqlCol),
 }
 
 /// An operand of a comparison.
-#[derive(Clone, Debug, Drop)]
+#[derive(Clone, Drop)]
 pub enum SqlOpnd {
     Column(SqlCol),
     Lit(Scalar),
@@ -84,7 +84,7 @@ pub enum Cond {
 }
 
 /// A key of ORDER BY. `least` is true for `MIN(col)`, whose `down` is false.
-#[derive(Clone, Debug, Drop)]
+#[derive(Clone, Drop)]
 pub struct SqlKey {
     pub least: bool,
     pub col: SqlCol,
@@ -107,7 +107,7 @@ pub struct ListQuery {
 
 /// What a number query counts: combinations, or a column's sum, greatest or least value, with the
 /// second argument of COALESCE.
-#[derive(Clone, Debug, Drop)]
+#[derive(Clone, Drop)]
 pub enum NumberKind {
     Count,
     Sum(SqlCol, i64),

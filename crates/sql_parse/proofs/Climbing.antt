@@ -1,5 +1,6 @@
 -- Chains of conditions, named from the last operand on.
 use Rattle.std.proofs.Common.{◌≡◌, ℕ, List, [], ◌∷◌, ◌++◌, length, Option, Some, None, refl, sym, ap, ◌∙◌, arith}
+use Rattle.std.specs.Global.{Box}
 use Rattle.qbs_base.specs.Values.{Schema}
 use Rattle.sql_ast.specs.declared.tree.Cond.{Cond}
 use Rattle.sql_ast.specs.Names.{Scope, named_condition}
@@ -41,14 +42,14 @@ nothing_over None = refl
 nothing_over (Some a) = ap (λ (c : Condition). Some c) (climbed_none a)
 
 module _ (schema : Schema) (scope : Scope) where
-  pub both_on : (ss ts : List Step) (a b : WrittenCondition) (d : Cond) (whole : Option Condition) → ts ≡ ss ++ steps.And d ∷ [] → named_condition schema scope b ≡ Some (condition d) → over ss (named_condition schema scope (written.Both a b)) ≡ whole → over ts (named_condition schema scope a) ≡ whole
+  pub both_on : (ss ts : List Step) (a b : WrittenCondition) (d : Box Cond) (whole : Option Condition) → ts ≡ ss ++ steps.And d ∷ [] → named_condition schema scope b ≡ Some (condition d.value) → over ss (named_condition schema scope (written.Both a b)) ≡ whole → over ts (named_condition schema scope a) ≡ whole
   both_on ss ts a b d whole e g h = by (named_condition schema scope a) refl
     where
       by : (o : Option Condition) → named_condition schema scope a ≡ o → over ts (named_condition schema scope a) ≡ whole
       by None f = rw f (sym (rw f refl) ∙ h)
       by (Some c) f = rw f (ap (λ (x : Condition). Some x) (climbed_last ss ts (steps.And d) c e) ∙ sym (rw (f, g) refl) ∙ h)
 
-  pub either_on : (ss ts : List Step) (a b : WrittenCondition) (d : Cond) (whole : Option Condition) → ts ≡ ss ++ steps.Or d ∷ [] → named_condition schema scope b ≡ Some (condition d) → over ss (named_condition schema scope (written.Either a b)) ≡ whole → over ts (named_condition schema scope a) ≡ whole
+  pub either_on : (ss ts : List Step) (a b : WrittenCondition) (d : Box Cond) (whole : Option Condition) → ts ≡ ss ++ steps.Or d ∷ [] → named_condition schema scope b ≡ Some (condition d.value) → over ss (named_condition schema scope (written.Either a b)) ≡ whole → over ts (named_condition schema scope a) ≡ whole
   either_on ss ts a b d whole e g h = by (named_condition schema scope a) refl
     where
       by : (o : Option Condition) → named_condition schema scope a ≡ o → over ts (named_condition schema scope a) ≡ whole

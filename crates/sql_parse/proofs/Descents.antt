@@ -32,16 +32,16 @@ not_raw : (rest x : RawCond) (a : Box RawCond) → rest ≡ views.Not a → x �
 not_raw rest x a e g = ap condition_of e ∙ ap (λ (v : RawCond). written.Not (condition_of v)) (sym g)
 
 module _ (schema : Schema) (around : ℕ) (ks now : List Known) (rest x y : RawCond) (a b : Box RawCond) (ss : List Step) (whole : Option Condition) (same : now ≡ ks) (left : x ≡ a.value) (right : y ≡ b.value) (so_far : over ss (named schema around ks (condition_of rest)) ≡ whole) where
-  pub both_next : rest ≡ views.Both a b → (ts : List Step) (d : Cond) → named schema around now (condition_of y) ≡ Some (condition d) → ts ≡ ss ++ steps.And d ∷ [] → over ts (named schema around ks (condition_of x)) ≡ whole
+  pub both_next : rest ≡ views.Both a b → (ts : List Step) (d : Box Cond) → named schema around now (condition_of y) ≡ Some (condition d.value) → ts ≡ ss ++ steps.And d ∷ [] → over ts (named schema around ks (condition_of x)) ≡ whole
   both_next e ts d g f =
       both_on schema (scope_of around (knowns_of ks)) ss ts (condition_of x) (condition_of y) d whole f
-      (subst (λ (js : List Known). named schema around js (condition_of y) ≡ Some (condition d)) same g)
+      (subst (λ (js : List Known). named schema around js (condition_of y) ≡ Some (condition d.value)) same g)
       (ap (λ (w : WrittenCondition). over ss (named schema around ks w)) (sym (both_raw rest x y a b e left right)) ∙ so_far)
 
-  pub either_next : rest ≡ views.Either a b → (ts : List Step) (d : Cond) → named schema around now (condition_of y) ≡ Some (condition d) → ts ≡ ss ++ steps.Or d ∷ [] → over ts (named schema around ks (condition_of x)) ≡ whole
+  pub either_next : rest ≡ views.Either a b → (ts : List Step) (d : Box Cond) → named schema around now (condition_of y) ≡ Some (condition d.value) → ts ≡ ss ++ steps.Or d ∷ [] → over ts (named schema around ks (condition_of x)) ≡ whole
   either_next e ts d g f =
       either_on schema (scope_of around (knowns_of ks)) ss ts (condition_of x) (condition_of y) d whole f
-      (subst (λ (js : List Known). named schema around js (condition_of y) ≡ Some (condition d)) same g)
+      (subst (λ (js : List Known). named schema around js (condition_of y) ≡ Some (condition d.value)) same g)
       (ap (λ (w : WrittenCondition). over ss (named schema around ks w)) (sym (either_raw rest x y a b e left right)) ∙ so_far)
 
   pub both_stops : rest ≡ views.Both a b → (s : Stop) → Fails s (named schema around now (condition_of y)) → Fails s whole

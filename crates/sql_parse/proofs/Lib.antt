@@ -11,7 +11,6 @@ pub mod Inside
 pub mod Items
 pub mod Lexed
 pub mod Loops
-pub mod Members
 pub mod Named
 pub mod Numbers
 pub mod Parameters

@@ -2,6 +2,7 @@ pub mod Answers
 pub mod Calls
 pub mod Chains
 pub mod InSight
+pub mod Inner
 pub mod Negations
 pub mod Operands
 pub mod Pieces

@@ -6,8 +6,8 @@ use Rattle.sql_parse.specs.declared.naming.Step.{Step}
 use Rattle.sql_parse.specs.declared.naming.Step.TheVariants as steps
 
 abbrev pub stepped : Step → Condition → Condition
-stepped (steps.And b) a = Both a (condition b)
-stepped (steps.Or b) a = Either a (condition b)
+stepped (steps.And b) a = Both a (condition b.value)
+stepped (steps.Or b) a = Either a (condition b.value)
 stepped steps.Not a = Not a
 
 -- by all steps, the last one first

@@ -19,28 +19,28 @@ use std::alloc::Global;
 
 // ---- conditions made of others
 
-fn both(alloc: Global, a: RawCond, b: RawCond) -> Result<RawCond, NoMemory>
-    ensures { IfOk result (λ c. condition_of c ≡ Both (condition_of a) (condition_of b)) }
+fn both(alloc: Global, a: Box<RawCond>, b: Box<RawCond>) -> Result<Box<RawCond>, NoMemory>
+    ensures { IfOk result (λ c. condition_of c.value ≡ Both (condition_of a.value) (condition_of b.value)) }
 {
-    Ok(RawCond::Both(Box::new(alloc, a)?, Box::new(alloc, b)?))
+    Ok(Box::new(alloc, RawCond::Both(a, b))?)
 }
 
-fn either(alloc: Global, a: RawCond, b: RawCond) -> Result<RawCond, NoMemory>
-    ensures { IfOk result (λ c. condition_of c ≡ Either (condition_of a) (condition_of b)) }
+fn either(alloc: Global, a: Box<RawCond>, b: Box<RawCond>) -> Result<Box<RawCond>, NoMemory>
+    ensures { IfOk result (λ c. condition_of c.value ≡ Either (condition_of a.value) (condition_of b.value)) }
 {
-    Ok(RawCond::Either(Box::new(alloc, a)?, Box::new(alloc, b)?))
+    Ok(Box::new(alloc, RawCond::Either(a, b))?)
 }
 
-fn not(alloc: Global, a: RawCond) -> Result<RawCond, NoMemory>
-    ensures { IfOk result (λ c. condition_of c ≡ Not (condition_of a)) }
+fn not(alloc: Global, a: Box<RawCond>) -> Result<Box<RawCond>, NoMemory>
+    ensures { IfOk result (λ c. condition_of c.value ≡ Not (condition_of a.value)) }
 {
-    Ok(RawCond::Not(Box::new(alloc, a)?))
+    Ok(Box::new(alloc, RawCond::Not(a))?)
 }
 
 /// A condition behind so many NOTs.
 #[tactic(auto, unfolding(crate::specs::Negations::nots))]
-fn negated(alloc: Global, count: usize, mut cond: RawCond) -> Result<RawCond, NoMemory>
-    ensures { IfOk result (λ c. condition_of c ≡ nots count (condition_of cond)) }
+fn negated(alloc: Global, count: usize, mut cond: Box<RawCond>) -> Result<Box<RawCond>, NoMemory>
+    ensures { IfOk result (λ c. condition_of c.value ≡ nots count (condition_of cond.value)) }
 {
     for _ in 0..count {
         cond = not(alloc, cond)?;
@@ -113,11 +113,15 @@ fn comparison(tokens: &[Token]) -> Option<(Cmp, &[Token])>
 }
 
 /// An operand that is a condition by itself.
-fn bare<'a>(opnd: RawOpnd, tokens: &'a [Token]) -> Result<(RawCond, &'a [Token]), Stop>
-    ensures { Gives (λ x. (condition_of x.0, tokens_of x.1.now)) result (bare_behind (opnd_of opnd) (tokens_of tokens.now)) }
+fn bare<'a>(
+    alloc: Global,
+    opnd: RawOpnd,
+    tokens: &'a [Token],
+) -> Result<(Box<RawCond>, &'a [Token]), Stop>
+    ensures { Gives (λ x. (condition_of x.0.value, tokens_of x.1.now)) result (bare_behind (opnd_of opnd) (tokens_of tokens.now)) }
 {
     match opnd {
-        RawOpnd::Column(col) => Ok((RawCond::Bare(col), tokens)),
+        RawOpnd::Column(col) => Ok((Box::new(alloc, RawCond::Bare(col))?, tokens)),
         _ => Err(Stop::Broken),
     }
 }
@@ -140,7 +144,7 @@ fn filter(
                 return Ok((None, tokens));
             }
             let (cond, rest) = condition(alloc, room, rest)?;
-            Ok((Some(Box::new(alloc, cond)?), rest))
+            Ok((Some(cond), rest))
         }
     }
 }
@@ -193,14 +197,14 @@ fn within_from<'a>(
     room: usize,
     opnd: RawOpnd,
     tokens: &'a [Token],
-) -> Result<(RawCond, &'a [Token]), Stop>
-    ensures { Gives (λ x. (condition_of x.0, tokens_of x.1.now)) result (within_behind (condition_at room) (opnd_of opnd) (tokens_of tokens.now)) }
+) -> Result<(Box<RawCond>, &'a [Token]), Stop>
+    ensures { Gives (λ x. (condition_of x.0.value, tokens_of x.1.now)) result (within_behind (condition_at room) (opnd_of opnd) (tokens_of tokens.now)) }
 {
     match membership(tokens) {
-        None => bare(opnd, tokens),
+        None => bare(alloc, opnd, tokens),
         Some((negated, rest)) => {
             let (col, source, rest) = column(alloc, room, rest)?;
-            Ok((within(opnd, negated, col, source), rest))
+            Ok((Box::new(alloc, within(opnd, negated, col, source))?, rest))
         }
     }
 }
@@ -213,14 +217,14 @@ fn atom_from<'a>(
     room: usize,
     first: RawOpnd,
     tokens: &'a [Token],
-) -> Result<(RawCond, &'a [Token]), Stop>
-    ensures { Gives (λ x. (condition_of x.0, tokens_of x.1.now)) result (atom_behind (condition_at room) (opnd_of first) (tokens_of tokens.now)) }
+) -> Result<(Box<RawCond>, &'a [Token]), Stop>
+    ensures { Gives (λ x. (condition_of x.0.value, tokens_of x.1.now)) result (atom_behind (condition_at room) (opnd_of first) (tokens_of tokens.now)) }
 {
     match comparison(tokens) {
         None => within_from(alloc, room, first, tokens),
         Some((cmp, rest)) => {
             let (second, rest) = opnd(rest)?;
-            Ok((RawCond::Compare(cmp, first, second), rest))
+            Ok((Box::new(alloc, RawCond::Compare(cmp, first, second))?, rest))
         }
     }
 }
@@ -228,8 +232,8 @@ fn atom_from<'a>(
 /// A condition without AND, OR and NOT around it.
 #[cycle(condition)]
 #[tactic(auto, unfolding(sql_ast::specs::Reader::atom_at))]
-fn atom(alloc: Global, room: usize, tokens: &[Token]) -> Result<(RawCond, &[Token]), Stop>
-    ensures { Gives (λ x. (condition_of x.0, tokens_of x.1.now)) result (atom_at (condition_at room) (tokens_of tokens.now)) }
+fn atom(alloc: Global, room: usize, tokens: &[Token]) -> Result<(Box<RawCond>, &[Token]), Stop>
+    ensures { Gives (λ x. (condition_of x.0.value, tokens_of x.1.now)) result (atom_at (condition_at room) (tokens_of tokens.now)) }
 {
     match tokens {
         [] => Err(Stop::Broken),
@@ -241,7 +245,7 @@ fn atom(alloc: Global, room: usize, tokens: &[Token]) -> Result<(RawCond, &[Toke
         [first, rest @ ..] => {
             if is_word("EXISTS", first) {
                 let (source, rest) = one(alloc, room, rest)?;
-                return Ok((exists(source), rest));
+                return Ok((Box::new(alloc, exists(source))?, rest));
             }
             let (first, rest) = opnd(tokens)?;
             atom_from(alloc, room, first, rest)
@@ -250,8 +254,8 @@ fn atom(alloc: Global, room: usize, tokens: &[Token]) -> Result<(RawCond, &[Toke
 }
 
 #[cycle(condition)]
-fn negation(alloc: Global, room: usize, tokens: &[Token]) -> Result<(RawCond, &[Token]), Stop>
-    ensures { Gives (λ x. (condition_of x.0, tokens_of x.1.now)) result (negation_at (atom_at (condition_at room)) (tokens_of tokens.now)) }
+fn negation(alloc: Global, room: usize, tokens: &[Token]) -> Result<(Box<RawCond>, &[Token]), Stop>
+    ensures { Gives (λ x. (condition_of x.0.value, tokens_of x.1.now)) result (negation_at (atom_at (condition_at room)) (tokens_of tokens.now)) }
 {
     let (count, rest) = skip_nots(tokens);
     let (cond, rest) = atom(alloc, room, rest)?;
@@ -260,8 +264,12 @@ fn negation(alloc: Global, room: usize, tokens: &[Token]) -> Result<(RawCond, &[
 }
 
 #[cycle(condition)]
-fn conjunction(alloc: Global, room: usize, tokens: &[Token]) -> Result<(RawCond, &[Token]), Stop>
-    ensures { Gives (λ x. (condition_of x.0, tokens_of x.1.now)) result (conjunction_at (condition_at room) (tokens_of tokens.now)) }
+fn conjunction(
+    alloc: Global,
+    room: usize,
+    tokens: &[Token],
+) -> Result<(Box<RawCond>, &[Token]), Stop>
+    ensures { Gives (λ x. (condition_of x.0.value, tokens_of x.1.now)) result (conjunction_at (condition_at room) (tokens_of tokens.now)) }
 {
     let (mut left, mut rest) = negation(alloc, room, tokens)?;
     // Each turn reads a token at least.
@@ -278,8 +286,12 @@ fn conjunction(alloc: Global, room: usize, tokens: &[Token]) -> Result<(RawCond,
 }
 
 #[cycle(condition)]
-pub fn condition(alloc: Global, room: usize, tokens: &[Token]) -> Result<(RawCond, &[Token]), Stop>
-    ensures { Gives (λ x. (condition_of x.0, tokens_of x.1.now)) result (condition_at room (tokens_of tokens.now)) }
+pub fn condition(
+    alloc: Global,
+    room: usize,
+    tokens: &[Token],
+) -> Result<(Box<RawCond>, &[Token]), Stop>
+    ensures { Gives (λ x. (condition_of x.0.value, tokens_of x.1.now)) result (condition_at room (tokens_of tokens.now)) }
 {
     let Some(room) = room.checked_sub(1) else {
         return Err(Stop::Broken);

@@ -6,7 +6,7 @@ use qbs_base::NoMemory;
 use std::alloc::{AllocError, AllocFailed};
 
 /// Why a step has no value: memory ran out, or the text breaks the rule that the step looks at.
-#[derive(Debug, Drop)]
+#[derive(Drop)]
 pub enum Stop {
     NoMemory,
     Broken,

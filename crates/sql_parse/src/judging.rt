@@ -114,8 +114,8 @@ fn params_from_zero(
 
 /// The query with the types of its parameters, or the first rule that it breaks of those on types,
 /// groups and parameters.
-pub fn judge(alloc: Global, schema: &[Table], query: Query) -> Result<Query, Fail<SqlFault>>
-    ensures { Answers plain_query result (judged_named schema.now (plain_query query)) }
+pub fn judge(alloc: Global, schema: &[Table], query: Box<Query>) -> Result<Query, Fail<SqlFault>>
+    ensures { Answers plain_query result (judged_named schema.now (plain_query query.value)) }
 {
     let params = params_from_zero(alloc, schema, &query)?;
     if !types_fit(alloc, schema, &params, &query)? {
@@ -126,7 +126,7 @@ pub fn judge(alloc: Global, schema: &[Table], query: Query) -> Result<Query, Fai
     }
     let last = params.len() - 1;
     match known_tys(alloc, &params, last) {
-        Ok(tys) => Ok(with_params(query, tys)),
+        Ok(tys) => Ok(with_params(Box::into_inner(query), tys)),
         Err(Stop::Broken) => Err(broken(SqlRule::BadParameter)),
         Err(Stop::NoMemory) => Err(Fail::NoMemory),
     }

@@ -24,6 +24,3 @@ mod words;
 pub use query::parse_query;
 pub use refusal::SqlFault;
 pub use sql_ast::SqlRule;
-
-#[cfg(test)]
-mod tests;

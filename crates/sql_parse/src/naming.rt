@@ -2,11 +2,12 @@
 ghost use Rattle.std.specs.Prelude.{◌≡◌, ◌≤◌, [], true, length, IfOk, OnOk, option_map};
 ghost use Rattle.std.specs.declared.option.Option.TheVariants.{Some};
 ghost use Rattle.sql_ast.specs.Names.{each_of, named_condition, named_filter, named_item as named_item_of, named_group as named_group_of, named_key as named_key_of, named_kind as named_kind_of, named_listing, named_number, named_truth, named_query as named_query_of};
-ghost use Rattle.sql_ast.specs.Reading.{condition as plain_condition, filter_of as plain_filter, listing as plain_listing, number as plain_number, truth as plain_truth, query as plain_query};
-ghost use Rattle.sql_ast.specs.Tree.{Both, Either, Not, Exists, Within, Everything, Where};
+ghost use Rattle.sql_ast.specs.Reading.{condition as plain_condition, filter_of as plain_filter, inner_filter, listing as plain_listing, number as plain_number, truth as plain_truth, query as plain_query};
+ghost use Rattle.sql_ast.specs.Tree.{Both, Either, Not, Exists, Within};
 ghost use Rattle.sql_parse.specs.InSight.{in_sight};
-ghost use Rattle.sql_parse.specs.Said.{col_of, condition_of, filter_of, item_of, key_of, keys_of, kind_of, listing_of, number_of, truth_of, query_of};
+ghost use Rattle.sql_parse.specs.Said.{col_of, condition_of, filter_of, item_of, key_of, keys_of, kind_of, listing_of, number_of, opnd_of, parts_of, truth_of, query_of};
 ghost use Rattle.sql_parse.specs.Chains.{is_part};
+ghost use Rattle.sql_parse.specs.Inner.{column_in, compared_in, exists_in};
 ghost use Rattle.sql_parse.specs.Scopes.{knowns_of, scope_of};
 ghost use Rattle.sql_parse.specs.Steps.{stepped, climbed};
 ghost use Rattle.sql_parse.specs.Seen.{Gives};
@@ -14,54 +15,53 @@ ghost use Rattle.sql_parse.specs.Seen.{Gives};
 use crate::fault::Stop;
 use crate::known::Known;
 use crate::raw::{
-    RawCol, RawCond, RawItem, RawKey, RawKind, RawListing, RawNumber, RawQuery, RawTruth,
+    RawCol, RawCond, RawItem, RawKey, RawKind, RawListing, RawNumber, RawOpnd, RawParts, RawQuery,
+    RawTruth,
 };
 use crate::scope::{from_items, item_named, known_parts, named_col, named_opnd, small};
 use crate::sight::Sight;
 use qbs_base::{NoMemory, Table, Tys};
 use sql_ast::{
-    Cond, FromItems, ListQuery, NumberKind, NumberQuery, Query, SqlCol, SqlItem, SqlKey, SqlKeys,
-    SqlOpnd, TruthQuery,
+    Cmp, Cond, FromItems, ListQuery, NumberKind, NumberQuery, Query, SqlCol, SqlItem, SqlKey,
+    SqlKeys, SqlOpnd, TruthQuery,
 };
 use std::alloc::Global;
 
 // ---- conditions made of others
 
-fn both(alloc: Global, a: Cond, b: Cond) -> Result<Cond, NoMemory>
-    ensures { IfOk result (λ c. plain_condition c ≡ Both (plain_condition a) (plain_condition b)) }
+fn both(alloc: Global, a: Box<Cond>, b: Box<Cond>) -> Result<Box<Cond>, NoMemory>
+    ensures { IfOk result (λ c. plain_condition c.value ≡ Both (plain_condition a.value) (plain_condition b.value)) }
 {
-    Ok(Cond::Both(Box::new(alloc, a)?, Box::new(alloc, b)?))
+    Ok(Box::new(alloc, Cond::Both(a, b))?)
 }
 
-fn either(alloc: Global, a: Cond, b: Cond) -> Result<Cond, NoMemory>
-    ensures { IfOk result (λ c. plain_condition c ≡ Either (plain_condition a) (plain_condition b)) }
+fn either(alloc: Global, a: Box<Cond>, b: Box<Cond>) -> Result<Box<Cond>, NoMemory>
+    ensures { IfOk result (λ c. plain_condition c.value ≡ Either (plain_condition a.value) (plain_condition b.value)) }
 {
-    Ok(Cond::Either(Box::new(alloc, a)?, Box::new(alloc, b)?))
+    Ok(Box::new(alloc, Cond::Either(a, b))?)
 }
 
-fn not(alloc: Global, a: Cond) -> Result<Cond, NoMemory>
-    ensures { IfOk result (λ c. plain_condition c ≡ Not (plain_condition a)) }
+fn not(alloc: Global, a: Box<Cond>) -> Result<Box<Cond>, NoMemory>
+    ensures { IfOk result (λ c. plain_condition c.value ≡ Not (plain_condition a.value)) }
 {
-    Ok(Cond::Not(Box::new(alloc, a)?))
+    Ok(Box::new(alloc, Cond::Not(a))?)
 }
 
-fn exists_all(from: FromItems) -> Cond
-    ensures { plain_condition result ≡ Exists from Everything }
+fn exists(from: FromItems, filter: Option<Box<Cond>>) -> Cond
+    ensures { plain_condition result ≡ Exists from (inner_filter filter) }
 {
-    Cond::Exists { from, filter: None }
+    Cond::Exists { from, filter }
 }
 
-fn exists_where(alloc: Global, from: FromItems, a: Cond) -> Result<Cond, NoMemory>
-    ensures { IfOk result (λ c. plain_condition c ≡ Exists from (Where (plain_condition a))) }
+fn within(
+    opnd: SqlOpnd,
+    negated: bool,
+    col: SqlCol,
+    from: FromItems,
+    filter: Option<Box<Cond>>,
+) -> Cond
+    ensures { plain_condition result ≡ Within opnd negated col from (inner_filter filter) }
 {
-    let filter = Some(Box::new(alloc, a)?);
-    Ok(Cond::Exists { from, filter })
-}
-
-fn within_all(opnd: SqlOpnd, negated: bool, col: SqlCol, from: FromItems) -> Cond
-    ensures { plain_condition result ≡ Within opnd negated col from Everything }
-{
-    let filter = None;
     Cond::Within {
         opnd,
         negated,
@@ -71,24 +71,13 @@ fn within_all(opnd: SqlOpnd, negated: bool, col: SqlCol, from: FromItems) -> Con
     }
 }
 
-fn within_where(
-    alloc: Global,
-    opnd: SqlOpnd,
-    negated: bool,
-    col: SqlCol,
-    from: FromItems,
-    a: Cond,
-) -> Result<Cond, NoMemory>
-    ensures { IfOk result (λ c. plain_condition c ≡ Within opnd negated col from (Where (plain_condition a))) }
+fn unboxed(filter: Option<Box<Cond>>) -> Option<Cond>
+    ensures { plain_filter result ≡ inner_filter filter }
 {
-    let filter = Some(Box::new(alloc, a)?);
-    Ok(Cond::Within {
-        opnd,
-        negated,
-        col,
-        from,
-        filter,
-    })
+    match filter {
+        None => None,
+        Some(a) => Some(Box::into_inner(a)),
+    }
 }
 
 // ---- chains, of which the first operand is named last
@@ -96,13 +85,13 @@ fn within_where(
 /// What is made of a condition: with a second operand, or its opposite.
 #[derive(Drop)]
 pub enum Step {
-    And(Cond),
-    Or(Cond),
+    And(Box<Cond>),
+    Or(Box<Cond>),
     Not,
 }
 
-fn take_step(alloc: Global, step: Step, a: Cond) -> Result<Cond, NoMemory>
-    ensures { IfOk result (λ c. plain_condition c ≡ stepped step (plain_condition a)) }
+fn take_step(alloc: Global, step: Step, a: Box<Cond>) -> Result<Box<Cond>, NoMemory>
+    ensures { IfOk result (λ c. plain_condition c.value ≡ stepped step (plain_condition a.value)) }
 {
     match step {
         Step::And(b) => both(alloc, a, b),
@@ -112,8 +101,8 @@ fn take_step(alloc: Global, step: Step, a: Cond) -> Result<Cond, NoMemory>
 }
 
 /// What the steps make of a condition, the last one first.
-fn climb(alloc: Global, steps: Vec<Step>, a: Cond) -> Result<Cond, NoMemory>
-    ensures { IfOk result (λ c. plain_condition c ≡ climbed steps.items (plain_condition a)) }
+fn climb(alloc: Global, steps: Vec<Step>, a: Box<Cond>) -> Result<Box<Cond>, NoMemory>
+    ensures { IfOk result (λ c. plain_condition c.value ≡ climbed steps.items (plain_condition a.value)) }
 {
     let mut steps = steps;
     let mut a = a;
@@ -121,6 +110,22 @@ fn climb(alloc: Global, steps: Vec<Step>, a: Cond) -> Result<Cond, NoMemory>
         a = take_step(alloc, last, a)?;
     }
     Ok(a)
+}
+
+fn compared(
+    alloc: Global,
+    known: &Sight<'_>,
+    around: usize,
+    cmp: Cmp,
+    a: &RawOpnd,
+    b: &RawOpnd,
+) -> Result<Box<Cond>, Stop>
+    requires { around ≤ length (in_sight known.now) }
+    ensures { Gives (λ c. plain_condition c.value) result (compared_in (scope_of around (knowns_of (in_sight known.now))) cmp (opnd_of a.now) (opnd_of b.now)) }
+{
+    let a = named_opnd(known, around, a)?;
+    let b = named_opnd(known, around, b)?;
+    Ok(Box::new(alloc, Cond::Compare(cmp, a, b))?)
 }
 
 // ---- conditions, where the first `around` items in sight are of the SELECTs around
@@ -134,9 +139,9 @@ fn condition<'a>(
     known: &mut Sight<'a>,
     around: usize,
     raw: &'a RawCond,
-) -> Result<Cond, Stop>
+) -> Result<Box<Cond>, Stop>
     requires { around ≤ length (in_sight known.old) }
-    ensures value { Gives plain_condition result (named_condition schema.now (scope_of around (knowns_of (in_sight known.old))) (condition_of raw.now)) }
+    ensures value { Gives (λ c. plain_condition c.value) result (named_condition schema.now (scope_of around (knowns_of (in_sight known.old))) (condition_of raw.now)) }
     ensures same { OnOk result (in_sight known.new ≡ in_sight known.old) }
 {
     let mut steps = Vec::new(alloc);
@@ -176,34 +181,20 @@ fn part<'a>(
     known: &mut Sight<'a>,
     around: usize,
     raw: &'a RawCond,
-) -> Result<Cond, Stop>
+) -> Result<Box<Cond>, Stop>
     requires room { around ≤ length (in_sight known.old) }
     requires part { is_part (condition_of raw.now) ≡ true }
-    ensures value { Gives plain_condition result (named_condition schema.now (scope_of around (knowns_of (in_sight known.old))) (condition_of raw.now)) }
+    ensures value { Gives (λ c. plain_condition c.value) result (named_condition schema.now (scope_of around (knowns_of (in_sight known.old))) (condition_of raw.now)) }
     ensures same { OnOk result (in_sight known.new ≡ in_sight known.old) }
 {
     match raw {
         RawCond::Both(_, _) | RawCond::Either(_, _) | RawCond::Not(_) => unreachable!(),
-        RawCond::Compare(cmp, a, b) => {
-            let a = named_opnd(known, around, a)?;
-            let b = named_opnd(known, around, b)?;
-            Ok(Cond::Compare(*cmp, a, b))
+        RawCond::Compare(cmp, a, b) => compared(alloc, known, around, *cmp, a, b),
+        RawCond::Bare(col) => {
+            let col = named_col(known, around, col)?;
+            Ok(Box::new(alloc, Cond::Bare(col))?)
         }
-        RawCond::Bare(col) => Ok(Cond::Bare(named_col(known, around, col)?)),
-        RawCond::Exists { parts, filter } => {
-            let own = known_parts(alloc, schema, parts.as_slice())?;
-            let from = from_items(alloc, &own)?;
-            match filter {
-                None => Ok(exists_all(from)),
-                Some(a) => {
-                    let inner = known.len();
-                    known.enter(own)?;
-                    let a = condition(alloc, schema, known, inner, a)?;
-                    known.leave(inner)?;
-                    Ok(exists_where(alloc, from, a)?)
-                }
-            }
-        }
+        RawCond::Exists { parts, filter } => exists_inside(alloc, schema, known, parts, filter),
         RawCond::Within {
             opnd,
             negated,
@@ -212,23 +203,72 @@ fn part<'a>(
             filter,
         } => {
             let opnd = named_opnd(known, around, opnd)?;
-            let own = known_parts(alloc, schema, parts.as_slice())?;
-            let from = from_items(alloc, &own)?;
-            let inner = known.len();
-            known.enter(own)?;
-            let col = named_col(known, inner, col)?;
-            match filter {
-                None => {
-                    known.leave(inner)?;
-                    Ok(within_all(opnd, *negated, col, from))
-                }
-                Some(a) => {
-                    let a = condition(alloc, schema, known, inner, a)?;
-                    known.leave(inner)?;
-                    Ok(within_where(alloc, opnd, *negated, col, from, a)?)
-                }
-            }
+            let (col, from, filter) = column_inside(alloc, schema, known, col, parts, filter)?;
+            Ok(Box::new(alloc, within(opnd, *negated, col, from, filter))?)
         }
+    }
+}
+
+/// EXISTS, where all items in sight are of the SELECTs around.
+#[cycle(condition)]
+fn exists_inside<'a>(
+    alloc: Global,
+    schema: &'a [Table],
+    known: &mut Sight<'a>,
+    parts: &'a RawParts,
+    raw: &'a Option<Box<RawCond>>,
+) -> Result<Box<Cond>, Stop>
+    ensures value { Gives (λ c. plain_condition c.value) result (exists_in schema.now (knowns_of (in_sight known.old)) (parts_of parts.now) (filter_of raw.now)) }
+    ensures same { OnOk result (in_sight known.new ≡ in_sight known.old) }
+{
+    let own = known_parts(alloc, schema, parts.as_slice())?;
+    let from = from_items(alloc, &own)?;
+    let inner = known.len();
+    known.enter(own)?;
+    let filter = filter(alloc, schema, known, inner, raw)?;
+    known.leave(inner)?;
+    Ok(Box::new(alloc, exists(from, filter))?)
+}
+
+/// The SELECT of a column that stands behind IN, where all items in sight are of the SELECTs around.
+#[cycle(condition)]
+fn column_inside<'a>(
+    alloc: Global,
+    schema: &'a [Table],
+    known: &mut Sight<'a>,
+    col: &'a RawCol,
+    parts: &'a RawParts,
+    raw: &'a Option<Box<RawCond>>,
+) -> Result<(SqlCol, FromItems, Option<Box<Cond>>), Stop>
+    ensures value { Gives (λ x. (x.0, x.1, inner_filter x.2)) result (column_in schema.now (knowns_of (in_sight known.old)) (col_of col.now) (parts_of parts.now) (filter_of raw.now)) }
+    ensures same { OnOk result (in_sight known.new ≡ in_sight known.old) }
+{
+    let own = known_parts(alloc, schema, parts.as_slice())?;
+    let from = from_items(alloc, &own)?;
+    let inner = known.len();
+    known.enter(own)?;
+    let col = named_col(known, inner, col)?;
+    let filter = filter(alloc, schema, known, inner, raw)?;
+    known.leave(inner)?;
+    Ok((col, from, filter))
+}
+
+/// WHERE, or none.
+#[cycle(condition)]
+fn filter<'a>(
+    alloc: Global,
+    schema: &'a [Table],
+    known: &mut Sight<'a>,
+    around: usize,
+    raw: &'a Option<Box<RawCond>>,
+) -> Result<Option<Box<Cond>>, Stop>
+    requires { around ≤ length (in_sight known.old) }
+    ensures value { Gives inner_filter result (named_filter schema.now (scope_of around (knowns_of (in_sight known.old))) (filter_of raw.now)) }
+    ensures same { OnOk result (in_sight known.new ≡ in_sight known.old) }
+{
+    match raw {
+        None => Ok(None),
+        Some(a) => Ok(Some(condition(alloc, schema, known, around, a)?)),
     }
 }
 
@@ -241,21 +281,6 @@ fn outermost<'a>(alloc: Global, own: Vec<Known<'a>>) -> Result<Sight<'a>, NoMemo
     let mut known = Sight::new(alloc);
     known.enter(own)?;
     Ok(known)
-}
-
-fn filter<'a>(
-    alloc: Global,
-    schema: &'a [Table],
-    known: &mut Sight<'a>,
-    raw: &'a Option<Box<RawCond>>,
-) -> Result<Option<Cond>, Stop>
-    ensures value { Gives plain_filter result (named_filter schema.now (scope_of 0 (knowns_of (in_sight known.old))) (filter_of raw.now)) }
-    ensures same { OnOk result (in_sight known.new ≡ in_sight known.old) }
-{
-    match raw {
-        None => Ok(None),
-        Some(a) => Ok(Some(condition(alloc, schema, known, 0, a)?)),
-    }
 }
 
 fn item(known: &Sight<'_>, raw: &RawItem) -> Result<SqlItem, Stop>
@@ -320,13 +345,13 @@ fn listing(alloc: Global, schema: &[Table], raw: &RawListing) -> Result<ListQuer
     let from = from_items(alloc, &own)?;
     let mut known = outermost(alloc, own)?;
     let item = item(&known, &raw.item)?;
-    let filter = filter(alloc, schema, &mut known, &raw.source.filter)?;
+    let filter = filter(alloc, schema, &mut known, 0, &raw.source.filter)?;
     let group = group(&known, &raw.group)?;
     let keys = keys(alloc, &known, raw.keys.as_slice())?;
     Ok(ListQuery {
         item,
         from,
-        filter,
+        filter: unboxed(filter),
         group,
         keys,
         limit: raw.limit,
@@ -341,11 +366,11 @@ fn number(alloc: Global, schema: &[Table], raw: &RawNumber) -> Result<NumberQuer
     let from = from_items(alloc, &own)?;
     let mut known = outermost(alloc, own)?;
     let kind = kind(&known, &raw.kind)?;
-    let filter = filter(alloc, schema, &mut known, &raw.source.filter)?;
+    let filter = filter(alloc, schema, &mut known, 0, &raw.source.filter)?;
     Ok(NumberQuery {
         kind,
         from,
-        filter,
+        filter: unboxed(filter),
         params: Tys::new(alloc),
     })
 }
@@ -356,22 +381,31 @@ fn truth(alloc: Global, schema: &[Table], raw: &RawTruth) -> Result<TruthQuery, 
     let own = known_parts(alloc, schema, raw.source.parts.as_slice())?;
     let from = from_items(alloc, &own)?;
     let mut known = outermost(alloc, own)?;
-    let filter = filter(alloc, schema, &mut known, &raw.source.filter)?;
+    let filter = filter(alloc, schema, &mut known, 0, &raw.source.filter)?;
     Ok(TruthQuery {
         negated: raw.negated,
         from,
-        filter,
+        filter: unboxed(filter),
         params: Tys::new(alloc),
     })
 }
 
 /// The query that is written, its parameters' types still to be found.
-pub fn named_query(alloc: Global, schema: &[Table], raw: &RawQuery) -> Result<Query, Stop>
-    ensures { Gives plain_query result (named_query_of schema.now (query_of raw.now)) }
+pub fn named_query(alloc: Global, schema: &[Table], raw: &RawQuery) -> Result<Box<Query>, Stop>
+    ensures { Gives (λ q. plain_query q.value) result (named_query_of schema.now (query_of raw.now)) }
 {
     match raw {
-        RawQuery::Listing(raw) => Ok(Query::Listing(listing(alloc, schema, raw)?)),
-        RawQuery::Number(raw) => Ok(Query::Number(number(alloc, schema, raw)?)),
-        RawQuery::Truth(raw) => Ok(Query::Truth(truth(alloc, schema, raw)?)),
+        RawQuery::Listing(raw) => {
+            let q = listing(alloc, schema, raw)?;
+            Ok(Box::new(alloc, Query::Listing(q))?)
+        }
+        RawQuery::Number(raw) => {
+            let q = number(alloc, schema, raw)?;
+            Ok(Box::new(alloc, Query::Number(q))?)
+        }
+        RawQuery::Truth(raw) => {
+            let q = truth(alloc, schema, raw)?;
+            Ok(Box::new(alloc, Query::Truth(q))?)
+        }
     }
 }

@@ -353,8 +353,8 @@ fn query(alloc: Global, room: usize, tokens: &[Token]) -> Result<(RawQuery, &[To
 }
 
 /// The query, if no more tokens are left.
-fn whole(query: RawQuery, rest: &[Token]) -> Result<RawQuery, Stop>
-    ensures { Gives query_of result (ended (query_of query, tokens_of rest.now)) }
+fn whole(query: Box<RawQuery>, rest: &[Token]) -> Result<Box<RawQuery>, Stop>
+    ensures { Gives (λ q. query_of q.value) result (ended (query_of query.value, tokens_of rest.now)) }
 {
     match rest {
         [] => Ok(query),
@@ -363,13 +363,14 @@ fn whole(query: RawQuery, rest: &[Token]) -> Result<RawQuery, Stop>
 }
 
 /// What all of the tokens say.
-pub fn read(alloc: Global, tokens: &[Token]) -> Result<RawQuery, Stop>
-    ensures { Gives query_of result (query_in (tokens_of tokens.now)) }
+pub fn read(alloc: Global, tokens: &[Token]) -> Result<Box<RawQuery>, Stop>
+    ensures { Gives (λ q. query_of q.value) result (query_in (tokens_of tokens.now)) }
 {
     // No more parentheses are open than there are tokens. A list in memory has no 2^64 of them.
     let Some(room) = tokens.len().checked_add(1) else {
         return Err(Stop::NoMemory);
     };
     let (query, rest) = query(alloc, room, tokens)?;
-    whole(query, rest)
+    let boxed = Box::new(alloc, query)?;
+    whole(boxed, rest)
 }

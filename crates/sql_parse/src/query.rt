@@ -25,8 +25,8 @@ use sql_ast::{Query, SqlRule};
 use std::alloc::Global;
 
 /// What a text says.
-fn say(alloc: Global, text: &Text) -> Result<RawQuery, Stop>
-    ensures { Gives query_of result (written_in text.now) }
+fn say(alloc: Global, text: &Text) -> Result<Box<RawQuery>, Stop>
+    ensures { Gives (λ q. query_of q.value) result (written_in text.now) }
 {
     let tokens = lex(alloc, text.as_str())?;
     read(alloc, &tokens)

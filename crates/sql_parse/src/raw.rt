@@ -3,14 +3,14 @@ use qbs_base::{Items, Name, Scalar};
 use sql_ast::Cmp;
 
 /// A column, with or without an alias.
-#[derive(Debug, Drop)]
+#[derive(Drop)]
 pub struct RawCol {
     pub alias: Option<Name>,
     pub name: Name,
 }
 
 /// A table in FROM, with or without an alias.
-#[derive(Debug, Drop)]
+#[derive(Drop)]
 pub struct RawPart {
     pub table: Name,
     pub alias: Option<Name>,
@@ -18,7 +18,7 @@ pub struct RawPart {
 
 pub type RawParts = Items<RawPart>;
 
-#[derive(Debug, Drop)]
+#[derive(Drop)]
 pub enum RawOpnd {
     Column(RawCol),
     Lit(Scalar),
@@ -53,13 +53,13 @@ pub struct RawSource {
 }
 
 /// `*` with or without an alias, or a column.
-#[derive(Debug, Drop)]
+#[derive(Drop)]
 pub enum RawItem {
     Whole(Option<Name>),
     Column(RawCol),
 }
 
-#[derive(Debug, Drop)]
+#[derive(Drop)]
 pub struct RawKey {
     pub least: bool,
     pub col: RawCol,
@@ -68,7 +68,7 @@ pub struct RawKey {
 
 pub type RawKeys = Items<RawKey>;
 
-#[derive(Debug, Drop)]
+#[derive(Drop)]
 pub enum RawKind {
     Count,
     Sum(RawCol, i64),

@@ -8,7 +8,7 @@ use sql_ast::Cmp;
 use std::marker::Model;
 
 /// Decimal digits, at least one.
-#[derive(Debug, Drop)]
+#[derive(Drop)]
 pub struct Numeral {
     digits: Text,
 }
@@ -57,7 +57,7 @@ impl Numeral {
 
 /// A token: a word is a name or a keyword, a `Negative` has a minus before its digits, and a
 /// `Quoted` is what the text in quotes stands for.
-#[derive(Debug, Drop)]
+#[derive(Drop)]
 pub enum Token {
     Word(Name),
     Digits(Numeral),

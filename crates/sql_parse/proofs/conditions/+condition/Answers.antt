@@ -20,22 +20,22 @@ condition-returns-in_err-left t c =
 pub condition-loop-init : goal.condition-loop-init
 condition-loop-init t c =
     let more : c.args.room ≡ suc c.in-Some.room = omega (arith, c.in-Some.ensures) in
-    chain_begins (codes "OR") Either (conjunction_at (condition_at c.in-Some.room)) (tokens_of c.args.tokens.now) (tokens_of c.in_ok-left.rest.now) (condition_of c.in_ok-left.left) (length c.in_ok-left.rest.now) c.in_ok-left.ensures (sym (length-map c.in_ok-left.rest.now token_of))
+    chain_begins (codes "OR") Either (conjunction_at (condition_at c.in-Some.room)) (tokens_of c.args.tokens.now) (tokens_of c.in_ok-left.rest.now) (condition_of c.in_ok-left.left.value) (length c.in_ok-left.rest.now) c.in_ok-left.ensures (sym (length-map c.in_ok-left.rest.now token_of))
     ∙ sym (room_more c.args.room c.in-Some.room (tokens_of c.args.tokens.now) more)
 
 pub condition-returns-in_err-right : goal.condition-returns-in_err-right
 condition-returns-in_err-right t c =
     let p = err_from_is_err_and c.from_residual-in_err-right.result c.from_residual-in_err-right.ensures.1 in
-    rw (p.1, p.2) (chain_fails_by (codes "OR") Either (conjunction_at (condition_at c.in-Some.room)) (length c.in_ok-left.rest.now) c.loop.counter (condition_of c.loop.left) (tokens_of c.loop.rest.now) (tokens_of c.in-Some-after_word.behind.now) (condition_at c.args.room (tokens_of c.args.tokens.now)) c.in_err-right.field-0.0 c.loop-test.true (sym c.in-Some-after_word.ensures) c.in_err-right.ensures c.loop.invariant)
+    rw (p.1, p.2) (chain_fails_by (codes "OR") Either (conjunction_at (condition_at c.in-Some.room)) (length c.in_ok-left.rest.now) c.loop.counter (condition_of c.loop.left.value) (tokens_of c.loop.rest.now) (tokens_of c.in-Some-after_word.behind.now) (condition_at c.args.room (tokens_of c.args.tokens.now)) c.in_err-right.field-0.0 c.loop-test.true (sym c.in-Some-after_word.ensures) c.in_err-right.ensures c.loop.invariant)
 
 pub condition-loop-preserved : goal.condition-loop-preserved
 condition-loop-preserved t c =
     ap (λ (a : WrittenCondition). joined_from (codes "OR") Either (conjunction_at (condition_at c.in-Some.room)) (length c.in_ok-left.rest.now - (c.loop.counter + 1)) a (tokens_of c.in_ok-right.after.now)) c.in_ok-joined.ensures
-    ∙ chain_goes_on (codes "OR") Either (conjunction_at (condition_at c.in-Some.room)) (length c.in_ok-left.rest.now) c.loop.counter (condition_of c.loop.left) (condition_of c.in_ok-right.right) (tokens_of c.loop.rest.now) (tokens_of c.in-Some-after_word.behind.now) (tokens_of c.in_ok-right.after.now) (condition_at c.args.room (tokens_of c.args.tokens.now)) c.loop-test.true (sym c.in-Some-after_word.ensures) c.in_ok-right.ensures c.loop.invariant
+    ∙ chain_goes_on (codes "OR") Either (conjunction_at (condition_at c.in-Some.room)) (length c.in_ok-left.rest.now) c.loop.counter (condition_of c.loop.left.value) (condition_of c.in_ok-right.right.value) (tokens_of c.loop.rest.now) (tokens_of c.in-Some-after_word.behind.now) (tokens_of c.in_ok-right.after.now) (condition_at c.args.room (tokens_of c.args.tokens.now)) c.loop-test.true (sym c.in-Some-after_word.ensures) c.in_ok-right.ensures c.loop.invariant
 
 pub condition-returns : goal.condition-returns
 condition-returns t c =
-    chain_runs_out (codes "OR") Either (conjunction_at (condition_at c.in-Some.room)) (length c.in_ok-left.rest.now) c.loop.counter (condition_of c.loop.left) (tokens_of c.loop.rest.now) (condition_at c.args.room (tokens_of c.args.tokens.now)) c.loop-test.false c.loop.invariant
+    chain_runs_out (codes "OR") Either (conjunction_at (condition_at c.in-Some.room)) (length c.in_ok-left.rest.now) c.loop.counter (condition_of c.loop.left.value) (tokens_of c.loop.rest.now) (condition_at c.args.room (tokens_of c.args.tokens.now)) c.loop-test.false c.loop.invariant
 
 pub conjunction-returns-in_err-left : goal.conjunction-returns-in_err-left
 conjunction-returns-in_err-left t c =
@@ -44,22 +44,22 @@ conjunction-returns-in_err-left t c =
 
 pub conjunction-loop-init : goal.conjunction-loop-init
 conjunction-loop-init t c =
-    chain_begins (codes "AND") Both (negation_at (atom_at (condition_at c.args.room))) (tokens_of c.args.tokens.now) (tokens_of c.in_ok-left.rest.now) (condition_of c.in_ok-left.left) (length c.in_ok-left.rest.now) c.in_ok-left.ensures (sym (length-map c.in_ok-left.rest.now token_of))
+    chain_begins (codes "AND") Both (negation_at (atom_at (condition_at c.args.room))) (tokens_of c.args.tokens.now) (tokens_of c.in_ok-left.rest.now) (condition_of c.in_ok-left.left.value) (length c.in_ok-left.rest.now) c.in_ok-left.ensures (sym (length-map c.in_ok-left.rest.now token_of))
     ∙ sym (conjunction_is (condition_at c.args.room) (tokens_of c.args.tokens.now))
 
 pub conjunction-returns-in_err-right : goal.conjunction-returns-in_err-right
 conjunction-returns-in_err-right t c =
     let p = err_from_is_err_and c.from_residual-in_err-right.result c.from_residual-in_err-right.ensures.1 in
-    rw (p.1, p.2) (chain_fails_by (codes "AND") Both (negation_at (atom_at (condition_at c.args.room))) (length c.in_ok-left.rest.now) c.loop.counter (condition_of c.loop.left) (tokens_of c.loop.rest.now) (tokens_of c.in-Some.behind.now) (conjunction_at (condition_at c.args.room) (tokens_of c.args.tokens.now)) c.in_err-right.field-0.0 c.loop-test.true (sym c.in-Some.ensures) c.in_err-right.ensures c.loop.invariant)
+    rw (p.1, p.2) (chain_fails_by (codes "AND") Both (negation_at (atom_at (condition_at c.args.room))) (length c.in_ok-left.rest.now) c.loop.counter (condition_of c.loop.left.value) (tokens_of c.loop.rest.now) (tokens_of c.in-Some.behind.now) (conjunction_at (condition_at c.args.room) (tokens_of c.args.tokens.now)) c.in_err-right.field-0.0 c.loop-test.true (sym c.in-Some.ensures) c.in_err-right.ensures c.loop.invariant)
 
 pub conjunction-loop-preserved : goal.conjunction-loop-preserved
 conjunction-loop-preserved t c =
     ap (λ (a : WrittenCondition). joined_from (codes "AND") Both (negation_at (atom_at (condition_at c.args.room))) (length c.in_ok-left.rest.now - (c.loop.counter + 1)) a (tokens_of c.in_ok-right.after.now)) c.in_ok-joined.ensures
-    ∙ chain_goes_on (codes "AND") Both (negation_at (atom_at (condition_at c.args.room))) (length c.in_ok-left.rest.now) c.loop.counter (condition_of c.loop.left) (condition_of c.in_ok-right.right) (tokens_of c.loop.rest.now) (tokens_of c.in-Some.behind.now) (tokens_of c.in_ok-right.after.now) (conjunction_at (condition_at c.args.room) (tokens_of c.args.tokens.now)) c.loop-test.true (sym c.in-Some.ensures) c.in_ok-right.ensures c.loop.invariant
+    ∙ chain_goes_on (codes "AND") Both (negation_at (atom_at (condition_at c.args.room))) (length c.in_ok-left.rest.now) c.loop.counter (condition_of c.loop.left.value) (condition_of c.in_ok-right.right.value) (tokens_of c.loop.rest.now) (tokens_of c.in-Some.behind.now) (tokens_of c.in_ok-right.after.now) (conjunction_at (condition_at c.args.room) (tokens_of c.args.tokens.now)) c.loop-test.true (sym c.in-Some.ensures) c.in_ok-right.ensures c.loop.invariant
 
 pub conjunction-returns : goal.conjunction-returns
 conjunction-returns t c =
-    chain_runs_out (codes "AND") Both (negation_at (atom_at (condition_at c.args.room))) (length c.in_ok-left.rest.now) c.loop.counter (condition_of c.loop.left) (tokens_of c.loop.rest.now) (conjunction_at (condition_at c.args.room) (tokens_of c.args.tokens.now)) c.loop-test.false c.loop.invariant
+    chain_runs_out (codes "AND") Both (negation_at (atom_at (condition_at c.args.room))) (length c.in_ok-left.rest.now) c.loop.counter (condition_of c.loop.left.value) (tokens_of c.loop.rest.now) (conjunction_at (condition_at c.args.room) (tokens_of c.args.tokens.now)) c.loop-test.false c.loop.invariant
 
 pub negation-returns-in_err-cond : goal.negation-returns-in_err-cond
 negation-returns-in_err-cond t c =
@@ -68,12 +68,12 @@ negation-returns-in_err-cond t c =
 
 pub negation-returns : goal.negation-returns
 negation-returns t c =
-    negation_gives (condition_at c.args.room) (tokens_of c.args.tokens.now) c.skip_nots-count.result.0 (tokens_of c.skip_nots-count.result.1.now) (tokens_of c.in_ok-cond.rest.now) (condition_of c.in_ok-cond.cond) (condition_of c.in_ok-whole.whole) c.skip_nots-count.ensures c.in_ok-cond.ensures c.in_ok-whole.ensures
+    negation_gives (condition_at c.args.room) (tokens_of c.args.tokens.now) c.skip_nots-count.result.0 (tokens_of c.skip_nots-count.result.1.now) (tokens_of c.in_ok-cond.rest.now) (condition_of c.in_ok-cond.cond.value) (condition_of c.in_ok-whole.whole.value) c.skip_nots-count.ensures c.in_ok-cond.ensures c.in_ok-whole.ensures
 
 pub condition-returns-in_default-after_word : goal.condition-returns-in_default-after_word
 condition-returns-in_default-after_word t c =
-    chain_stops (codes "OR") Either (conjunction_at (condition_at c.in-Some.room)) (length c.in_ok-left.rest.now) c.loop.counter (condition_of c.loop.left) (tokens_of c.loop.rest.now) (condition_at c.args.room (tokens_of c.args.tokens.now)) c.loop-test.true (sym c.in_default-after_word.ensures) c.loop.invariant
+    chain_stops (codes "OR") Either (conjunction_at (condition_at c.in-Some.room)) (length c.in_ok-left.rest.now) c.loop.counter (condition_of c.loop.left.value) (tokens_of c.loop.rest.now) (condition_at c.args.room (tokens_of c.args.tokens.now)) c.loop-test.true (sym c.in_default-after_word.ensures) c.loop.invariant
 
 pub conjunction-returns-in_default : goal.conjunction-returns-in_default
 conjunction-returns-in_default t c =
-    chain_stops (codes "AND") Both (negation_at (atom_at (condition_at c.args.room))) (length c.in_ok-left.rest.now) c.loop.counter (condition_of c.loop.left) (tokens_of c.loop.rest.now) (conjunction_at (condition_at c.args.room) (tokens_of c.args.tokens.now)) c.loop-test.true (sym c.in_default.ensures) c.loop.invariant
+    chain_stops (codes "AND") Both (negation_at (atom_at (condition_at c.args.room))) (length c.in_ok-left.rest.now) c.loop.counter (condition_of c.loop.left.value) (tokens_of c.loop.rest.now) (conjunction_at (condition_at c.args.room) (tokens_of c.args.tokens.now)) c.loop-test.true (sym c.in_default.ensures) c.loop.invariant

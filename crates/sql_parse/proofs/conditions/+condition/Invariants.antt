@@ -38,8 +38,8 @@ decreases-condition l = l.room * 10
 
 abbrev pub invariant-conjunction-loop : goal.invariant-conjunction-loop
 invariant-conjunction-loop l =
-    joined_from (codes "AND") Both (negation_at (atom_at (condition_at l.room))) (length l.initial.rest - l.counter) (condition_of l.left) (tokens_of l.rest) ≡ conjunction_at (condition_at l.room) (tokens_of l.tokens)
+    joined_from (codes "AND") Both (negation_at (atom_at (condition_at l.room))) (length l.initial.rest - l.counter) (condition_of l.left.value) (tokens_of l.rest) ≡ conjunction_at (condition_at l.room) (tokens_of l.tokens)
 
 abbrev pub invariant-condition-loop : goal.invariant-condition-loop
 invariant-condition-loop l =
-    joined_from (codes "OR") Either (conjunction_at (condition_at l.room)) (length l.initial.rest - l.counter) (condition_of l.left) (tokens_of l.rest) ≡ condition_at l.fn.room (tokens_of l.tokens)
+    joined_from (codes "OR") Either (conjunction_at (condition_at l.room)) (length l.initial.rest - l.counter) (condition_of l.left.value) (tokens_of l.rest) ≡ condition_at l.fn.room (tokens_of l.tokens)

@@ -1,35 +1,21 @@
 use Rattle.std.proofs.Common.{refl, ap, ◌∙◌, List, arith}
 use Rattle.std.proofs.lemmas.Result.{err_from_is_err_and}
-use Rattle.sql_ast.specs.Reading.{condition}
+use Rattle.sql_ast.specs.Reading.{condition, inner_filter}
 use Rattle.sql_parse.specs.declared.naming.Step.{Step}
 use Rattle.sql_parse.specs.InSight.{in_sight}
 use Rattle.sql_parse.specs.Said.{condition_of}
+use Rattle.sql_parse.specs.Scopes.{knowns_of}
 use Rattle.sql_parse.proofs.Climbing.{over, nothing_over}
 use Rattle.sql_parse.specs.declared.raw.RawCond.{size-RawCond}
 use Rattle.sql_parse.proofs.Depths.{inside_both, inside_either, inside_not}
+use Rattle.sql_parse.proofs.Inside.{within_gives}
 use Rattle.sql_parse.proofs.Descents.{named, both_next, either_next, both_stops, either_stops, not_next}
-use Rattle.sql_parse.proofs.Members.{parts_are, all_within, where_within, inner_fails}
 use Rattle.sql_parse.proofs.naming.+condition.Goals as goal
 
-pub part-returns-in_err-a-in-Some-filter-clause-value : goal.part-returns-in_err-a-in-Some-filter-clause-value
-part-returns-in_err-a-in-Some-filter-clause-value t c =
-    let p = err_from_is_err_and c.from_residual-in_err-a-in-Some-filter.result c.from_residual-in_err-a-in-Some-filter.ensures.1 in
-    rw (p.1, p.2)
-    (inner_fails c.args.schema.now c.args.around c.len-inner-in-Within.result c.args.raw.now c.in-Within.opnd c.in-Within.negated c.in-Within.col c.in-Within.parts c.in-Within.filter c.in-Some-filter.a c.deref-in-Some-filter.result.now (in_sight c.args.known.now) c.in_ok-own-in-Within.own.items (in_sight c.enter-in-Within.new.self) c.in_ok-opnd-in-Within.opnd c.in_ok-col-in-Within.col c.in_ok-from-in-Within.from c.in_err-a-in-Some-filter.field-0.0
-    (parts_are c.args.schema.now c.args.around c.len-inner-in-Within.result c.in-Within.opnd c.in-Within.col c.in-Within.parts c.as_slice-in-Within.result.now (in_sight c.args.known.now) (in_sight c.args.known.now) c.in_ok-own-in-Within.own.items c.deref-in-Within.result.now (in_sight c.enter-in-Within.new.self) (in_sight c.enter-in-Within.new.self) c.in_ok-opnd-in-Within.opnd c.in_ok-col-in-Within.col c.in_ok-from-in-Within.from refl c.as_slice-in-Within.ensures c.deref-in-Within.ensures.value refl c.in_ok-opnd-in-Within.ensures c.in_ok-own-in-Within.ensures c.in_ok-from-in-Within.ensures c.in_ok-col-in-Within.ensures c.in_ok-enter-in-Within.ensures c.len-inner-in-Within.ensures)
-    c.in-Within.is c.in-Some-filter.is c.deref-in-Some-filter.ensures c.in_err-a-in-Some-filter.ensures.value)
-
-pub part-returns-in_ok-leave-in-None-filter-clause-value : goal.part-returns-in_ok-leave-in-None-filter-clause-value
-part-returns-in_ok-leave-in-None-filter-clause-value t c =
-    all_within c.args.schema.now c.args.around c.len-inner-in-Within.result c.args.raw.now c.in-Within.opnd c.in-Within.negated c.in-Within.col c.in-Within.parts c.in-Within.filter (in_sight c.args.known.now) c.in_ok-own-in-Within.own.items (in_sight c.enter-in-Within.new.self) c.in_ok-opnd-in-Within.opnd c.in_ok-col-in-Within.col c.in_ok-from-in-Within.from (condition c.within_all.result)
-    (parts_are c.args.schema.now c.args.around c.len-inner-in-Within.result c.in-Within.opnd c.in-Within.col c.in-Within.parts c.as_slice-in-Within.result.now (in_sight c.args.known.now) (in_sight c.args.known.now) c.in_ok-own-in-Within.own.items c.deref-in-Within.result.now (in_sight c.enter-in-Within.new.self) (in_sight c.enter-in-Within.new.self) c.in_ok-opnd-in-Within.opnd c.in_ok-col-in-Within.col c.in_ok-from-in-Within.from refl c.as_slice-in-Within.ensures c.deref-in-Within.ensures.value refl c.in_ok-opnd-in-Within.ensures c.in_ok-own-in-Within.ensures c.in_ok-from-in-Within.ensures c.in_ok-col-in-Within.ensures c.in_ok-enter-in-Within.ensures c.len-inner-in-Within.ensures)
-    c.in-Within.is c.in-None-filter.is c.within_all.ensures
-
-pub part-returns-in_ok-within_where-in-Some-filter-clause-value : goal.part-returns-in_ok-within_where-in-Some-filter-clause-value
-part-returns-in_ok-within_where-in-Some-filter-clause-value t c =
-    where_within c.args.schema.now c.args.around c.len-inner-in-Within.result c.args.raw.now c.in-Within.opnd c.in-Within.negated c.in-Within.col c.in-Within.parts c.in-Within.filter c.in-Some-filter.a c.deref-in-Some-filter.result.now (in_sight c.args.known.now) c.in_ok-own-in-Within.own.items (in_sight c.enter-in-Within.new.self) c.in_ok-opnd-in-Within.opnd c.in_ok-col-in-Within.col c.in_ok-from-in-Within.from (condition c.in_ok-a-in-Some-filter.a) (condition c.in_ok-within_where-in-Some-filter.field-0)
-    (parts_are c.args.schema.now c.args.around c.len-inner-in-Within.result c.in-Within.opnd c.in-Within.col c.in-Within.parts c.as_slice-in-Within.result.now (in_sight c.args.known.now) (in_sight c.args.known.now) c.in_ok-own-in-Within.own.items c.deref-in-Within.result.now (in_sight c.enter-in-Within.new.self) (in_sight c.enter-in-Within.new.self) c.in_ok-opnd-in-Within.opnd c.in_ok-col-in-Within.col c.in_ok-from-in-Within.from refl c.as_slice-in-Within.ensures c.deref-in-Within.ensures.value refl c.in_ok-opnd-in-Within.ensures c.in_ok-own-in-Within.ensures c.in_ok-from-in-Within.ensures c.in_ok-col-in-Within.ensures c.in_ok-enter-in-Within.ensures c.len-inner-in-Within.ensures)
-    c.in-Within.is c.in-Some-filter.is c.deref-in-Some-filter.ensures c.in_ok-a-in-Some-filter.ensures.value c.in_ok-within_where-in-Some-filter.ensures
+pub part-returns-in_ok-new-in-Within-clause-value : goal.part-returns-in_ok-new-in-Within-clause-value
+part-returns-in_ok-new-in-Within-clause-value t c =
+    within_gives c.args.schema.now c.args.around (knowns_of (in_sight c.args.known.now)) c.args.raw.now c.in-Within.opnd c.in-Within.negated c.in-Within.col c.in-Within.parts c.in-Within.filter c.in-Within.is c.in_ok-opnd-in-Within.opnd c.in_ok-col-in-Within.col c.in_ok-col-in-Within.from (inner_filter c.in_ok-col-in-Within.filter) (condition c.in_ok-new-in-Within.field-0.value)
+    c.in_ok-opnd-in-Within.ensures c.in_ok-col-in-Within.ensures.value (ap condition c.in_ok-new-in-Within.ensures.ok ∙ c.within.ensures)
 
 pub condition-loop-rest-init : goal.condition-loop-rest-init
 condition-loop-rest-init t c = record {

@@ -5,13 +5,23 @@ use Rattle.sql_parse.specs.InSight.{in_sight}
 use Rattle.sql_parse.specs.Said.{condition_of}
 use Rattle.sql_parse.specs.Scopes.{knowns_of, scope_of}
 use Rattle.sql_parse.proofs.Climbing.{over}
+use Rattle.sql_parse.proofs.Depths.{filter_depth}
 use Rattle.sql_parse.proofs.naming.+condition.Given as goal
 
 abbrev pub decreases-condition : goal.decreases-condition
-decreases-condition l = size-RawCond l.raw.now * 2 + 1
+decreases-condition l = size-RawCond l.raw.now * 4 + 5
 
 abbrev pub decreases-part : goal.decreases-part
-decreases-part l = size-RawCond l.raw.now * 2
+decreases-part l = size-RawCond l.raw.now * 4 + 4
+
+abbrev pub decreases-exists_inside : goal.decreases-exists_inside
+decreases-exists_inside l = filter_depth l.raw.now + 1
+
+abbrev pub decreases-column_inside : goal.decreases-column_inside
+decreases-column_inside l = filter_depth l.raw.now + 1
+
+abbrev pub decreases-filter : goal.decreases-filter
+decreases-filter l = filter_depth l.raw.now
 
 abbrev pub invariant-condition-loop-rest : goal.invariant-condition-loop-rest
 invariant-condition-loop-rest l = record {
