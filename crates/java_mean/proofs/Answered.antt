@@ -246,4 +246,4 @@ found_typed schema db params None k h e = absurd cc
 
 -- what a program runs on has the schema and a database of it, and answers texts by their queries' types
 pub worlds_are_typed : (schema : Schema) (read : List ℕ → Option PlainQuery) (db : Database) (m : PlainMethod) → IsDatabaseOf schema db → IsWorld (frame_of schema read m) (world_with schema read db)
-worlds_are_typed schema read db m h = record { schema = refl; tables = h; answers = λ text k args e typed. found_typed schema db args (read text) k h e }
+worlds_are_typed schema read db m h = record { schema = refl; tables = h; asked = λ text args. refl; answers = λ text k args e typed. found_typed schema db args (read text) k h e }

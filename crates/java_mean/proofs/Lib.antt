@@ -3,9 +3,11 @@ pub mod Answered
 pub mod Bridge
 pub mod Collected
 pub mod First
+pub mod Copying
 pub mod Faultless
 pub mod Further
 pub mod Kept
+pub mod Fewer
 pub mod Matters
 pub mod Members
 pub mod Numbered

@@ -8,10 +8,11 @@ use Rattle.java_mean.specs.Asks.{frame_of}
 use Rattle.java_mean.specs.Keeps.{Keeps, with_body, with_methods}
 use Rattle.java_mean.specs.Numbers.{NumbersFit}
 use Rattle.java_mean.specs.Queries.{Reader}
-use Rattle.java_mean.specs.Refines.{Hole, fill, types_at, loop_at, IsTypedPlace, Replaces, MayReplace}
-use Rattle.java_mean.specs.Types.{types_of_params, types_past}
+use Rattle.java_mean.specs.Refines.{Hole, fill, types_at, loop_at, IsTypedPlace, Replaces, MayReplace, GivesWay, with_part}
+use Rattle.java_mean.specs.Types.{Types, types_of_params, types_past}
 use Rattle.java_mean.specs.Typing.{Extends}
 use Rattle.java_mean.specs.WellTyped.{IsWellTyped}
+use Rattle.java_mean.proofs.Fewer.{narrower}
 use Rattle.java_mean.proofs.Replaced.{program_kept}
 use Rattle.java_mean.proofs.TypedPlaces.{places_typed}
 
@@ -80,5 +81,31 @@ old_left schema reader p before after m hole old new t f u g e r =
       old_leaves = λ x k q. q;
       new_leaves = e;
       replaces = r;
+    } in
+    program_kept schema p before after m hole old new (λ other. subst (λ read. MayReplace (frame_of schema read m) m hole old new) (readers_same schema reader other) may)
+
+-- both leave other variables too, which nothing behind the place mentions
+pub both_left : (schema : Schema) (reader : Reader schema) (p : PlainProgram) (before after : List PlainMethod) (m : PlainMethod) (hole : Hole) (old new : Statements) (alike : Types) → IsWellTyped schema reader.read (with_part p before after m hole old) → NumbersFit (with_part p before after m hole old) → IsWellTyped schema reader.read (with_part p before after m hole new) → NumbersFit (with_part p before after m hole new) → GivesWay (frame_of schema reader.read m) None (types_of_params schema m.params) hole old new alike → Keeps (with_part p before after m hole old) (with_part p before after m hole new) schema
+both_left schema reader p before after m hole old new alike t f u g r =
+    let params = types_of_params schema m.params in
+    let at = types_at schema params hole in
+    let loop = loop_at schema None params hole in
+    let o = place_in schema reader.read p before after m hole old t f in
+    let n = place_in schema reader.read p before after m hole new u g in
+    let c = frame_of schema reader.read m in
+    let k = narrower c (λ x. alike x ≡ types_past schema at new x) None params hole loop at (types_past schema at new) alike n.end n.around r.new_leaves (λ x e. e) r.seen_before (λ b e. absurd cc) r.mentioned_behind in
+    let may : MayReplace c m hole old new = record {
+      loop = loop;
+      before = at;
+      after_old = types_past schema at old;
+      after_new = types_past schema at new;
+      after = alike;
+      end = k.end;
+      around = k.around;
+      old_typed = o.typed;
+      new_typed = n.typed;
+      old_leaves = r.old_leaves;
+      new_leaves = r.new_leaves;
+      replaces = r.replaces;
     } in
     program_kept schema p before after m hole old new (λ other. subst (λ read. MayReplace (frame_of schema read m) m hole old new) (readers_same schema reader other) may)

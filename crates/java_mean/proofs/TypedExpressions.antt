@@ -9,6 +9,7 @@ use Rattle.qbs_base.specs.declared.scalar.Ty.{Ty}
 use Rattle.qbs_base.specs.declared.scalar.Ty.TheVariants as tys
 use Rattle.qbs_base.specs.declared.columns.Column.{Column}
 use Rattle.qbs_base.specs.Values.{Schema, HasTy}
+use Rattle.sql_ast.specs.Meaning.{query_answer}
 use Rattle.sql_ast.specs.Tree.{PlainQuery, Listing, Number, Truth}
 use Rattle.java_ast.specs.declared.tree.Op.{Op}
 use Rattle.java_ast.specs.declared.tree.Op.TheVariants as ops
@@ -29,7 +30,7 @@ use Rattle.java_mean.proofs.Faultless.{Both, none_both, none_in, none_at, only_n
 
 -- what a method with this result is typed under
 abbrev pub frame : Schema → (List ℕ → Option PlainQuery) → Option Spelled → Frame
-frame schema read r = record { schema = schema; asks = λ text. type_of_found schema (read text); result = result_type schema r }
+frame schema read r = record { schema = schema; asks = λ text. type_of_found schema (read text); answers = λ db text args. option_map (query_answer db args) (read text); result = result_type schema r }
 
 -- An expression has the type that it seems to have: a new list is one of any type.
 abbrev pub HasKindred : Frame → Types → Expression → Option Kindred → Type 0

@@ -11,7 +11,7 @@ use Rattle.sql_ast.specs.declared.tree.FromItem.{FromItem}
 use Rattle.sql_ast.specs.declared.tree.SqlCol.{SqlCol}
 use Rattle.sql_ast.specs.declared.tree.SqlItem.{SqlItem}
 use Rattle.sql_ast.specs.declared.tree.SqlItem.TheVariants as items
-use Rattle.sql_ast.specs.Meaning.{nth}
+use Rattle.sql_ast.specs.Meaning.{nth, query_answer}
 use Rattle.sql_ast.specs.Tree.{PlainListing, PlainQuery, Listing, Number, Truth}
 use Rattle.sql_ast.specs.Typing.{ty_of_col}
 use Rattle.java_mean.specs.Types.{Single, ScalarOf, RowOf, JavaType, Of, Listed, made_of, type_spelled}
@@ -50,6 +50,6 @@ abbrev pub result_type : Schema → Option Spelled → Option JavaType
 result_type schema (Some ty) = type_spelled schema ty
 result_type schema None = None
 
--- the schema, the types of the queries that are found so, and the method's result
+-- the schema, the types and answers of the queries that are found so, and the method's result
 abbrev pub frame_of : Schema → (List ℕ → Option PlainQuery) → PlainMethod → Frame
-frame_of schema read m = record { schema = schema; asks = λ text. type_of_found schema (read text); result = result_type schema m.result }
+frame_of schema read m = record { schema = schema; asks = λ text. type_of_found schema (read text); answers = λ db text args. option_map (query_answer db args) (read text); result = result_type schema m.result }

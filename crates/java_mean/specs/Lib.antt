@@ -1,9 +1,11 @@
 pub mod Asked
 pub mod Asks
+pub mod Copied
 pub mod Endings
 pub mod Expression
 pub mod FirstForm
 pub mod Keeps
+pub mod Mentions
 pub mod Numbers
 pub mod Outcome
 pub mod Places

@@ -1,14 +1,16 @@
 -- What it is for one run to do at least what another does, as far as the visible variables go.
-use Rattle.std.specs.Prelude.{◌≡◌, ℕ, zero, suc, ◌≤◌, List, [], ◌∷◌, Result, Ok, Err}
+use Rattle.std.specs.Prelude.{◌≡◌, ℕ, zero, suc, ◌≤◌, List, [], ◌∷◌, ◌++◌, Result, Ok, Err}
 use Rattle.std.specs.declared.option.Option.{Option}
 use Rattle.std.specs.declared.option.Option.TheVariants.{Some, None}
 use Rattle.qbs_base.specs.declared.span.Span.{Span}
 use Rattle.qbs_base.specs.declared.scalar.Value.{Value}
 use Rattle.qbs_base.specs.Named.{at_name}
 use Rattle.qbs_base.specs.Values.{Schema}
-use Rattle.java_ast.specs.Tree.{Spelled, Expression, Statement, If, IfElse, ForEach, While, Statements, Nothing, Then, PlainMethod}
+use Rattle.java_ast.specs.Tree.{Spelled, Expression, Statement, If, IfElse, ForEach, While, Statements, Nothing, Then, PlainMethod, PlainProgram}
 use Rattle.java_mean.specs.declared.ending.Ending.{Ending}
 use Rattle.java_mean.specs.declared.ending.Ending.TheVariants as endings
+use Rattle.java_mean.specs.Keeps.{with_body, with_methods}
+use Rattle.java_mean.specs.Mentions.{EachMentioned}
 use Rattle.java_mean.specs.Statement.{State, Passed, GoesOn, Leaves, Returns, Does, meanings}
 use Rattle.java_mean.specs.Store.{Variable}
 use Rattle.java_mean.specs.Types.{Single, Of, JavaType, Types, with_type, type_spelled, types_after, types_past, IsOf, IsVariableOf, IsTyped, types_of_params}
@@ -199,3 +201,26 @@ pub record MayReplace (c : Frame) (m : PlainMethod) (hole : Hole) (old new : Sta
   pub old_leaves : Extends after_old after
   pub new_leaves : Extends after_new after
   pub replaces : Replaces c loop before after old new
+
+-- the statements behind a place in its own block: outside of that, what the place declares isn't visible
+abbrev pub behind : Hole → Statements
+behind (Here q) = q
+behind (Past a h) = behind h
+behind (InIf at e h q) = behind h
+behind (InThen at e h b q) = behind h
+behind (InElse at e a h q) = behind h
+behind (InEach at ty x e h q) = behind h
+behind (InWhile at e h q) = behind h
+
+-- the program with these statements at a place of one of its methods
+abbrev pub with_part : PlainProgram → List PlainMethod → List PlainMethod → PlainMethod → Hole → Statements → PlainProgram
+with_part p before after m hole part = with_methods p (before ++ with_body m (fill hole part) ∷ after)
+
+-- Statements give way to others that leave some variables alike, and others not: those that are alike are
+-- among what both leave, and are all that is visible before the place or mentioned behind it.
+pub record GivesWay (c : Frame) (l : Option Types) (g : Types) (hole : Hole) (old new : Statements) (alike : Types) : Type 0 where
+  pub old_leaves : Extends (types_past c.schema (types_at c.schema g hole) old) alike
+  pub new_leaves : Extends (types_past c.schema (types_at c.schema g hole) new) alike
+  pub seen_before : Extends alike (types_at c.schema g hole)
+  pub mentioned_behind : EachMentioned (λ x. alike x ≡ types_past c.schema (types_at c.schema g hole) new x) (behind hole)
+  pub replaces : Replaces c (loop_at c.schema l g hole) (types_at c.schema g hole) alike old new

@@ -8,7 +8,7 @@ use Rattle.qbs_base.specs.declared.scalar.Ty.{Ty}
 use Rattle.qbs_base.specs.declared.scalar.Ty.TheVariants as tys
 use Rattle.qbs_base.specs.declared.scalar.Value.TheVariants.{One, Many}
 use Rattle.qbs_base.specs.declared.columns.Column.{Column}
-use Rattle.qbs_base.specs.Values.{Schema, HasTy, AreOf, IsDatabaseOf}
+use Rattle.qbs_base.specs.Values.{Schema, Database, HasTy, AreOf, IsDatabaseOf}
 use Rattle.java_ast.specs.declared.tree.Op.{Op}
 use Rattle.java_ast.specs.declared.tree.Op.TheVariants as ops
 use Rattle.java_ast.specs.Tree as tree
@@ -24,10 +24,12 @@ pub record QueryType : Type 0 where
   pub params : List Ty
   pub answer : JavaType
 
--- what a method is typed under: the schema, the types of query texts, and the type of its result
+-- what a method is typed under: the schema, the types of query texts, what a text answers to
+-- arguments on a database, and the type of the method's result
 pub record Frame : Type 0 where
   pub schema : Schema
   pub asks : List ℕ → Option QueryType
+  pub answers : Database → List ℕ → List Scalar → Option Answered
   pub result : Option JavaType
 
 -- an answer of a type; a total may be too large
@@ -37,10 +39,12 @@ IsAnswer schema k (Some (answers.One x)) = IsOf schema k (One x)
 IsAnswer schema k (Some answers.TooLarge) = Unit {0}
 IsAnswer schema k None = ⊥
 
--- the world has the schema and a database of it, and answers query texts by their types
+-- the world has the schema and a database of it, and answers query texts as they do on that
+-- database, by their types
 pub record IsWorld (c : Frame) (w : World) : Type 0 where
   pub schema : w.schema ≡ c.schema
   pub tables : IsDatabaseOf c.schema w.db
+  pub asked : (text : List ℕ) (args : List Scalar) → w.ask text args ≡ c.answers w.db text args
   pub answers : (text : List ℕ) (k : QueryType) (args : List Scalar) → c.asks text ≡ Some k → AreOf k.params args → IsAnswer c.schema k.answer (w.ask text args)
 
 -- an operator takes two operands of the first type, and gives the second

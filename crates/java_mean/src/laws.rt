@@ -14,7 +14,7 @@ ghost use Rattle.java_mean.specs.Types.{Types, types_of_params, types_past, IsTy
 ghost use Rattle.java_mean.specs.Typing.{Frame, IsWorld, Extends, TypedStatements};
 ghost use Rattle.java_mean.specs.Numbers.{NumbersFit};
 ghost use Rattle.java_mean.specs.WellTyped.{IsWellTyped};
-ghost use Rattle.java_mean.specs.Refines.{Hole, fill, first_of, path_of, types_at, loop_at, IsTypedPlace, Replaces, MayReplace, IsResult, Alike, Simulates, exits};
+ghost use Rattle.java_mean.specs.Refines.{Hole, fill, first_of, path_of, types_at, loop_at, IsTypedPlace, Replaces, MayReplace, GivesWay, with_part, IsResult, Alike, Simulates, exits};
 ghost use Rattle.java_mean.specs.Reaches.{Reaches};
 ghost use Rattle.java_mean.specs.Statement.{State, meanings};
 ghost use Rattle.java_mean.specs.Queries.{HasQuery, Reader};
@@ -118,10 +118,17 @@ pub fn replaced_statements_keep()
 
 /// In a well-typed program statements at any depth give way to others that do the same from each typed
 /// state from which the old ones pass: where the program stays well typed it keeps what it does. The new
-/// statements leave fewer variables or more, and what they leave alike is what both leave. Which way to
-/// find queries a program is well typed by doesn't matter.
+/// statements leave fewer variables or more, and what they leave alike is what both leave; or both leave
+/// variables that the other doesn't, and what they leave alike is all that is visible before the place or
+/// mentioned behind it. Which way to find queries a program is well typed by doesn't matter.
 pub fn well_typed_replacements_keep()
     ensures readers { (schema : Schema) (one other : Reader schema) (p : PlainProgram) → IsWellTyped schema one.read p → IsWellTyped schema other.read p }
     ensures fewer { (schema : Schema) (reader : Reader schema) (p : PlainProgram) (before after : List PlainMethod) (m : PlainMethod) (hole : Hole) (old new : Statements) → IsWellTyped schema reader.read (with_methods p (before ++ with_body m (fill hole old) ∷ after)) → NumbersFit (with_methods p (before ++ with_body m (fill hole old) ∷ after)) → IsWellTyped schema reader.read (with_methods p (before ++ with_body m (fill hole new) ∷ after)) → NumbersFit (with_methods p (before ++ with_body m (fill hole new) ∷ after)) → Extends (types_past schema (types_at schema (types_of_params schema m.params) hole) old) (types_past schema (types_at schema (types_of_params schema m.params) hole) new) → Replaces (frame_of schema reader.read m) (loop_at schema None (types_of_params schema m.params) hole) (types_at schema (types_of_params schema m.params) hole) (types_past schema (types_at schema (types_of_params schema m.params) hole) new) old new → Keeps (with_methods p (before ++ with_body m (fill hole old) ∷ after)) (with_methods p (before ++ with_body m (fill hole new) ∷ after)) schema }
     ensures more { (schema : Schema) (reader : Reader schema) (p : PlainProgram) (before after : List PlainMethod) (m : PlainMethod) (hole : Hole) (old new : Statements) → IsWellTyped schema reader.read (with_methods p (before ++ with_body m (fill hole old) ∷ after)) → NumbersFit (with_methods p (before ++ with_body m (fill hole old) ∷ after)) → IsWellTyped schema reader.read (with_methods p (before ++ with_body m (fill hole new) ∷ after)) → NumbersFit (with_methods p (before ++ with_body m (fill hole new) ∷ after)) → Extends (types_past schema (types_at schema (types_of_params schema m.params) hole) new) (types_past schema (types_at schema (types_of_params schema m.params) hole) old) → Replaces (frame_of schema reader.read m) (loop_at schema None (types_of_params schema m.params) hole) (types_at schema (types_of_params schema m.params) hole) (types_past schema (types_at schema (types_of_params schema m.params) hole) old) old new → Keeps (with_methods p (before ++ with_body m (fill hole old) ∷ after)) (with_methods p (before ++ with_body m (fill hole new) ∷ after)) schema }
+    ensures wide { (schema : Schema) (reader : Reader schema) (p : PlainProgram) (before after : List PlainMethod) (m : PlainMethod)
+        (hole : Hole) (old new : Statements) (alike : Types)
+        → IsWellTyped schema reader.read (with_part p before after m hole old) → NumbersFit (with_part p before after m hole old)
+        → IsWellTyped schema reader.read (with_part p before after m hole new) → NumbersFit (with_part p before after m hole new)
+        → GivesWay (frame_of schema reader.read m) None (types_of_params schema m.params) hole old new alike
+        → Keeps (with_part p before after m hole old) (with_part p before after m hole new) schema }
 {}

@@ -1,11 +1,21 @@
 //! What the worked programs do, as laws that compute. They do nothing.
-ghost use Rattle.std.specs.Prelude.{◌≡◌, ℕ, ◌-◌, ◌^◌, pos, negsuc, true, false, [], ◌∷◌, codes};
+ghost use Rattle.std.specs.Prelude.{◌≡◌, ℕ, ◌-◌, ◌^◌, pos, negsuc, List, true, false, [], ◌∷◌, codes, bytes_eq};
+ghost use Rattle.std.specs.List.{list_any};
 ghost use Rattle.qbs_base.specs.declared.scalar.Scalar.TheVariants as scalars;
 ghost use Rattle.qbs_base.specs.declared.scalar.Value.TheVariants as values;
 ghost use Rattle.java_mean.specs.declared.ending.RunFault.TheVariants as faults;
+ghost use Rattle.java_mean.specs.Asks.{frame_of};
+ghost use Rattle.java_mean.specs.Copied.{copied, fetched, only_out, before_return, copying, staff_program};
 ghost use Rattle.java_mean.specs.Expression.{alone};
+ghost use Rattle.java_mean.specs.Keeps.{Keeps};
+ghost use Rattle.java_mean.specs.Mentions.{EachMentioned};
+ghost use Rattle.java_mean.specs.Numbers.{NumbersFit};
 ghost use Rattle.java_mean.specs.Outcome.{Done, Faulted, OutOfTurns, outcome};
-ghost use Rattle.java_mean.specs.Worked.{staff, payments, ann, bob, cat, ann_again, dan, long, text, sum_place, class_A, class_B, class_B_turned, class_C, class_D, class_E, class_H, class_J, class_W, forever, name_set, stops_early, user_at, literal, rows_done, scalar_done};
+ghost use Rattle.java_mean.specs.Queries.{Reader};
+ghost use Rattle.java_mean.specs.Refines.{GivesWay};
+ghost use Rattle.java_mean.specs.Types.{types_of_params, types_past};
+ghost use Rattle.java_mean.specs.WellTyped.{IsWellTyped};
+ghost use Rattle.java_mean.specs.Worked.{staff, payments, ann, bob, cat, ann_again, dan, long, text, sum_place, class_A, class_B, class_B_turned, class_C, class_D, class_E, class_H, class_J, class_W, forever, name_set, stops_early, user_at, literal, staff_schema, out, u, rows_done, scalar_done};
 ghost use Rattle.java_mean.specs.Asked.{asking, staff_text, staff_query, class_A_asking, sum_text, sum_query, loop_place, class_D_asking, count_text, count_query, class_J_asking, names_text, names_query, name_set_asking};
 
 /// Loops that collect, join, find the greatest and add up.
@@ -47,4 +57,19 @@ pub fn queries_do_what_loops_do()
     ensures too_large { outcome (asking (payments (pos (2 ^ 63 - 1) ∷ pos 1 ∷ [])) sum_text sum_query) class_D_asking [] 0 ≡ Faulted faults.SumTooLarge loop_place }
     ensures counted { outcome (asking staff count_text count_query) class_J_asking [] 5 ≡ Done (codes "2" ∷ codes "1" ∷ codes "2" ∷ codes "0" ∷ codes "1" ∷ []) None }
     ensures names { outcome (asking staff names_text names_query) name_set_asking [] 0 ≡ rows_done (alone (text (codes "ann")) ∷ alone (text (codes "bob")) ∷ alone (text (codes "cat")) ∷ alone (text (codes "dan")) ∷ []) }
+{}
+
+/// A loop that copies a table, as an example of statements that give way to others: each leave a variable
+/// that the others don't, and what stands behind them mentions the one that they leave alike.
+pub fn loops_give_way_to_fetches()
+    ensures mentioned { EachMentioned (λ x. list_any (bytes_eq x) (codes "users" ∷ out ∷ u ∷ []) ≡ true) copied }
+    ensures left_by_loop { types_past staff_schema (λ x. None) fetched (codes "users") ≡ None }
+    ensures left_by_fetch { types_past staff_schema (λ x. None) copied (codes "all") ≡ None }
+    ensures old_typed { (reader : Reader staff_schema) → IsWellTyped staff_schema reader.read (staff_program copied) }
+    ensures new_typed { (reader : Reader staff_schema) → IsWellTyped staff_schema reader.read (staff_program fetched) }
+    ensures old_fits { NumbersFit (staff_program copied) }
+    ensures new_fits { NumbersFit (staff_program fetched) }
+    ensures gives_way { (reader : Reader staff_schema)
+        → GivesWay (frame_of staff_schema reader.read copying) None (types_of_params staff_schema copying.params) before_return copied fetched only_out }
+    ensures kept { Keeps (staff_program copied) (staff_program fetched) staff_schema }
 {}
