@@ -1,5 +1,5 @@
 // Query texts that were read.
-ghost use Rattle.std.specs.Prelude.{◌≡◌, IfOk, IfSome};
+ghost use Rattle.std.specs.Prelude.{◌≡◌, IfOk, IfSome, box_value};
 ghost use Rattle.std.specs.Option.{option_map};
 ghost use Rattle.sql_ast.specs.Reading.{query};
 ghost use Rattle.java_types.specs.Texts.{read_by};
@@ -16,13 +16,17 @@ use std::marker::Model;
 
 /// The query that a text has under the schema, and none where it has none.
 #[tactic(auto, using(crate::proofs::Answerable::answerable))]
-pub fn read_query(alloc: Global, schema: &Schema, text: &Text) -> Result<Option<Query>, NoMemory>
-    ensures read { IfOk result (λ q. option_map query q ≡ read_by schema.now text.now) }
-    ensures answered { IfOk result (λ q. IfSome q (λ q. IsRead schema.now text.now (query q))) }
+pub fn read_query(
+    alloc: Global,
+    schema: &Schema,
+    text: &Text,
+) -> Result<Option<Box<Query>>, NoMemory>
+    ensures read { IfOk result (λ q. option_map query (option_map box_value q) ≡ read_by schema.now text.now) }
+    ensures answered { IfOk result (λ q. IfSome q (λ q. IsRead schema.now text.now (query q.value))) }
 {
     let _size = text.as_str().len();
     match parse_query(alloc, schema, text) {
-        Ok(q) => Ok(Some(q)),
+        Ok(q) => Ok(Some(Box::new(alloc, q)?)),
         Err(Fail::Fault(_)) => Ok(None),
         Err(Fail::NoMemory) => Err(NoMemory),
     }
@@ -33,18 +37,18 @@ pub fn read_query(alloc: Global, schema: &Schema, text: &Text) -> Result<Option<
 pub struct Queries<'a> {
     alloc: Global,
     schema: &'a Schema,
-    known: IndexMap<&'a [u8], Query>,
+    known: IndexMap<&'a [u8], Box<Query>>,
 }
 
 impl<'a> Model for Queries<'a> {
     ghost use Rattle.qbs_base.specs.Values as values;
-    ghost use Rattle.java_interp.specs.IsRead.{AreRead};
+    ghost use Rattle.java_interp.specs.IsRead.{AreRead, unboxed};
 
     ghost Value = { values.Schema };
 
     ghost view = { λ q. q.schema.now };
 
-    ghost invariant = { λ q. AreRead q.schema.now q.known.entries };
+    ghost invariant = { λ q. AreRead q.schema.now (unboxed q.known.entries) };
 }
 
 impl<'a> Queries<'a> {
@@ -70,11 +74,14 @@ impl<'a> Queries<'a> {
     pub fn find(&self, number: usize, text: &Text) -> Option<&Query>
         ensures { IfSome result (λ q. IsRead self.now text.now (query q.now)) }
     {
-        at_place(&self.known, number, text.as_slice())
+        match at_place(&self.known, number, text.as_slice()) {
+            Some(q) => Some(q),
+            None => None,
+        }
     }
 
-    fn keep(&mut self, text: &'a Text, q: Query) -> Result<usize, NoMemory>
-        requires { IsRead self.old text.now (query q) }
+    fn keep(&mut self, text: &'a Text, q: Box<Query>) -> Result<usize, NoMemory>
+        requires { IsRead self.old text.now (query q.value) }
         ensures { self.new ≡ self.old }
     {
         match self.known.insert_full(text.as_slice(), q) {

@@ -29,7 +29,7 @@ use std::alloc::Global;
 
 /// What a call of a method comes to: the printed lines and the returned value or none, a fault and
 /// its place, or too few turns.
-#[derive(Debug, Drop)]
+#[derive(Drop)]
 pub enum Outcome {
     Done {
         prints: Texts,

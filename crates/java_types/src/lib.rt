@@ -8,8 +8,6 @@ mod numbers;
 mod queries;
 mod scope;
 mod steps;
-#[cfg(test)]
-mod tests;
 mod types;
 mod values;
 mod walk;

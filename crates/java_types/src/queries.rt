@@ -1,5 +1,5 @@
 // The queries of texts, and the rules of queries.
-ghost use Rattle.std.specs.Prelude.{◌≡◌, IfOk, option_copied};
+ghost use Rattle.std.specs.Prelude.{◌≡◌, IfOk, box_value, option_copied};
 ghost use Rattle.std.specs.Option.{option_map};
 ghost use Rattle.sql_ast.specs.Meaning as meaning;
 ghost use Rattle.sql_ast.specs.Reading.{query, listing};
@@ -29,6 +29,17 @@ pub fn read_query(alloc: Global, schema: &Schema, text: &Text) -> Result<Option<
     }
 }
 
+/// The query that a text has under the schema, on the heap, and none where it has none.
+pub fn query_of(alloc: Global, schema: &Schema, text: &Text) -> Result<Option<Box<Query>>, NoMemory>
+    ensures { IfOk result (λ q. option_map query (option_map box_value q) ≡ read_by schema.now text.now) }
+{
+    match parse_query(alloc, schema, text) {
+        Ok(q) => Ok(Some(Box::new(alloc, q)?)),
+        Err(Fail::Fault(_)) => Ok(None),
+        Err(Fail::NoMemory) => Err(NoMemory),
+    }
+}
+
 fn params_in(q: &Query) -> &[Ty]
     ensures { result.now ≡ asks.params_in (query q.now) }
 {
@@ -40,8 +51,8 @@ fn params_in(q: &Query) -> &[Ty]
 }
 
 /// The types of a query's parameters, none where there is no query.
-pub fn params_of(q: &Option<Query>) -> &[Ty]
-    ensures { result.now ≡ rules.params_of (option_map query q.now) }
+pub fn params_of(q: Option<&Query>) -> &[Ty]
+    ensures { result.now ≡ rules.params_of (option_map query (option_copied q.entry)) }
 {
     match q {
         None => &[],
@@ -111,8 +122,8 @@ fn is_single(a: Single, b: Option<Single>) -> bool
 }
 
 /// Whether it is a query that lists such members.
-pub fn lists(schema: &Schema, a: Option<Single>, q: &Option<Query>) -> bool
-    ensures { result ≡ rules.lists schema.now a (option_map query q.now) }
+pub fn lists(schema: &Schema, a: Option<Single>, q: Option<&Query>) -> bool
+    ensures { result ≡ rules.lists schema.now a (option_map query (option_copied q.entry)) }
 {
     match (a, q) {
         (Some(a), Some(Query::Listing(q))) => is_single(a, element_type(schema, q)),
@@ -121,8 +132,8 @@ pub fn lists(schema: &Schema, a: Option<Single>, q: &Option<Query>) -> bool
 }
 
 /// Whether it is a query of a number.
-pub fn is_number(q: &Option<Query>) -> bool
-    ensures { result ≡ rules.is_number (option_map query q.now) }
+pub fn is_number(q: Option<&Query>) -> bool
+    ensures { result ≡ rules.is_number (option_map query (option_copied q.entry)) }
 {
     match q {
         Some(Query::Number(_)) => true,
@@ -131,8 +142,8 @@ pub fn is_number(q: &Option<Query>) -> bool
 }
 
 /// Whether it is a query of a truth value.
-pub fn is_truth(q: &Option<Query>) -> bool
-    ensures { result ≡ rules.is_truth (option_map query q.now) }
+pub fn is_truth(q: Option<&Query>) -> bool
+    ensures { result ≡ rules.is_truth (option_map query (option_copied q.entry)) }
 {
     match q {
         Some(Query::Truth(_)) => true,
@@ -141,8 +152,8 @@ pub fn is_truth(q: &Option<Query>) -> bool
 }
 
 /// Whether a query for a list, where it is one, has a complete order.
-pub fn has_order(q: &Option<Query>) -> bool
-    ensures { result ≡ rules.has_order (option_map query q.now) }
+pub fn has_order(q: Option<&Query>) -> bool
+    ensures { result ≡ rules.has_order (option_map query (option_copied q.entry)) }
 {
     match q {
         None => true,
@@ -152,8 +163,8 @@ pub fn has_order(q: &Option<Query>) -> bool
 
 /// Whether a query, where there is one, has as many parameters as there are arguments.
 #[tactic(auto, using(crate::proofs::Columns::same_lengths))]
-pub fn fits_query(q: &Option<Query>, args: &[Expr]) -> bool
-    ensures { result ≡ rules.fits_query (option_map query q.now) (expressions args.now) }
+pub fn fits_query(q: Option<&Query>, args: &[Expr]) -> bool
+    ensures { result ≡ rules.fits_query (option_map query (option_copied q.entry)) (expressions args.now) }
 {
     match q {
         None => true,

@@ -1,5 +1,5 @@
 // The rules at an expression.
-ghost use Rattle.std.specs.Prelude.{◌≡◌, OnOk, not};
+ghost use Rattle.std.specs.Prelude.{◌≡◌, OnOk, not, option_copied};
 ghost use Rattle.std.specs.Option.{option_map};
 ghost use Rattle.sql_ast.specs.Reading.{query};
 ghost use Rattle.java_ast.specs.Reading.{expression, expressions, spelled};
@@ -12,7 +12,7 @@ ghost use Rattle.java_types.specs.Least.{least};
 ghost use Rattle.java_types.specs.Texts.{read_by};
 
 use crate::keeping::note_if;
-use crate::queries::{fits_query, has_order, is_number, is_truth, lists, params_of, read_query};
+use crate::queries::{fits_query, has_order, is_number, is_truth, lists, params_of, query_of};
 use crate::scope::Scope;
 use crate::types::{column_in, single_spelled};
 use crate::words::{
@@ -231,7 +231,7 @@ fn arguments(
 
 // The rules at a query, where the text has one or not.
 fn note_query(
-    q: &Option<Query>,
+    q: Option<&Query>,
     fits: bool,
     ordered: bool,
     args: &[Expr],
@@ -240,7 +240,7 @@ fn note_query(
     scope: &Scope,
     kept: &mut Option<TypeFault>,
 )
-    ensures { kept.new ≡ least (least (least (least kept.old (marked broken.Mismatch (rules.arguments schema.now scope.now (rules.params_of (option_map query q.now)) (expressions args.now)))) (marked broken.BadQuery (rules.only_if (not fits) at))) (marked broken.UnorderedQuery (rules.only_if (not ordered) at))) (marked broken.Arity (rules.only_if (not (rules.fits_query (option_map query q.now) (expressions args.now))) at)) }
+    ensures { kept.new ≡ least (least (least (least kept.old (marked broken.Mismatch (rules.arguments schema.now scope.now (rules.params_of (option_map query (option_copied q.entry))) (expressions args.now)))) (marked broken.BadQuery (rules.only_if (not fits) at))) (marked broken.UnorderedQuery (rules.only_if (not ordered) at))) (marked broken.Arity (rules.only_if (not (rules.fits_query (option_map query (option_copied q.entry)) (expressions args.now))) at)) }
 {
     arguments(params_of(q), args, schema, scope, kept);
     note_if(kept, !fits, TypeRule::BadQuery, at);
@@ -264,10 +264,11 @@ fn at_listing(
     ensures { OnOk result (kept.new ≡ least kept.old (faults_at schema.now (read_by schema.now) (option_map spelled result_type.now) (value scope.now (tree.Query at (spelled ty.now) text.now (expressions args.now))))) }
 {
     let a = single_spelled(schema, ty);
-    let q = read_query(alloc, schema, text)?;
+    let read = query_of(alloc, schema, text)?;
+    let q = read.as_deref();
     note_if(kept, a.is_none(), TypeRule::Unknown, at);
-    let fits = lists(schema, a, &q);
-    note_query(&q, fits, has_order(&q), args, at, schema, scope, kept);
+    let fits = lists(schema, a, q);
+    note_query(q, fits, has_order(q), args, at, schema, scope, kept);
     Ok(())
 }
 
@@ -285,8 +286,9 @@ fn at_number(
 ) -> Result<(), NoMemory>
     ensures { OnOk result (kept.new ≡ least kept.old (faults_at schema.now (read_by schema.now) (option_map spelled result_type.now) (value scope.now (tree.QueryLong at text.now (expressions args.now))))) }
 {
-    let q = read_query(alloc, schema, text)?;
-    note_query(&q, is_number(&q), true, args, at, schema, scope, kept);
+    let read = query_of(alloc, schema, text)?;
+    let q = read.as_deref();
+    note_query(q, is_number(q), true, args, at, schema, scope, kept);
     Ok(())
 }
 
@@ -304,8 +306,9 @@ fn at_truth(
 ) -> Result<(), NoMemory>
     ensures { OnOk result (kept.new ≡ least kept.old (faults_at schema.now (read_by schema.now) (option_map spelled result_type.now) (value scope.now (tree.QueryBoolean at text.now (expressions args.now))))) }
 {
-    let q = read_query(alloc, schema, text)?;
-    note_query(&q, is_truth(&q), true, args, at, schema, scope, kept);
+    let read = query_of(alloc, schema, text)?;
+    let q = read.as_deref();
+    note_query(q, is_truth(q), true, args, at, schema, scope, kept);
     Ok(())
 }
 

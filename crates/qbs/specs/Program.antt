@@ -5,7 +5,7 @@ use Rattle.std.specs.declared.option.Option.TheVariants.{Some, None}
 use Rattle.qbs_base.specs.declared.columns.Table.{Table}
 use Rattle.qbs_base.specs.declared.span.Span.{Span}
 use Rattle.qbs_base.specs.declared.status.Status.{Status}
-use Rattle.java_ast.specs.Canonical.{canonical}
+use Rattle.java_text.specs.Canonical.{canonical}
 use Rattle.java_lex.specs.declared.token.LexFault.{LexFault}
 use Rattle.java_lex.specs.declared.token.Tokens.{Tokens}
 use Rattle.java_lex.specs.Lexing.{lexed}

@@ -7,7 +7,7 @@ use Rattle.qbs_base.specs.declared.columns.Table.{Table}
 use Rattle.qbs_base.specs.declared.memory.Fail.TheVariants.{Fault}
 use Rattle.qbs_base.specs.declared.status.Status.{Status}
 use Rattle.qbs_base.specs.Outside.{AppendsPrefix}
-use Rattle.java_ast.specs.Canonical.{canonical}
+use Rattle.java_text.specs.Canonical.{canonical}
 use Rattle.java_lex.specs.declared.token.LexFault.{LexFault}
 use Rattle.java_lex.specs.declared.token.Tokens.{Tokens}
 use Rattle.java_lex.specs.Lexing.{lexed}

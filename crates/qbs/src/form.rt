@@ -9,7 +9,7 @@ use qbs_base::Name;
 use std::alloc::AllocError;
 
 /// The names and the number of a source of the first form.
-#[derive(Clone, Debug, Drop)]
+#[derive(Clone, Drop)]
 pub struct FirstForm {
     pub class: Name,
     pub method: Name,

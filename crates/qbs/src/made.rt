@@ -1,16 +1,16 @@
 // What the rewriting of the first form writes.
 ghost use Rattle.std.specs.Prelude.{◌≡◌, IfOk, Some, [], ◌∷◌, false};
-ghost use Rattle.java_ast.specs.Canonical.{canonical};
+ghost use Rattle.java_text.specs.Canonical.{canonical};
 ghost use Rattle.java_ast.specs.Reading.{program, method, statement, statements, spelled};
 ghost use Rattle.java_ast.specs.Tree.{Table, ListOf, Declare, Query as QueryNode, NoMore, Return as ReturnNode, Var as VarNode};
 ghost use Rattle.java_mean.specs.FirstForm.{selecting, selection};
-ghost use Rattle.sql_ast.specs.Reading.{query};
+ghost use Rattle.sql_ast.specs.Reading.{condition, query};
+ghost use Rattle.sql_ast.specs.Tree.{Compare};
 ghost use Rattle.qbs.specs.Made.{rewritten, selection_text as query_text, class_with, method_with, query_places};
 
 use crate::form::FirstForm;
-use java_ast::{
-    Access, Expr, ExprNode, JTy, Method, Params, Program, Stmt, StmtNode, Stmts, print_program,
-};
+use java_ast::{Access, Expr, ExprNode, JTy, Method, Params, Program, Stmt, StmtNode, Stmts};
+use java_text::print_program;
 use qbs_base::{Items, NoMemory, Scalar, Span, Text, Texts, Tys};
 use sql_ast::{
     Cmp, Cond, FromItem, FromItems, ListQuery, Query, SqlCol, SqlColumn, SqlItem, SqlKey, SqlKeys,
@@ -64,20 +64,36 @@ fn by_position(alloc: Global) -> Result<SqlKeys, NoMemory>
     Ok(keys)
 }
 
-// SELECT t1.* FROM T t1 WHERE t1.F = D ORDER BY t1._pos
-fn selection_of(alloc: Global, form: &FirstForm, table: u32, column: u32) -> Result<Query, NoMemory>
-    ensures { IfOk result (λ q. query q ≡ selection form.now.table table form.now.column column form.now.number) }
+// t1.F = D
+fn compared(form: &FirstForm, column: u32) -> Result<Cond, NoMemory>
+    ensures { IfOk result (λ c. condition c ≡ Compare Cmp.Eq (SqlOpnd.Column (record { item = 1; column = SqlColumn.Named form.now.column column })) (SqlOpnd.Lit (Scalar.Long form.now.number))) }
 {
-    let compared = SqlOpnd::Column(column_of(form, column)?);
-    Ok(Query::Listing(ListQuery {
+    let column = SqlOpnd::Column(column_of(form, column)?);
+    Ok(Cond::Compare(Cmp::Eq, column, SqlOpnd::Lit(Scalar::Long(form.number))))
+}
+
+// SELECT t1.* FROM T t1 WHERE t1.F = D ORDER BY t1._pos
+fn selection_of(
+    alloc: Global,
+    form: &FirstForm,
+    table: u32,
+    column: u32,
+) -> Result<Box<Query>, NoMemory>
+    ensures { IfOk result (λ q. query q.value ≡ selection form.now.table table form.now.column column form.now.number) }
+{
+    let from = from_table(alloc, form, table)?;
+    let keys = by_position(alloc)?;
+    let filter = compared(form, column)?;
+    let query = Query::Listing(ListQuery {
         item: SqlItem::Whole(1),
-        from: from_table(alloc, form, table)?,
-        filter: Some(Cond::Compare(Cmp::Eq, compared, SqlOpnd::Lit(Scalar::Long(form.number)))),
+        from,
+        filter: Some(filter),
         group: None,
-        keys: by_position(alloc)?,
+        keys,
         limit: None,
         params: Tys::new(alloc),
-    }))
+    });
+    Ok(Box::new(alloc, query)?)
 }
 
 fn selection_text(

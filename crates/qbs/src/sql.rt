@@ -65,7 +65,10 @@ fn plan_query(alloc: Global, schema: &Schema, texts: &TableTexts, text: &Text) -
 {
     let _size = text.as_str().len();
     match parse_query(alloc, schema, text) {
-        Ok(q) => plan_ordered(alloc, schema, texts, &q),
+        Ok(q) => {
+            let q = Box::new(alloc, q)?;
+            plan_ordered(alloc, schema, texts, &q)
+        }
         Err(Fail::Fault(_)) => Err(word_refused(alloc, TypeRule::BadQuery)),
         Err(Fail::NoMemory) => Err(Stop::Memory),
     }

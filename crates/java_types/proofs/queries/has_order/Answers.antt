@@ -1,5 +1,5 @@
-use Rattle.std.proofs.Common.{◌∙◌, ap, sym}
-use Rattle.std.specs.Option.{option_map}
+use Rattle.std.proofs.Common.{◌∙◌, ap, sym, Bor}
+use Rattle.std.specs.Option.{option_copied, option_map}
 use Rattle.std.specs.declared.option.Option.{Option}
 use Rattle.sql_ast.specs.declared.tree.Query.{Query}
 use Rattle.sql_ast.specs.Reading.{query}
@@ -9,5 +9,5 @@ use Rattle.java_types.proofs.queries.has_order.Goals as goal
 
 pub returns-in-Some : goal.returns-in-Some
 returns-in-Some c =
-    order_decided c.order_complete.result (query c.in-Some.q) c.order_complete.ensures
-    ∙ ap (λ (o : Option Query). has_order (option_map query o)) (sym c.in-Some.is)
+    order_decided c.order_complete.result (query c.in-Some.q.now) c.order_complete.ensures
+    ∙ ap (λ (o : Option (Bor Query)). has_order (option_map query (option_copied o))) (sym c.in-Some.is)

@@ -1,5 +1,5 @@
 use Rattle.std.proofs.Common.{◌≡◌, IfOk, subst}
-use Rattle.java_ast.specs.Canonical.{canonical}
+use Rattle.java_text.specs.Canonical.{canonical}
 use Rattle.java_ast.specs.Tree.{PlainProgram}
 use Rattle.qbs.proofs.made.rewritten_text.Goals as goal
 

@@ -1,6 +1,11 @@
+use Rattle.std.proofs.Common.{IfSome}
+use Rattle.sql_ast.specs.Reading.{query}
+use Rattle.java_interp.specs.IsRead.{IsRead}
 use Rattle.java_interp.proofs.Readings.{found_here}
 use Rattle.java_interp.proofs.known.Queries.find.Goals as goal
 
-pub returns : goal.returns
-returns c =
-    found_here c.self.inside.schema.now c.args.self.now c.as_slice.result.now c.args.text.now c.self.inside.known.entries c.at_place.result c.self.invariant c.self.view_is c.as_slice.ensures c.at_place.ensures
+pub returns-in-Some : goal.returns-in-Some
+returns-in-Some c =
+    let found : IfSome c.at_place.result (λ q. IsRead c.args.self.now c.args.text.now (query q.now.value)) = found_here c.self.inside.schema.now c.args.self.now c.as_slice.result.now c.args.text.now c.self.inside.known.entries c.at_place.result c.self.invariant c.self.view_is c.as_slice.ensures c.at_place.ensures in
+    let here : IsRead c.args.self.now c.args.text.now (query c.in-Some.q.now.value) = rw c.in-Some.is at found in
+    rw c.deref.ensures here
