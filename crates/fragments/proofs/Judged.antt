@@ -1,14 +1,14 @@
 -- The rule that a loop breaks first, found part by part.
 use Rattle.std.proofs.Common.{◌≡◌, ℕ, Option, Some, None, refl, sym, ap, ◌∙◌}
 use Rattle.qbs_base.specs.declared.span.Span.{Span}
-use Rattle.fragments.specs.Kernel.{Broken, first_rule, broken, broken_counts}
-use Rattle.fragments.specs.KernelConditions.{broken_conditions}
-use Rattle.fragments.specs.KernelForms.{broken_forms}
-use Rattle.fragments.specs.KernelLists.{broken_lists, broken_depth}
-use Rattle.fragments.specs.KernelLoop.{broken_loop}
-use Rattle.fragments.specs.KernelStarts.{broken_starts}
-use Rattle.fragments.specs.KernelStatements.{broken_statements, broken_updates}
-use Rattle.fragments.specs.Setting.{Setting}
+use Rattle.java_loops.specs.Kernel.Kernel.{Broken, first_rule, broken, broken_counts}
+use Rattle.java_loops.specs.Kernel.KernelConditions.{broken_conditions}
+use Rattle.java_loops.specs.Kernel.KernelForms.{broken_forms}
+use Rattle.java_loops.specs.Kernel.KernelLists.{broken_lists, broken_depth}
+use Rattle.java_loops.specs.Kernel.KernelLoop.{broken_loop}
+use Rattle.java_loops.specs.Kernel.KernelStarts.{broken_starts}
+use Rattle.java_loops.specs.Kernel.KernelStatements.{broken_statements, broken_updates}
+use Rattle.java_loops.specs.Kernel.Setting.{Setting}
 use Rattle.fragments.specs.Verdicts.{first_rules, middle_rules, last_rules}
 
 -- ---- One rule

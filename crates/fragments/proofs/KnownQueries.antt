@@ -6,20 +6,22 @@ use Rattle.sql_ast.specs.Tree.{PlainQuery}
 use Rattle.java_ast.specs.Tree.{PlainProgram}
 use Rattle.java_mean.specs.Numbers.{NumbersFit}
 use Rattle.java_mean.specs.WellTyped.{IsWellTyped}
-use Rattle.fragments.specs.Kernel.{setting_at}
-use Rattle.fragments.specs.KernelConditions.{Asked, is_column_query}
-use Rattle.fragments.specs.Lowered.{query_asked}
+use Rattle.java_loops.specs.Kernel.Kernel.{setting_at}
+use Rattle.loop_text.specs.Kernel.KernelConditions.{Asked}
+use Rattle.java_loops.specs.Kernel.KernelConditions.{is_column_query}
+use Rattle.java_loops.specs.Lowering.Lowered.{query_asked}
 use Rattle.fragments.specs.LoweredInCode.{has_query}
-use Rattle.fragments.specs.Names.{Names}
-use Rattle.fragments.specs.Numbering.{numbers_of}
-use Rattle.fragments.specs.Setting.{Setting, setting_of, is_found}
+use Rattle.loop_text.specs.Statements.Names.{Names}
+use Rattle.java_loops.specs.Lowering.Numbering.{numbers_of}
+use Rattle.java_loops.specs.Kernel.Setting.{Setting, setting_of}
+use Rattle.loop_text.specs.Statements.Setting.{is_found}
 use Rattle.fragments.specs.Verdicts.{MayBeLowered}
-use Rattle.fragments.proofs.KnownLists.{IsKnownList, known_list}
-use Rattle.fragments.proofs.KnownNumbers.{IsGoodKnown, known_lists_good}
-use Rattle.fragments.proofs.ListedRows.{fragment_seen}
-use Rattle.fragments.proofs.LowerChains.{at_setting}
-use Rattle.fragments.proofs.LowerValid.{fragments_valid}
-use Rattle.fragments.proofs.PlaceLoop.{kernel_unbroken}
+use Rattle.java_loops.proofs.Known.KnownLists.{IsKnownList, known_list}
+use Rattle.java_loops.proofs.Known.KnownNumbers.{IsGoodKnown, known_lists_good}
+use Rattle.java_loops.proofs.Listed.ListedRows.{fragment_seen}
+use Rattle.java_loops.proofs.Lowering.LowerChains.{at_setting}
+use Rattle.java_loops.proofs.Lowering.LowerValid.{fragments_valid}
+use Rattle.java_loops.proofs.Placing.PlaceLoop.{kernel_unbroken}
 
 column_found : (o : Option PlainQuery) → is_column_query o ≡ true → is_found o ≡ true
 column_found (Some q) h = refl

@@ -6,10 +6,10 @@ use Rattle.java_ast.specs.Tree.{Expression, Statement, Statements, Then}
 use Rattle.kernel_lang.specs.Plain as kernel
 use Rattle.sql_ast.specs.Tree.{PlainQuery}
 use Rattle.java_mean.proofs.Puts.{names_equal}
-use Rattle.fragments.specs.Fragment.{set_by}
-use Rattle.fragments.specs.Lowered.{Lowering, found_name, set_in_order}
+use Rattle.loop_text.specs.Statements.Fragment.{set_by}
+use Rattle.java_loops.specs.Lowering.Lowered.{Lowering, found_name, set_in_order}
 use Rattle.fragments.specs.LoweredInCode.{set_among}
-use Rattle.fragments.specs.Names.{Names, is_among}
+use Rattle.loop_text.specs.Statements.Names.{Names, is_among}
 
 -- ---- The whole
 

@@ -12,16 +12,16 @@ use Rattle.kernel_lang.specs.Pools.{pool_of}
 use Rattle.kernel_lang.specs.Validity.{count_own, count_conditions}
 use Rattle.fragments.specs.Capped.{has_few}
 use Rattle.fragments.specs.Counted.{HasFewLoops, AreNumbersOf}
-use Rattle.fragments.specs.Fragment.{accumulators, needed_of}
-use Rattle.fragments.specs.Kernel.{broken_counts, has_small_pool, is_small}
-use Rattle.fragments.specs.KernelLists.{count_loops}
-use Rattle.fragments.specs.KernelStarts.{Numbered, update_of, update_of_flag}
-use Rattle.fragments.specs.Lowered.{accumulator_of, accumulators_of, conditions_of, flag_here, flags_from, fragment_with, lists_of, outer_accumulators, type_of_entry}
-use Rattle.fragments.specs.Names.{Names}
-use Rattle.fragments.specs.Numbering.{Numbers, numbers_of, count_flags}
-use Rattle.fragments.specs.Setting.{Setting}
-use Rattle.fragments.specs.Sites.{Site, Round, declared_name, place_of, place_where}
-use Rattle.fragments.proofs.ValidChains.{lists_count}
+use Rattle.loop_text.specs.Statements.Fragment.{accumulators, needed_of}
+use Rattle.java_loops.specs.Kernel.Kernel.{broken_counts, has_small_pool, is_small}
+use Rattle.loop_text.specs.Kernel.KernelLists.{count_loops}
+use Rattle.loop_text.specs.Kernel.KernelStarts.{Numbered, update_of, update_of_flag}
+use Rattle.java_loops.specs.Lowering.Lowered.{accumulator_of, accumulators_of, conditions_of, flag_here, flags_from, fragment_with, lists_of, outer_accumulators, type_of_entry}
+use Rattle.loop_text.specs.Statements.Names.{Names}
+use Rattle.java_loops.specs.Lowering.Numbering.{Numbers, numbers_of, count_flags}
+use Rattle.java_loops.specs.Kernel.Setting.{Setting}
+use Rattle.loop_text.specs.Sites.Sites.{Site, Round, declared_name, place_of, place_where}
+use Rattle.java_loops.proofs.Valid.ValidChains.{lists_count}
 
 pub ruleset counting = (take-map, take_all, length-map)
 

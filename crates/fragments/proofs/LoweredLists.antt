@@ -5,7 +5,7 @@ use Rattle.std.proofs.lemmas.List.{append-nil}
 use Rattle.qbs_base.specs.declared.columns.Column.{Column}
 use Rattle.kernel_lang.specs.declared.parts.Col.{Col}
 use Rattle.java_types.proofs.Columns.{number_in_table}
-use Rattle.fragments.specs.Lowered.{keys_of}
+use Rattle.java_loops.specs.Lowering.Lowered.{keys_of}
 
 pub ruleset columns = (number_in_table)
 

@@ -10,23 +10,24 @@ use Rattle.java_mean.specs.Visible.{Visible, type_at}
 use Rattle.java_mean.specs.WellTyped.{IsWellTyped}
 use Rattle.java_types.specs.Texts.{read_by}
 use Rattle.kernel_lang.specs.Typed.{is_typed}
-use Rattle.fragments.specs.Fragment.{Fragment, fragment_at}
-use Rattle.fragments.specs.Kernel.{broken, setting_at}
+use Rattle.loop_text.specs.Statements.Fragment.{Fragment, fragment_at}
+use Rattle.java_loops.specs.Kernel.Kernel.{broken, setting_at}
 use Rattle.fragments.specs.Locating.{fragment_located, IsLocatedAt}
-use Rattle.fragments.specs.Lowered.{Lowering}
-use Rattle.fragments.specs.Lowers.{IsLowered, IsOutside}
-use Rattle.fragments.specs.Placing.{fragment_once_at}
-use Rattle.fragments.specs.Setting.{Setting, setting_of}
-use Rattle.fragments.specs.Sites.{Site, sites_of}
+use Rattle.java_loops.specs.Lowering.Lowered.{Lowering}
+use Rattle.java_loops.specs.Meant.Lowers.{IsLowered}
+use Rattle.fragments.specs.Lowers.{IsOutside}
+use Rattle.java_loops.specs.Lowering.Placing.{fragment_once_at}
+use Rattle.java_loops.specs.Kernel.Setting.{Setting, setting_of}
+use Rattle.loop_text.specs.Sites.Sites.{Site, sites_of}
 use Rattle.fragments.specs.Verdicts.{BreaksFirst, MayBeLowered, IsLoweredFrom}
-use Rattle.fragments.specs.Walking.{IsLoopOf}
-use Rattle.fragments.specs.declared.lowered.Outside.{Outside}
-use Rattle.fragments.specs.declared.position.Located.{Located}
+use Rattle.loop_text.specs.Statements.Walking.{IsLoopOf}
+use Rattle.fragments.specs.declared.lowering.lowered.Outside.{Outside}
+use Rattle.fragments.specs.declared.places.position.Located.{Located}
 use Rattle.fragments.proofs.KnownQueries.{may_be_lowered}
-use Rattle.fragments.proofs.NeededOnce.{once_is}
-use Rattle.fragments.proofs.PathsLead.{loop_has_fragment}
-use Rattle.fragments.proofs.PlaceTypes.{setting_found}
-use Rattle.fragments.proofs.TypedFragment.{fragment_fits}
+use Rattle.java_loops.proofs.Kept.NeededOnce.{once_is}
+use Rattle.java_loops.proofs.Placing.PathsLead.{loop_has_fragment}
+use Rattle.java_loops.proofs.Placing.PlaceTypes.{setting_found}
+use Rattle.java_loops.proofs.Typing.TypedFragment.{fragment_fits}
 
 -- ---- The setting
 

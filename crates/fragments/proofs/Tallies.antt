@@ -1,11 +1,11 @@
 -- Sites that pass a test, counted before each one.
 use Rattle.std.proofs.Common.{◌≡◌, ℕ, zero, suc, ◌+◌, ◌≤◌, Bool, true, false, List, [], ◌∷◌, length, take, refl, ap, ◌∙◌, cond, arith, slice_get}
 use Rattle.std.specs.List.{filter}
-use Rattle.fragments.specs.declared.tally.Tally.{Tally}
-use Rattle.fragments.specs.Fragment.{Fragment, accumulators, needed_of, is_live}
-use Rattle.fragments.specs.KernelLists.{count_loops}
-use Rattle.fragments.specs.Numbering.{count_flags}
-use Rattle.fragments.specs.Sites.{Site}
+use Rattle.fragments.specs.declared.numbering.tally.Tally.{Tally}
+use Rattle.loop_text.specs.Statements.Fragment.{Fragment, accumulators, needed_of, is_live}
+use Rattle.loop_text.specs.Kernel.KernelLists.{count_loops}
+use Rattle.java_loops.specs.Lowering.Numbering.{count_flags}
+use Rattle.loop_text.specs.Sites.Sites.{Site}
 use Rattle.fragments.specs.Tallied.{is_loop_site, is_flag_site, passed_before, IsTally, found_or, tally_at}
 
 found_step : (test : Site → Bool) (s : Site) (ss : List Site) (k n : ℕ) (b : Bool) → ((j : ℕ) → found_or (j + length (filter test ss)) (slice_get (passed_before test j ss) n) ≡ j + length (filter test (take n ss))) → found_or (k + length (cond b (s ∷ filter test ss) (filter test ss))) (slice_get (passed_before test (cond b (suc k) k) ss) n) ≡ k + length (cond b (s ∷ filter test (take n ss)) (filter test (take n ss)))

@@ -3,13 +3,13 @@
 use Rattle.std.specs.Prelude.{◌≡◌, ◌≤◌, ◌<◌, ◌+◌, length}
 use Rattle.std.specs.declared.option.Option.{Option}
 use Rattle.std.specs.declared.option.Option.TheVariants.{Some, None}
-use Rattle.fragments.specs.Fragment.{accumulators}
-use Rattle.fragments.specs.KernelLists.{count_loops}
-use Rattle.fragments.specs.Numbering.{Numbers, numbers_of, count_flags}
-use Rattle.fragments.specs.Reading.{exprs_lent}
-use Rattle.fragments.specs.Seen.{names_lent}
-use Rattle.fragments.specs.Setting.{Setting}
-use Rattle.fragments.specs.declared.numbering.Numbers as code
+use Rattle.loop_text.specs.Statements.Fragment.{accumulators}
+use Rattle.loop_text.specs.Kernel.KernelLists.{count_loops}
+use Rattle.java_loops.specs.Lowering.Numbering.{Numbers, numbers_of, count_flags}
+use Rattle.loop_text.specs.Sites.Reading.{exprs_lent}
+use Rattle.loop_text.specs.Statements.Seen.{names_lent}
+use Rattle.java_loops.specs.Kernel.Setting.{Setting}
+use Rattle.fragments.specs.declared.numbering.numbers.Numbers as code
 
 abbrev pub numbers_in_code : code.Numbers → Numbers
 numbers_in_code t = record { entries = exprs_lent t.entries; known = names_lent t.known; atoms = t.atoms }

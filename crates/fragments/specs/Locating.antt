@@ -6,11 +6,11 @@ use Rattle.qbs_base.specs.Values.{Schema}
 use Rattle.java_ast.specs.Reading.{statement, statements}
 use Rattle.java_ast.specs.Tree.{Statements, PlainProgram}
 use Rattle.java_mean.specs.Visible.{Visible}
-use Rattle.fragments.specs.Fragment.{Fragment, fragment_in}
-use Rattle.fragments.specs.KeptStatements.{first_in, first_at}
-use Rattle.fragments.specs.Placing.{scope_in, scope_at, fragment_once_at}
-use Rattle.fragments.specs.Seen.{names_seen}
-use Rattle.fragments.specs.declared.position.Located.{Located}
+use Rattle.loop_text.specs.Statements.Fragment.{Fragment, fragment_in}
+use Rattle.loop_text.specs.Statements.KeptStatements.{first_in, first_at}
+use Rattle.java_loops.specs.Lowering.Placing.{scope_in, scope_at, fragment_once_at}
+use Rattle.java_loops.specs.Lowering.Seen.{names_seen}
+use Rattle.fragments.specs.declared.places.position.Located.{Located}
 
 abbrev pub fragment_located : Located → Fragment
 fragment_located q =

@@ -3,19 +3,20 @@ use Rattle.std.specs.Prelude.{◌≡◌, ℕ, Bool, List, if◌then◌else◌}
 use Rattle.std.specs.declared.option.Option.{Option}
 use Rattle.std.specs.declared.option.Option.TheVariants.{Some, None}
 use Rattle.java_ast.specs.Tree.{Statement}
-use Rattle.fragments.specs.declared.accs.UpdateSite.{UpdateSite}
-use Rattle.fragments.specs.declared.numbering.Numbers as code
+use Rattle.fragments.specs.declared.lowering.accumulated.UpdateSite.{UpdateSite}
+use Rattle.fragments.specs.declared.numbering.numbers.Numbers as code
 use Rattle.fragments.specs.Counted.{numbers_in_code, HasFewLoops, AreNumbersOf}
-use Rattle.fragments.specs.Fragment.{set_by}
-use Rattle.fragments.specs.Kernel.{broken_counts}
-use Rattle.fragments.specs.KernelConditions.{asked_for}
-use Rattle.fragments.specs.KernelStarts.{Numbered}
-use Rattle.fragments.specs.Lowered.{query_asked}
-use Rattle.fragments.specs.Names.{Names, is_among}
-use Rattle.fragments.specs.Numbering.{Numbers}
-use Rattle.fragments.specs.Reading.{site_of}
-use Rattle.fragments.specs.Setting.{Setting, is_found}
-use Rattle.fragments.specs.Sites.{place_of}
+use Rattle.loop_text.specs.Statements.Fragment.{set_by}
+use Rattle.java_loops.specs.Kernel.Kernel.{broken_counts}
+use Rattle.loop_text.specs.Kernel.KernelConditions.{asked_for}
+use Rattle.loop_text.specs.Kernel.KernelStarts.{Numbered}
+use Rattle.java_loops.specs.Lowering.Lowered.{query_asked}
+use Rattle.loop_text.specs.Statements.Names.{Names, is_among}
+use Rattle.java_loops.specs.Lowering.Numbering.{Numbers}
+use Rattle.loop_text.specs.Sites.Reading.{site_of}
+use Rattle.java_loops.specs.Kernel.Setting.{Setting}
+use Rattle.loop_text.specs.Statements.Setting.{is_found}
+use Rattle.loop_text.specs.Sites.Sites.{place_of}
 
 abbrev pub update_in_code : UpdateSite → Numbered
 update_in_code u = record { number = u.number; site = site_of u.site.now }

@@ -1,8 +1,8 @@
 -- Leaves and readings as the code holds them.
 use Rattle.java_ast.specs.Reading.{expression}
-use Rattle.fragments.specs.declared.leaf_list.Leaf as leaves
-use Rattle.fragments.specs.declared.atoms.Reading as readings
-use Rattle.fragments.specs.Numbering.{Leaf, Reading}
+use Rattle.fragments.specs.declared.numbering.leaf_list.Leaf as leaves
+use Rattle.fragments.specs.declared.numbering.atoms.Reading as readings
+use Rattle.java_loops.specs.Lowering.Numbering.{Leaf, Reading}
 
 abbrev pub leaf_in_code : leaves.Leaf → Leaf
 leaf_in_code l = record { number = l.number; expression = expression l.expression.now }

@@ -3,14 +3,14 @@ use Rattle.std.specs.Prelude.{◌≡◌, ℕ, suc, Bool, List, [], ◌∷◌, le
 use Rattle.std.specs.List.{filter}
 use Rattle.std.specs.declared.option.Option.{Option}
 use Rattle.std.specs.declared.option.Option.TheVariants.{Some, None}
-use Rattle.fragments.specs.declared.tally.Tally.{Tally}
-use Rattle.fragments.specs.declared.counts.Counts.{Counts}
+use Rattle.fragments.specs.declared.numbering.tally.Tally.{Tally}
+use Rattle.fragments.specs.declared.numbering.counts.Counts.{Counts}
 use Rattle.fragments.specs.Counted.{HasFewLoops}
-use Rattle.fragments.specs.Fragment.{needed_of}
-use Rattle.fragments.specs.KernelStatements.{is_declaration}
-use Rattle.fragments.specs.Loops.{is_loop}
-use Rattle.fragments.specs.Setting.{Setting}
-use Rattle.fragments.specs.Sites.{Site}
+use Rattle.loop_text.specs.Statements.Fragment.{needed_of}
+use Rattle.loop_text.specs.Kernel.KernelStatements.{is_declaration}
+use Rattle.loop_text.specs.Statements.Loops.{is_loop}
+use Rattle.java_loops.specs.Kernel.Setting.{Setting}
+use Rattle.loop_text.specs.Sites.Sites.{Site}
 
 abbrev pub is_loop_site : Site → Bool
 is_loop_site s = is_loop s.statement

@@ -7,20 +7,20 @@ use Rattle.qbs_base.specs.declared.memory.Fail.{Fail}
 use Rattle.qbs_base.specs.declared.memory.Fail.TheVariants.{Fault, NoMemory}
 use Rattle.kernel_lang.specs.Validity as validity
 use Rattle.fragments.specs.Counted.{HasFewLoops, AreNumbersOf}
-use Rattle.fragments.specs.Kernel.{Broken, first_rule, broken_counts, broken, lowering}
-use Rattle.fragments.specs.KernelConditions.{broken_conditions}
-use Rattle.fragments.specs.KernelForms.{broken_forms}
-use Rattle.fragments.specs.KernelLists.{broken_lists, broken_depth}
-use Rattle.fragments.specs.KernelLoop.{broken_loop}
-use Rattle.fragments.specs.KernelStarts.{broken_starts}
-use Rattle.fragments.specs.KernelStatements.{broken_statements, broken_updates}
-use Rattle.fragments.specs.KeptStatements.{AreKept}
-use Rattle.fragments.specs.Lowered.{Lowering, names_read}
+use Rattle.java_loops.specs.Kernel.Kernel.{Broken, first_rule, broken_counts, broken, lowering}
+use Rattle.java_loops.specs.Kernel.KernelConditions.{broken_conditions}
+use Rattle.java_loops.specs.Kernel.KernelForms.{broken_forms}
+use Rattle.java_loops.specs.Kernel.KernelLists.{broken_lists, broken_depth}
+use Rattle.java_loops.specs.Kernel.KernelLoop.{broken_loop}
+use Rattle.java_loops.specs.Kernel.KernelStarts.{broken_starts}
+use Rattle.java_loops.specs.Kernel.KernelStatements.{broken_statements, broken_updates}
+use Rattle.loop_text.specs.Statements.KeptStatements.{AreKept}
+use Rattle.java_loops.specs.Lowering.Lowered.{Lowering, names_read}
 use Rattle.fragments.specs.LoweredInCode.{has_query}
 use Rattle.fragments.specs.Lowers.{broken_in_code}
-use Rattle.fragments.specs.Numbering.{Numbers, numbers_of}
-use Rattle.fragments.specs.Setting.{Setting}
-use Rattle.fragments.specs.declared.lowered.Outside.{Outside}
+use Rattle.java_loops.specs.Lowering.Numbering.{Numbers, numbers_of}
+use Rattle.java_loops.specs.Kernel.Setting.{Setting}
+use Rattle.fragments.specs.declared.lowering.lowered.Outside.{Outside}
 
 -- ---- The rules in their order
 

@@ -11,11 +11,11 @@ ghost use Rattle.java_mean.specs.Statement.{State, Passed, GoesOn, Leaves, Retur
 ghost use Rattle.java_mean.specs.Store.{Store, Variable, put, plainly};
 ghost use Rattle.java_mean.specs.World.{World};
 ghost use Rattle.java_mean.specs.Worked.{staff, ann, bob, cat, dan, long, out, class_C, class_E};
-ghost use Rattle.java_loops.specs.Effects.{sets, all_set, folded, effect, effects};
-ghost use Rattle.java_loops.specs.Left.{Left, LeftWith, Marked, Have, Distinct, GoneOn};
-ghost use Rattle.java_loops.specs.Reads.{SameOn, Set};
-ghost use Rattle.java_loops.specs.Nests.{with_name, is_among, Apart, seen, Mark, IsNest, AreNest};
-ghost use Rattle.java_loops.specs.Worked.{first_loop, roles, best, all, all_active, with_roles};
+ghost use Rattle.java_loops.specs.Walks.Effects.{sets, all_set, folded, effect, effects};
+ghost use Rattle.java_loops.specs.Walks.Left.{Left, LeftWith, Marked, Have, Distinct, GoneOn};
+ghost use Rattle.java_loops.specs.Walks.Reads.{SameOn, Set};
+ghost use Rattle.java_loops.specs.Walks.Nests.{with_name, is_among, Apart, seen, Mark, IsNest, AreNest};
+ghost use Rattle.java_loops.specs.Walks.Worked.{first_loop, roles, best, all, all_active, with_roles};
 
 /// Where a statement of a nest goes on, each accumulator has become what its own effect says, from any values
 /// of what the nest leaves as it is. Nothing is printed, and no turns are made. The same holds of the
@@ -35,7 +35,7 @@ pub fn loops_leave_variables_alone()
 
 /// A nest that passes goes on: it never returns, and it leaves no loop that stands round it. Inside a loop
 /// its statements never return.
-#[tactic(auto, using(crate::proofs::Becoming::nest_goes_on, crate::proofs::Becoming::each_goes_on, crate::proofs::Becoming::never_returns))]
+#[tactic(auto, using(crate::proofs::Walks::Becoming::nest_goes_on, crate::proofs::Walks::Becoming::each_goes_on, crate::proofs::Walks::Becoming::never_returns))]
 pub fn nests_go_on()
     ensures statement { (p : Statement) (a f : Set) → IsNest p a f None → Apart a f → (w : World) (s : State) (z : Passed) → meaning p w s ≡ Ok z → GoneOn a f (effect p w) s z }
     ensures inside { (p : Statements) (a f : Set) (bs : List (List ℕ)) (m : Option Mark) → AreNest p a f bs m → Apart a (seen f bs) → Distinct f bs → (w : World) (s t : State) (v : Option Value) → Have bs s.store → meanings p w s ≢ Ok (Returns t v) }
@@ -44,7 +44,7 @@ pub fn nests_go_on()
 
 /// Statements make nothing of a variable that they don't set. What they make of an accumulator depends on
 /// its value and on what the nest leaves as it is.
-#[tactic(auto, using(crate::proofs::Unset::unset, crate::proofs::Unset::all_unset, crate::proofs::Effects::effect_on, crate::proofs::Effects::effects_on))]
+#[tactic(auto, using(crate::proofs::Walks::Unset::unset, crate::proofs::Walks::Unset::all_unset, crate::proofs::Walks::Effects::effect_on, crate::proofs::Walks::Effects::effects_on))]
 pub fn effects_depend_on_what_is_read()
     ensures not_set { (p : Statement) (w : World) (x : List ℕ) (env : Store) (v : Variable) → sets p x ≡ false → effect p w x env v ≡ Some v }
     ensures none_set { (p : Statements) (bs : List (List ℕ)) (w : World) (x : List ℕ) (env : Store) (v : Variable) → all_set p x ≡ false → effects p bs w x env v ≡ Some v }

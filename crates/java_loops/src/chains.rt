@@ -1,6 +1,6 @@
 //! Laws of the chains that a fragment has for the variables of its loops. They do nothing.
-ghost use Rattle.java_loops.specs.ChainLaws.{FormulasAreTests, FormulasStay, BeginningsMatch, StartsSuit, AtomsFit, UpdatesFit, ColumnsFit, PartsOfLoopsFit, StatementsAreRuns, BlocksAreRuns, FlagsAreRuns, LoopsAreRuns, AccumulatorsAreRuns, AccumulatorsEndAs, TurnsEndAs, FragmentsEndAs};
-ghost use Rattle.java_loops.specs.ChainExample.{WorkedChains, WorkedRuns};
+ghost use Rattle.java_loops.specs.Walks.ChainLaws.{FormulasAreTests, FormulasStay, BeginningsMatch, StartsSuit, AtomsFit, UpdatesFit, ColumnsFit, PartsOfLoopsFit, StatementsAreRuns, BlocksAreRuns, FlagsAreRuns, LoopsAreRuns, AccumulatorsAreRuns, AccumulatorsEndAs, TurnsEndAs, FragmentsEndAs};
+ghost use Rattle.java_loops.specs.Walks.ChainExample.{WorkedChains, WorkedRuns};
 
 /// Where the store and the fragment hold the same, a condition has a truth value, and its formula holds
 /// where the condition is true, or false where the formula is that of its negation. A formula stays that

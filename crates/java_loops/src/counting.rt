@@ -12,8 +12,8 @@ ghost use Rattle.java_mean.specs.Statement.{State, GoesOn, each, meaning, meanin
 ghost use Rattle.java_mean.specs.Store.{Variable};
 ghost use Rattle.java_mean.specs.World.{World};
 ghost use Rattle.kernel_lang.specs.Given.{cut};
-ghost use Rattle.java_loops.specs.Reads.{Set, AllWithin, touches, all_touch, other_than};
-ghost use Rattle.java_loops.specs.Counting.{SameState, same_ways, CountPlaces, counting_loop, IsCounting, IsCountingText};
+ghost use Rattle.java_loops.specs.Walks.Reads.{Set, AllWithin, touches, all_touch, other_than};
+ghost use Rattle.java_loops.specs.Walks.Counting.{SameState, same_ways, CountPlaces, counting_loop, IsCounting, IsCountingText};
 
 /// Statements that pass leave each variable that they don't touch, and variables that they don't mention
 /// don't matter to them: they do the same in states that are the same in all others.

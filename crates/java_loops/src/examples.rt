@@ -4,10 +4,10 @@ ghost use Rattle.std.specs.declared.option.Option.TheVariants.{Some};
 ghost use Rattle.qbs_base.specs.declared.span.Span.{Span};
 ghost use Rattle.java_mean.specs.Types.{types_past};
 ghost use Rattle.java_mean.specs.Typing.{Frame};
-ghost use Rattle.java_loops.specs.Counting.{IsCountingText};
-ghost use Rattle.java_loops.specs.Replacing.{MayGiveWay, replacement};
-ghost use Rattle.java_loops.specs.Needed.{needed};
-ghost use Rattle.java_loops.specs.Examples.{b, i, u, xs, table, first_two, adding, starting, until_set, kept_names, set_at_once, set_before, none_visible, no_names, moving};
+ghost use Rattle.java_loops.specs.Walks.Counting.{IsCountingText};
+ghost use Rattle.java_loops.specs.Walks.Replacing.{MayGiveWay, replacement};
+ghost use Rattle.java_loops.specs.Walks.Needed.{needed};
+ghost use Rattle.java_loops.specs.Walks.Examples.{b, i, u, xs, table, first_two, adding, starting, until_set, kept_names, set_at_once, set_before, none_visible, no_names, moving};
 
 /// A loop counts through the first two rows of a list. A flag that a loop sets gives way to the flag that is
 /// set at once, while a statement before the loop is kept. For the sake of a variable that a statement in the

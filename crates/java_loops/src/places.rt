@@ -11,9 +11,9 @@ ghost use Rattle.java_mean.specs.Queries.{Reader};
 ghost use Rattle.java_mean.specs.Refines.{Hole, fill, types_at};
 ghost use Rattle.java_mean.specs.Types.{Types, types_past};
 ghost use Rattle.java_mean.specs.WellTyped.{IsWellTyped};
-ghost use Rattle.java_loops.specs.Places.{past, place_in, run_in};
-ghost use Rattle.java_loops.specs.Reads.{Set};
-ghost use Rattle.java_loops.specs.Replacing.{Ask, replacement, run_and_loop, MayGiveWay, seen_at, HaveSameTypes};
+ghost use Rattle.java_loops.specs.Walks.Places.{past, place_in, run_in};
+ghost use Rattle.java_loops.specs.Walks.Reads.{Set};
+ghost use Rattle.java_loops.specs.Walks.Replacing.{Ask, replacement, run_and_loop, MayGiveWay, seen_at, HaveSameTypes};
 
 /// A block is the place of a loop and of the statements before it from a number on, filled with these, and where
 /// others replace them it is the place filled with the others. What is visible at a place behind statements is what

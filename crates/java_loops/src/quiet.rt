@@ -5,9 +5,9 @@ ghost use Rattle.java_mean.specs.Statement.{State, Passed, meaning};
 ghost use Rattle.java_mean.specs.Types.{Types};
 ghost use Rattle.java_mean.specs.Typing.{Frame};
 ghost use Rattle.java_mean.specs.World.{World};
-ghost use Rattle.java_loops.specs.Reads.{Set};
-ghost use Rattle.java_loops.specs.Replacing.{Ask, MayGiveWay};
-ghost use Rattle.java_loops.specs.Quiet.{is_quiet, IsLoop, GoesQuietly, TextGivesWay};
+ghost use Rattle.java_loops.specs.Walks.Reads.{Set};
+ghost use Rattle.java_loops.specs.Walks.Replacing.{Ask, MayGiveWay};
+ghost use Rattle.java_loops.specs.Walks.Quiet.{is_quiet, IsLoop, GoesQuietly, TextGivesWay};
 
 /// A loop in which nothing is printed or returned passes by going on, with the same lines and no more turns. So
 /// what its text says, and that it answers what is asked where it goes on, is enough for it to give way.

@@ -15,8 +15,8 @@ ghost use Rattle.java_mean.specs.Types.{Types, types_past, IsTyped};
 ghost use Rattle.java_mean.specs.World.{World};
 ghost use Rattle.java_mean.specs.Typing.{Frame, IsWorld, TypedStatements};
 ghost use Rattle.java_mean.specs.WellTyped.{IsWellTyped};
-ghost use Rattle.java_loops.specs.Reads.{Set};
-ghost use Rattle.java_loops.specs.Replacing.{Ask, is_asked, replacement, run_and_loop, MayGiveWay, seen_at, HaveSameTypes};
+ghost use Rattle.java_loops.specs.Walks.Reads.{Set};
+ghost use Rattle.java_loops.specs.Walks.Replacing.{Ask, is_asked, replacement, run_and_loop, MayGiveWay, seen_at, HaveSameTypes};
 
 /// A run and its loop give way to the kept statements of the run and a statement for each variable that is
 /// asked for. Where what is visible before the run is kept or asked for, all that is visible after is so.

@@ -10,12 +10,12 @@ ghost use Rattle.java_mean.specs.Refines.{followed_by};
 ghost use Rattle.java_mean.specs.Statement.{State, Passed, GoesOn, in_order, is_set_type, meanings};
 ghost use Rattle.java_mean.specs.Store.{Variable};
 ghost use Rattle.java_mean.specs.World.{World};
-ghost use Rattle.java_loops.specs.Reads.{Set, Reads};
-ghost use Rattle.java_loops.specs.Runs.{are_simple, is_set_in, settings, SplitsAt, unset_in, set_held, constant, Gives, IsSilent, IsGiven, IsSorted, HasRows, kept, KeptRead, KeptPasses};
+ghost use Rattle.java_loops.specs.Walks.Reads.{Set, Reads};
+ghost use Rattle.java_loops.specs.Walks.Runs.{are_simple, is_set_in, settings, SplitsAt, unset_in, set_held, constant, Gives, IsSilent, IsGiven, IsSorted, HasRows, kept, KeptRead, KeptPasses};
 
 /// A run never prints, takes no turn, leaves no loop and returns nothing. The variables that none of its
 /// statements sets are as they were.
-#[tactic(auto, using(crate::proofs::Passing::run_silent, crate::proofs::Passing::run_unset))]
+#[tactic(auto, using(crate::proofs::Walks::Passing::run_silent, crate::proofs::Walks::Passing::run_unset))]
 pub fn runs_set_variables_alone()
     ensures silent { (w : World) (run : Statements) (s : State) (q : Passed) → are_simple run ≡ true → meanings run w s ≡ Ok q → IsSilent s q }
     ensures unset { (w : World) (run : Statements) (s t : State) (x : List ℕ) → are_simple run ≡ true → meanings run w s ≡ Ok (GoesOn t) → is_set_in run x ≡ false → at_name t.store x ≡ at_name s.store x }
@@ -41,7 +41,7 @@ pub fn fetched_rows_are_the_tables()
 
 /// The statements of a run that set a variable tell where the run splits: at any of them, with the ones before
 /// it and after it on either side. Where there is none the variable isn't set.
-#[tactic(auto, using(crate::proofs::Splits::splits, crate::proofs::Splits::none_unset))]
+#[tactic(auto, using(crate::proofs::Walks::Splits::splits, crate::proofs::Walks::Splits::none_unset))]
 pub fn runs_split_where_a_variable_is_set()
     ensures splits { (run : Statements) (x : List ℕ) (first : List Statement) (a : Statement) (last : List Statement) → settings run x ≡ first ++ a ∷ last → SplitsAt run x first a last }
     ensures none { (run : Statements) (x : List ℕ) → settings run x ≡ [] → is_set_in run x ≡ false }
@@ -49,7 +49,7 @@ pub fn runs_split_where_a_variable_is_set()
 
 /// Where a run passes, its statements on the variables of a set pass too, with the same lines and turns,
 /// and leave the same in each variable of the set, if they read variables of the set alone.
-#[tactic(auto, using(crate::proofs::KeptRuns::kept_passes))]
+#[tactic(auto, using(crate::proofs::Walks::KeptRuns::kept_passes))]
 pub fn kept_statements_leave_the_same()
     ensures { (w : World) (r : Set) (run : Statements) (s t : State) → are_simple run ≡ true → KeptRead r run → meanings run w s ≡ Ok (GoesOn t) → KeptPasses w r (kept r run) s t }
 {}

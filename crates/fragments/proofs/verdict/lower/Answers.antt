@@ -6,15 +6,16 @@ use Rattle.java_ast.specs.Reading.{program}
 use Rattle.java_types.specs.Texts.{read_by}
 use Rattle.kernel_lang.specs.Typed.{is_typed}
 use Rattle.kernel_lang.specs.Whole.{fragment_of}
-use Rattle.fragments.specs.Kernel.{setting_at}
-use Rattle.fragments.specs.KeptStatements.{with_numbers}
+use Rattle.java_loops.specs.Kernel.Kernel.{setting_at}
+use Rattle.loop_text.specs.Statements.KeptStatements.{with_numbers}
 use Rattle.fragments.specs.Locating.{IsLocatedAt, IsFoundAt}
-use Rattle.fragments.specs.Lowers.{lowering_in_code, IsLowered, IsOutside, IsMeant}
-use Rattle.fragments.specs.Placing.{fragment_once_at}
-use Rattle.fragments.specs.Setting.{Setting}
+use Rattle.fragments.specs.Lowers.{lowering_in_code, IsOutside}
+use Rattle.java_loops.specs.Meant.Lowers.{IsLowered, IsMeant}
+use Rattle.java_loops.specs.Lowering.Placing.{fragment_once_at}
+use Rattle.java_loops.specs.Kernel.Setting.{Setting}
 use Rattle.fragments.specs.Verdicts.{BreaksFirst, IsLoweredFrom}
-use Rattle.fragments.specs.declared.position.Located.{Located}
-use Rattle.fragments.proofs.KeptMeant.{lowered_is_meant}
+use Rattle.fragments.specs.declared.places.position.Located.{Located}
+use Rattle.java_loops.proofs.Kept.KeptMeant.{lowered_is_meant}
 use Rattle.fragments.proofs.SettingThere.{setting_located, loop_is_found, located_may, located_lowered, located_fits, located_breaks}
 use Rattle.fragments.proofs.verdict.lower.Goals as goal
 

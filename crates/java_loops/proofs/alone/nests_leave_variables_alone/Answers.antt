@@ -1,4 +1,4 @@
-use Rattle.java_loops.proofs.Becoming.{left_by, becomes, all_left_by, all_left_at}
+use Rattle.java_loops.proofs.Walks.Becoming.{left_by, becomes, all_left_by, all_left_at}
 use Rattle.java_loops.proofs.alone.nests_leave_variables_alone.Goals as goal
 
 pub returns-clause-statement : goal.returns-clause-statement

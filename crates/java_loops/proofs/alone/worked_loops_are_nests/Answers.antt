@@ -1,4 +1,4 @@
-use Rattle.java_loops.proofs.Worked.{early_is_nest, flagged_is_nest, greatest_is_nest}
+use Rattle.java_loops.proofs.Walks.Worked.{early_is_nest, flagged_is_nest, greatest_is_nest}
 use Rattle.java_loops.proofs.alone.worked_loops_are_nests.Goals as goal
 
 pub returns-clause-flagged : goal.returns-clause-flagged

@@ -1,7 +1,7 @@
 -- Statements, blocks, loops and accumulators.
-use Rattle.java_loops.specs.ChainLaws.{StatementsAreRuns, BlocksAreRuns}
-use Rattle.java_loops.proofs.ChainEnds.{turns_carried, accumulator_carried, accumulator_ends, turns_end, fragment_ends}
-use Rattle.java_loops.proofs.ChainRuns.{chain_carried, chains_carried}
+use Rattle.java_loops.specs.Walks.ChainLaws.{StatementsAreRuns, BlocksAreRuns}
+use Rattle.java_loops.proofs.Walks.ChainEnds.{turns_carried, accumulator_carried, accumulator_ends, turns_end, fragment_ends}
+use Rattle.java_loops.proofs.Walks.ChainRuns.{chain_carried, chains_carried}
 use Rattle.java_loops.proofs.chains.chains_are_runs.Goals as goal
 
 statements_run : StatementsAreRuns

@@ -1,6 +1,6 @@
 -- Flags after the statement that sets them.
-use Rattle.java_loops.specs.ChainLaws.{FlagsAreRuns}
-use Rattle.java_loops.proofs.ChainRuns.{settles_matches}
+use Rattle.java_loops.specs.Walks.ChainLaws.{FlagsAreRuns}
+use Rattle.java_loops.proofs.Walks.ChainRuns.{settles_matches}
 use Rattle.java_loops.proofs.chains.flags_are_runs.Goals as goal
 
 flags_run : FlagsAreRuns

@@ -1,7 +1,7 @@
 -- The beginning, and the parts of the fragment.
-use Rattle.java_loops.specs.ChainLaws.{AtomsFit, UpdatesFit}
-use Rattle.java_loops.proofs.ChainStarts.{begins, starts_suit, column_fits, atom_parts_fit, update_parts_fit}
-use Rattle.java_loops.proofs.ChainParts.{parts_fit}
+use Rattle.java_loops.specs.Walks.ChainLaws.{AtomsFit, UpdatesFit}
+use Rattle.java_loops.proofs.Walks.ChainStarts.{begins, starts_suit, column_fits, atom_parts_fit, update_parts_fit}
+use Rattle.java_loops.proofs.Walks.ChainParts.{parts_fit}
 use Rattle.java_loops.proofs.chains.fragments_begin.Goals as goal
 
 atoms_fit : AtomsFit

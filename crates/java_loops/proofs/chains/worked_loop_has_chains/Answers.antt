@@ -1,5 +1,5 @@
 -- The worked loop.
-use Rattle.java_loops.proofs.ChainExample.{worked_chains, worked_runs}
+use Rattle.java_loops.proofs.Walks.ChainExample.{worked_chains, worked_runs}
 use Rattle.java_loops.proofs.chains.worked_loop_has_chains.Goals as goal
 
 pub returns-clause-chains : goal.returns-clause-chains

@@ -1,5 +1,5 @@
 -- The walk over the list that a loop counts through.
-use Rattle.java_loops.proofs.Counted.{counting_walks, counting_follows, counts_by_text}
+use Rattle.java_loops.proofs.Walks.Counted.{counting_walks, counting_follows, counts_by_text}
 use Rattle.java_loops.proofs.counting.loops_that_count_walk.Goals as goal
 
 pub returns-clause-walks : goal.returns-clause-walks

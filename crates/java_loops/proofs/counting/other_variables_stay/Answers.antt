@@ -1,6 +1,6 @@
 -- What statements leave, and what doesn't matter to them.
-use Rattle.java_loops.proofs.Apart.{all_within_same}
-use Rattle.java_loops.proofs.Untouched.{untouched, all_untouched}
+use Rattle.java_loops.proofs.Walks.Apart.{all_within_same}
+use Rattle.java_loops.proofs.Walks.Untouched.{untouched, all_untouched}
 use Rattle.java_loops.proofs.counting.other_variables_stay.Goals as goal
 
 pub returns-clause-untouched : goal.returns-clause-untouched

@@ -1,6 +1,6 @@
 -- The examples.
 use Rattle.std.proofs.Common.{refl}
-use Rattle.java_loops.proofs.Exampled.{counts_two, flag_gives_way}
+use Rattle.java_loops.proofs.Walks.Exampled.{counts_two, flag_gives_way}
 use Rattle.java_loops.proofs.examples.examples_count_and_give_way.Goals as goal
 
 pub returns-clause-counts : goal.returns-clause-counts

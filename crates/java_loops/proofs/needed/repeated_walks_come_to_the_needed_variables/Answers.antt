@@ -1,5 +1,5 @@
 -- What walks add, and where they end.
-use Rattle.java_loops.proofs.Walks.{needed_in_closed, walk_needed, walked_covers, walked_closed}
+use Rattle.java_loops.proofs.Walks.Walks.{needed_in_closed, walk_needed, walked_covers, walked_closed}
 use Rattle.java_loops.proofs.needed.repeated_walks_come_to_the_needed_variables.Goals as goal
 
 pub returns-clause-least : goal.returns-clause-least

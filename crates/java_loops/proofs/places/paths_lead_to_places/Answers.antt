@@ -1,5 +1,5 @@
 -- A place, filled.
-use Rattle.java_loops.proofs.Placed.{replaced_fills, whole_fills, types_behind}
+use Rattle.java_loops.proofs.Walks.Placed.{replaced_fills, whole_fills, types_behind}
 use Rattle.java_loops.proofs.places.paths_lead_to_places.Goals as goal
 
 pub returns-clause-whole : goal.returns-clause-whole

@@ -1,5 +1,5 @@
 -- The program with the kept statements and those that ask.
-use Rattle.java_loops.proofs.Visibility.{programs_give_way}
+use Rattle.java_loops.proofs.Walks.Visibility.{programs_give_way}
 use Rattle.java_loops.proofs.replacing.programs_keep_where_loops_give_way.Goals as goal
 
 pub returns : goal.returns

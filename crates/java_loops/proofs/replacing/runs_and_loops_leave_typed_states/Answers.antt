@@ -1,5 +1,5 @@
 -- The states before and after a loop.
-use Rattle.java_loops.proofs.TypedPasses.{run_leaves_typed, loop_leaves_typed}
+use Rattle.java_loops.proofs.Walks.TypedPasses.{run_leaves_typed, loop_leaves_typed}
 use Rattle.java_loops.proofs.replacing.runs_and_loops_leave_typed_states.Goals as goal
 
 pub returns-clause-run : goal.returns-clause-run

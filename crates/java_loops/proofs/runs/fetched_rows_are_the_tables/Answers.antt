@@ -1,5 +1,5 @@
 -- The rows of a variable that is fetched.
-use Rattle.java_loops.proofs.Given.{fetched, fetched_sorted, sorted}
+use Rattle.java_loops.proofs.Walks.Given.{fetched, fetched_sorted, sorted}
 use Rattle.java_loops.proofs.runs.fetched_rows_are_the_tables.Goals as goal
 
 pub returns-clause-fetched : goal.returns-clause-fetched

@@ -1,5 +1,5 @@
 -- The value that the last statement on a variable gives it.
-use Rattle.java_loops.proofs.Given.{given, given_still, declared_constant, assigned_constant}
+use Rattle.java_loops.proofs.Walks.Given.{given, given_still, declared_constant, assigned_constant}
 use Rattle.java_loops.proofs.runs.last_statements_give_values.Goals as goal
 
 pub returns-clause-given : goal.returns-clause-given

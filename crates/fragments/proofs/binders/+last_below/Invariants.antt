@@ -1,5 +1,0 @@
-use Rattle.std.proofs.Common.{length}
-use Rattle.fragments.proofs.binders.+last_below.Given as goal
-
-abbrev pub decreases-last_below : goal.decreases-last_below
-decreases-last_below l = length l.bindings.now

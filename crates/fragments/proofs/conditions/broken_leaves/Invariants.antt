@@ -1,7 +1,0 @@
-use Rattle.std.proofs.Common.{◌≡◌, drop}
-use Rattle.fragments.specs.KernelConditions.{broken_leaves}
-use Rattle.fragments.specs.Reading.{exprs_lent, setting_in_code}
-use Rattle.fragments.proofs.conditions.broken_leaves.Given as goal
-
-abbrev pub invariant-loop-e : goal.invariant-loop-e
-invariant-loop-e l = broken_leaves (setting_in_code l.w) l.n (exprs_lent (drop l.e-index l.leaves)) ≡ broken_leaves (setting_in_code l.w) l.n (exprs_lent l.leaves)

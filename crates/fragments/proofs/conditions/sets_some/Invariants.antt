@@ -1,8 +1,0 @@
-use Rattle.std.proofs.Common.{◌≡◌, drop}
-use Rattle.java_ast.specs.Reading.{expressions, statements}
-use Rattle.fragments.specs.KernelConditions.{sets_some}
-use Rattle.fragments.specs.Names.{names_among}
-use Rattle.fragments.proofs.conditions.sets_some.Given as goal
-
-abbrev pub invariant-loop-s : goal.invariant-loop-s
-invariant-loop-s l = sets_some (names_among (expressions l.es)) (statements (drop l.s-index l.run)) ≡ sets_some (names_among (expressions l.es)) (statements l.run)

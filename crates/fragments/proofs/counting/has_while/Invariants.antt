@@ -1,9 +1,0 @@
-use Rattle.std.proofs.Common.{◌≡◌, drop, map}
-use Rattle.std.specs.List.{list_any}
-use Rattle.fragments.specs.KernelLoop.{is_while}
-use Rattle.fragments.specs.Reading.{site_of}
-use Rattle.fragments.specs.Sites.{Site}
-use Rattle.fragments.proofs.counting.has_while.Given as goal
-
-abbrev pub invariant-loop-s : goal.invariant-loop-s
-invariant-loop-s l = list_any (λ (s : Site). is_while s.statement) (map site_of (drop l.s-index l.all)) ≡ list_any (λ (s : Site). is_while s.statement) (map site_of l.all)

@@ -1,9 +1,0 @@
-use Rattle.std.specs.Prelude.{nat_le}
-use Rattle.std.specs.List.{filter}
-use Rattle.std.proofs.Common.{◌≡◌, ◌+◌, ◌≤◌, drop, map, length}
-use Rattle.fragments.specs.Reading.{test_of}
-use Rattle.fragments.specs.Sites.{Test}
-use Rattle.fragments.proofs.fitting.tests_within.Given as goal
-
-abbrev pub invariant-loop-i : goal.invariant-loop-i
-invariant-loop-i l = (l.count ≤ l.i) × (l.count + length (filter (λ (t : Test). nat_le t.level l.level) (map test_of (drop l.i l.tests))) ≡ length (filter (λ (t : Test). nat_le t.level l.level) (map test_of l.tests)))

@@ -1,0 +1,23 @@
+use Rattle.std.proofs.Common.{◌+◌, ◌-◌, ◌≤◌, length, take}
+use Rattle.java_ast.specs.Reading.{statements}
+use Rattle.fragments.specs.Listed.{IsListed}
+use Rattle.loop_text.specs.Statements.Names.{Names, mentioned_among}
+use Rattle.fragments.specs.Reading.{fragment_in_code}
+use Rattle.loop_text.specs.Statements.Seen.{names_lent}
+use Rattle.loop_text.specs.Statements.Wanted.{AreWanted, HasAll, HasFollowing}
+use Rattle.java_loops.proofs.Lists.Following.{missing}
+use Rattle.fragments.proofs.kept.keeping.put_all_following.Given as goal
+
+abbrev pub invariant-loop-i : goal.invariant-loop-i
+invariant-loop-i l =
+    record {
+      listed : IsListed l.list;
+      within : l.i ≤ length (names_lent l.list.names);
+      wanted : (further : Names) → AreWanted (fragment_in_code l.f) further (names_lent l.fn.list.names) → AreWanted (fragment_in_code l.f) further (names_lent l.list.names);
+      all : HasAll (names_lent l.list.names) (names_lent l.fn.list.names);
+      following : HasFollowing (fragment_in_code l.f) (names_lent l.list.names) (take l.i (names_lent l.list.names));
+    }
+
+-- the names that the run mentions and that are still missing, and those that weren't looked at
+abbrev pub decreases-loop-i : goal.decreases-loop-i
+decreases-loop-i l = missing (mentioned_among (statements l.f.run.now)) (names_lent l.list.names) + (length (names_lent l.list.names) - l.i)

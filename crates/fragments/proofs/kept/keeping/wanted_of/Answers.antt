@@ -1,0 +1,13 @@
+use Rattle.std.proofs.Common.{sym, subst}
+use Rattle.java_loops.specs.Lowering.Lowered.{names_read}
+use Rattle.loop_text.specs.Sites.Reading.{exprs_lent}
+use Rattle.fragments.specs.Reading.{fragment_in_code}
+use Rattle.loop_text.specs.Statements.Wanted.{AreWanted}
+use Rattle.java_loops.proofs.Kept.KeptNumbers.{first_are_wanted}
+use Rattle.fragments.proofs.kept.keeping.wanted_of.Goals as goal
+
+pub returns-clause-wanted : goal.returns-clause-wanted
+returns-clause-wanted c =
+    let f = fragment_in_code c.args.f.now in
+    let further = names_read (exprs_lent c.args.entries.now) in
+    c.in_ok-put_all_following.ensures.wanted further (subst (AreWanted f further) (sym c.in_ok-list.ensures.names) (first_are_wanted f further))

@@ -1,0 +1,9 @@
+use Rattle.std.proofs.Common.{◌≡◌, drop}
+use Rattle.java_ast.specs.Reading.{statements}
+use Rattle.fragments.specs.Listed.{IsListed}
+use Rattle.loop_text.specs.Statements.Names.{with_names, mentioned_among}
+use Rattle.loop_text.specs.Statements.Seen.{names_lent}
+use Rattle.fragments.proofs.kept.mentioned.+statements.Given as goal
+
+abbrev pub invariant-put_all_mentioned-loop-s : goal.invariant-put_all_mentioned-loop-s
+invariant-put_all_mentioned-loop-s l = IsListed l.list × (with_names (names_lent l.list.names) (mentioned_among (statements (drop l.s-index l.block))) ≡ with_names (names_lent l.fn.list.names) (mentioned_among (statements l.block)))

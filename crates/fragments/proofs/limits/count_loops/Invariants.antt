@@ -1,7 +1,0 @@
-use Rattle.std.proofs.Common.{◌≡◌, ◌+◌, ◌≤◌, drop, map}
-use Rattle.fragments.specs.KernelLists as specs
-use Rattle.fragments.specs.Reading.{site_of}
-use Rattle.fragments.proofs.limits.count_loops.Given as goal
-
-abbrev pub invariant-loop-n : goal.invariant-loop-n
-invariant-loop-n l = (l.count ≤ l.n) × (l.count + specs.count_loops (map site_of (drop l.n l.all)) ≡ specs.count_loops (map site_of l.all))

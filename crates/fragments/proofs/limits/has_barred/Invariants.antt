@@ -1,8 +1,0 @@
-use Rattle.std.proofs.Common.{◌≡◌, drop, map}
-use Rattle.fragments.specs.KernelLists.{is_barred_site}
-use Rattle.fragments.specs.Reading.{site_of, setting_in_code}
-use Rattle.fragments.specs.Sites.{any_site}
-use Rattle.fragments.proofs.limits.has_barred.Given as goal
-
-abbrev pub invariant-loop-n : goal.invariant-loop-n
-invariant-loop-n l = any_site (is_barred_site (setting_in_code l.w)) l.n (map site_of (drop l.n l.w.sites.now)) ≡ any_site (is_barred_site (setting_in_code l.w)) 0 (map site_of l.w.sites.now)

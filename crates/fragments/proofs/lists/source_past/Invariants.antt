@@ -1,9 +1,0 @@
-use Rattle.std.proofs.Common.{◌≡◌, drop, None}
-use Rattle.std.specs.Option.{option_map}
-use Rattle.java_ast.specs.Reading.{statements}
-use Rattle.fragments.specs.KernelLists.{source_past}
-use Rattle.fragments.specs.Reading.{source_in_code}
-use Rattle.fragments.proofs.lists.source_past.Given as goal
-
-abbrev pub invariant-loop-s : goal.invariant-loop-s
-invariant-loop-s l = source_past l.x (option_map source_in_code l.o) (statements (drop l.s-index l.run)) ≡ source_past l.x None (statements l.run)

@@ -1,9 +1,0 @@
-use Rattle.std.proofs.Common.{◌≡◌, ◌++◌, ℕ, drop, map}
-use Rattle.fragments.specs.Groups.{under_number}
-use Rattle.fragments.specs.Indexed.{passing}
-use Rattle.fragments.specs.KernelStatements.{updates_local}
-use Rattle.fragments.specs.Reading.{site_of}
-use Rattle.fragments.proofs.marks.flags_of.Given as goal
-
-abbrev pub invariant-loop-n : goal.invariant-loop-n
-invariant-loop-n l = (d : ℕ) → under_number l.found d ++ passing (updates_local (map site_of l.all) d) l.n (map site_of (drop l.n l.all)) ≡ passing (updates_local (map site_of l.all) d) 0 (map site_of l.all)

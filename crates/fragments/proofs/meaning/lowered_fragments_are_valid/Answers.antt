@@ -1,6 +1,0 @@
--- The lowered fragment of a loop of the kernel form is valid.
-use Rattle.fragments.proofs.LowerValid.{fragments_valid}
-use Rattle.fragments.proofs.meaning.lowered_fragments_are_valid.Goals as goal
-
-pub returns : goal.returns
-returns c = fragments_valid

@@ -1,9 +1,0 @@
-use Rattle.std.proofs.Common.{◌≡◌, drop}
-use Rattle.java_ast.specs.Reading.{statements}
-use Rattle.fragments.specs.Listed.{IsListed}
-use Rattle.fragments.specs.Names.{with_names, mentioned_among}
-use Rattle.fragments.specs.Seen.{names_lent}
-use Rattle.fragments.proofs.mentioned.+statements.Given as goal
-
-abbrev pub invariant-put_all_mentioned-loop-s : goal.invariant-put_all_mentioned-loop-s
-invariant-put_all_mentioned-loop-s l = IsListed l.list × (with_names (names_lent l.list.names) (mentioned_among (statements (drop l.s-index l.block))) ≡ with_names (names_lent l.fn.list.names) (mentioned_among (statements l.block)))

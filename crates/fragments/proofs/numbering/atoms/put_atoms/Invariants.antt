@@ -1,0 +1,12 @@
+use Rattle.std.proofs.Common.{drop, map}
+use Rattle.fragments.specs.Numbered.{leaf_in_code}
+use Rattle.java_loops.specs.Lowering.Numbering.{atoms_among}
+use Rattle.loop_text.specs.Sites.Reading.{exprs_lent}
+use Rattle.loop_text.specs.Statements.Seen.{names_lent}
+use Rattle.fragments.specs.Reading.{setting_in_code}
+use Rattle.java_loops.specs.Lowering.UpTo.{Reaches}
+use Rattle.fragments.proofs.numbering.atoms.put_atoms.Given as goal
+
+abbrev pub invariant-loop-leaf : goal.invariant-loop-leaf
+invariant-loop-leaf l =
+    Reaches 24 l.atoms (atoms_among (setting_in_code l.w) (exprs_lent l.entries) (names_lent l.known) l.atoms (map leaf_in_code (drop l.leaf-index l.leaves))) (atoms_among (setting_in_code l.w) (exprs_lent l.entries) (names_lent l.known) l.fn.atoms (map leaf_in_code l.leaves))

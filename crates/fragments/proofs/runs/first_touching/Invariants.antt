@@ -1,7 +1,0 @@
-use Rattle.std.proofs.Common.{◌≡◌, drop}
-use Rattle.java_ast.specs.Reading.{statements}
-use Rattle.fragments.specs.Setting.{first_touching}
-use Rattle.fragments.proofs.runs.first_touching.Given as goal
-
-abbrev pub invariant-loop-s : goal.invariant-loop-s
-invariant-loop-s l = first_touching l.x (statements (drop l.s-index l.run)) ≡ first_touching l.x (statements l.run)

@@ -1,9 +1,0 @@
-use Rattle.std.proofs.Common.{◌≡◌, drop, map}
-use Rattle.java_ast.specs.Reading.{statements}
-use Rattle.fragments.specs.KernelStarts.{broken_starts_of}
-use Rattle.fragments.specs.Reading.{site_of}
-use Rattle.fragments.specs.Seen.{names_lent}
-use Rattle.fragments.proofs.starts.broken_starts_of.Given as goal
-
-abbrev pub invariant-loop-i : goal.invariant-loop-i
-invariant-loop-i l = broken_starts_of (map site_of l.all) l.at (names_lent l.left) (statements (drop l.i l.run)) ≡ broken_starts_of (map site_of l.all) l.at (names_lent l.accs) (statements l.run)

@@ -1,0 +1,14 @@
+pub mod FormAtoms
+pub mod FormBest
+pub mod FormConditions
+pub mod FormExcepted
+pub mod FormMentions
+pub mod FormOperands
+pub mod FormPlain
+pub mod FormRules
+pub mod FormSight
+pub mod FormSites
+pub mod FormSpelled
+pub mod FormTables
+pub mod FormTyping
+pub mod ReadLeaves

@@ -1,0 +1,10 @@
+pub mod KeptAlone
+pub mod KeptAsks
+pub mod KeptMeant
+pub mod KeptNumbers
+pub mod KeptPath
+pub mod KeptRuns
+pub mod Least
+pub mod Longest
+pub mod Moved
+pub mod NeededOnce

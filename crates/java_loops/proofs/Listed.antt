@@ -1,0 +1,5 @@
+pub mod Listed
+pub mod ListedRows
+pub mod ListedSeen
+pub mod ListedSites
+pub mod ListedWalk

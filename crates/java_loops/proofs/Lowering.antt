@@ -1,0 +1,11 @@
+pub mod LowerChains
+pub mod LowerForms
+pub mod LowerKeeps
+pub mod LowerNumbers
+pub mod LowerSets
+pub mod LowerStarts
+pub mod LowerTurns
+pub mod LowerUpdated
+pub mod LowerValid
+pub mod LoweredAccumulators
+pub mod LoweredGuards

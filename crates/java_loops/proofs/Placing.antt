@@ -1,0 +1,6 @@
+pub mod PathsLead
+pub mod Place
+pub mod PlaceLoop
+pub mod PlaceRuns
+pub mod PlaceTyped
+pub mod PlaceTypes

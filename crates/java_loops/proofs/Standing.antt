@@ -1,0 +1,5 @@
+pub mod Standing
+pub mod StandingKnown
+pub mod StandingRules
+pub mod StandingSites
+pub mod StandingWithin

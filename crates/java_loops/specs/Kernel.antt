@@ -1,0 +1,10 @@
+pub mod Kernel
+pub mod KernelConditions
+pub mod KernelForms
+pub mod KernelLists
+pub mod KernelLoop
+pub mod KernelStarts
+pub mod KernelStatements
+pub mod Setting
+pub mod Worked
+pub mod WorkedKernel

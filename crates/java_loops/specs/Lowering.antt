@@ -1,0 +1,5 @@
+pub mod Lowered
+pub mod Numbering
+pub mod Placing
+pub mod Seen
+pub mod UpTo

@@ -1,0 +1,13 @@
+pub mod BoundBelow
+pub mod BoundFound
+pub mod ChainFlagSites
+pub mod GroupedNames
+pub mod GroupedNumbers
+pub mod IndexedBest
+pub mod IndexedBreaks
+pub mod IndexedFirst
+pub mod IndexedFlags
+pub mod IndexedRepeats
+pub mod IndexedSites
+pub mod IndexedUnder
+pub mod Sited

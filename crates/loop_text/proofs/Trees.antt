@@ -1,0 +1,11 @@
+pub mod Blocks
+pub mod Claimed
+pub mod Kept
+pub mod Locations
+pub mod Mentions
+pub mod Nodes
+pub mod Rounds
+pub mod SameNames
+pub mod Started
+pub mod Touched
+pub mod Walked

@@ -1,0 +1,10 @@
+use Rattle.std.specs.List.{list_any}
+use Rattle.std.proofs.Common.{◌≡◌, ℕ, drop, map, nat_eq}
+use Rattle.loop_text.specs.Sites.Groups.{under_number}
+use Rattle.loop_text.specs.Sites.Indexed.{last_where}
+use Rattle.loop_text.specs.Sites.Reading.{test_of}
+use Rattle.loop_text.specs.Sites.Sites.{Test}
+use Rattle.loop_text.proofs.sites.marks.push_tests.Given as goal
+
+abbrev pub invariant-loop-t : goal.invariant-loop-t
+invariant-loop-t l = (i : ℕ) → last_where (list_any (λ (t : Test). nat_eq i t.number) (map test_of (drop l.t-index l.tests))) l.n (under_number l.found i) ≡ last_where (list_any (λ (t : Test). nat_eq i t.number) (map test_of l.tests)) l.n (under_number l.fn.found i)

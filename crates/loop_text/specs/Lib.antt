@@ -1,0 +1,3 @@
+pub mod Kernel
+pub mod Sites
+pub mod Statements
