@@ -4,7 +4,7 @@ ghost use Rattle.tor_terms.specs.Plain.{tree_of};
 ghost use Rattle.tor_axioms.specs.Accepts as spec;
 ghost use Rattle.tor_axioms.specs.Decide.{literal, with_fact as with_fact_of, with_facts as with_facts_of};
 ghost use Rattle.tor_axioms.specs.Paths.{run as run_of};
-ghost use Rattle.deriv_check.specs.Soundness.{IsValid};
+ghost use Rattle.tor_axioms.specs.Validity.{IsValid, IsValidAnywhere};
 
 use qbs_base::NoMemory;
 use std::alloc::Global;
@@ -114,8 +114,8 @@ fn accepted_with(
     }
 }
 
-/// Whether the derivation shows that both terms of the condition have one value in each environment
-/// that is valid for them and has the facts.
+/// Whether the derivation shows that both terms of the condition have one value in each world that is
+/// valid for them and has the facts, so in each such environment that both fit.
 ///
 /// It does where the facts contradict each other, where its steps apply one after the other and
 /// lead from both terms to identical ones, and where both branches of a split on an atom of the
@@ -123,6 +123,7 @@ fn accepted_with(
 pub fn accepts(alloc: Global, vc: &Vc, d: &Derivation) -> Result<bool, NoMemory>
     ensures exact { IfOk result (λ answer. answer ≡ spec.accepts (spec.claim_of vc.now) (spec.proof_of d.now)) }
     ensures sound { IfOk result (λ answer. IsTrue answer → spec.IsSound (spec.claim_of vc.now)) }
+    ensures anywhere { IfOk result (λ answer. IsTrue answer → IsValidAnywhere (spec.claim_of vc.now)) }
     ensures valid { IfOk result (λ answer. IsTrue answer → IsValid (spec.claim_of vc.now)) }
 {
     check(alloc, vc, d)

@@ -16,6 +16,3 @@ pub use bundle::{Bundle, BundleEntry};
 pub use fault::BundleFault;
 pub use parse::{parse_bundle, parse_derivation};
 pub use print::{print_bundle, print_derivation};
-
-#[cfg(test)]
-mod tests;

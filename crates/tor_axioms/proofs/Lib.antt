@@ -7,4 +7,5 @@ pub mod Tuples
 pub mod Places
 pub mod Sound
 pub mod Kept
+pub mod Accepted
 pub mod Lower

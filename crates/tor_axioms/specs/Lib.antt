@@ -5,4 +5,5 @@ pub mod Paths
 pub mod Keeps
 pub mod Weight
 pub mod Accepts
+pub mod Validity
 pub mod Worked

@@ -15,7 +15,7 @@ pub struct Vc {
 pub type Vcs = Items<Vc>;
 
 /// A rule, by its number, and the place at which it is applied.
-#[derive(Clone, Debug, Drop)]
+#[derive(Clone, Drop)]
 pub struct Step {
     pub rule: u32,
     pub path: TermPath,

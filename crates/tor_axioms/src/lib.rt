@@ -19,6 +19,3 @@ pub use derivation::{Derivation, Derivations, Step, Steps, Vc, Vcs};
 pub use facts::{Facts, Known, Literal, Literals, WithAnswer};
 pub use judged::{decide, decide_formula};
 pub use paths::apply;
-
-#[cfg(test)]
-mod tests;

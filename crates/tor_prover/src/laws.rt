@@ -1,9 +1,9 @@
 //! Laws of normal forms and derivations, for the crates above. They do nothing.
-ghost use Rattle.std.specs.Prelude.{◌≡◌, ◌||◌, ℕ, List, true, None};
+ghost use Rattle.std.specs.Prelude.{◌≡◌, ◌||◌, ℕ, List, true, None, Some};
 ghost use Rattle.tor_terms.specs.declared.term.Atom.{Atom as PlainAtom};
 ghost use Rattle.tor_terms.specs.Plain.{Form, Tree, One as PlainOne, Sel as PlainSel};
 ghost use Rattle.tor_axioms.specs.declared.facts.Literal.{Literal as PlainLiteral};
-ghost use Rattle.tor_axioms.specs.Accepts.{Claim};
+ghost use Rattle.tor_axioms.specs.Accepts.{Proof, Claim, accepts};
 ghost use Rattle.tor_axioms.specs.Rules.{some_no, all_yes};
 ghost use Rattle.tor_prover.specs.Derive.{derivation_of};
 ghost use Rattle.tor_prover.specs.Ends.{EndsNormal};
@@ -26,6 +26,11 @@ pub fn no_rule_applies_to_normal_forms()
 /// are decided to be true.
 pub fn open_selections_meet_an_atom()
     ensures { (atoms : List PlainAtom) (facts : List PlainLiteral) (fs : List Form) (loops : List ℕ) → met atoms facts (PlainSel fs (PlainOne loops)) ≡ None → (some_no atoms facts fs || all_yes atoms facts fs) ≡ true }
+{}
+
+/// What is derived for a condition is accepted, of plain conditions too.
+pub fn derivations_are_accepted()
+    ensures { (c : Claim) (d : Proof) → derivation_of c ≡ Some d → accepts c d ≡ true }
 {}
 
 /// A derivation has at most ten splits inside one another, on atoms of the condition; the rules of its

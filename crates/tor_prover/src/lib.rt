@@ -10,6 +10,3 @@ mod outcome;
 mod parts;
 
 pub use derivation::derive;
-
-#[cfg(test)]
-mod tests;

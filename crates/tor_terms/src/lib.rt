@@ -21,6 +21,3 @@ pub use env::{Env, FlagTable, FlagTables};
 pub use eval_terms::eval;
 pub use same::{same_operand, same_term};
 pub use term::{Atom, Atoms, Elem, Formula, Formulas, Index, Loops, Operand, Term, TermPath, Way};
-
-#[cfg(test)]
-mod tests;

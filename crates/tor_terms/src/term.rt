@@ -8,7 +8,7 @@ pub type Loops = Items<u32>;
 pub type TermPath = Items<u32>;
 
 /// An operand of a test: a column of a loop's row, an entry value by its number, or a literal.
-#[derive(Clone, Debug, Drop)]
+#[derive(Clone, Drop)]
 pub enum Operand {
     Field(u32, u32),
     Entry(u32),
@@ -16,7 +16,7 @@ pub enum Operand {
 }
 
 /// A test of a tuple.
-#[derive(Clone, Debug, Drop)]
+#[derive(Clone, Drop)]
 pub enum Atom {
     Less(Operand, Operand),
     Same(Operand, Operand),

@@ -8,6 +8,7 @@ use Rattle.tor_terms.specs.Plain.{Form}
 use Rattle.tor_terms.specs.Truth.{World, form_within}
 use Rattle.tor_terms.specs.Worlds.{world_of}
 use Rattle.tor_axioms.specs.Accepts.{Claim}
+use Rattle.tor_axioms.specs.Validity.{IsValid, IsValidAnywhere}
 use Rattle.kernel_lang.specs.declared.parts.Entry.{Entry}
 use Rattle.kernel_lang.specs.Fitting.{ColumnFits, UpdateFits, element_places}
 use Rattle.kernel_lang.specs.Given.{world_given}
@@ -19,7 +20,7 @@ use Rattle.kernel_lang.specs.Sentences.{AccumulatorIsValid, IsValid as FragmentI
 use Rattle.kernel_lang.specs.Validity.{broken, element_of}
 use Rattle.kernel_lang.proofs.Sentences.{valid}
 use Rattle.vc_gen.specs.Conditions.{own_conditions, all_conditions, conditions}
-use Rattle.vc_gen.specs.Soundness.{IsValid, AllValid, EndsAsClaimed, IsValidAnywhere, AllValidAnywhere, EndsAnywhere}
+use Rattle.vc_gen.specs.Soundness.{AllValid, EndsAsClaimed, AllValidAnywhere, EndsAnywhere}
 use Rattle.vc_gen.proofs.AllOf.{all_left, all_right}
 use Rattle.vc_gen.proofs.Fit.{cut_chain, cut_loops, cut_reads, layers_chain, loops_layers}
 use Rattle.vc_gen.proofs.Fitted.{fitting-ends}

@@ -27,7 +27,7 @@ use Rattle.kernel_lang.specs.Running.{outside, inside, with_row, placed}
 use Rattle.kernel_lang.specs.Sentences.{AccumulatorIsValid}
 use Rattle.kernel_lang.specs.Validity.{start_is_valid}
 use Rattle.vc_gen.specs.Conditions.{facts_of, own_conditions}
-use Rattle.vc_gen.specs.Soundness.{IsValid}
+use Rattle.tor_axioms.specs.Validity.{IsValid}
 use Rattle.vc_gen.proofs.AllOf.{all_left}
 use Rattle.vc_gen.proofs.Alike.{at}
 use Rattle.vc_gen.proofs.Fit.{lt_from, cut_chain, cut_loops, cut_reads}

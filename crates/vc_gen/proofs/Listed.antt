@@ -9,7 +9,7 @@ use Rattle.qbs_base.specs.declared.scalar.Kind.{Kind}
 use Rattle.qbs_base.specs.declared.scalar.Kind.TheVariants.{Plain, Table}
 use Rattle.qbs_base.specs.declared.scalar.Row.{Row}
 use Rattle.qbs_base.specs.declared.scalar.Scalar.{Scalar}
-use Rattle.qbs_base.specs.Scalar.{scalar_same, same_cells}
+use Rattle.qbs_base.specs.Scalar.{same_cells}
 use Rattle.qbs_base.specs.Sort.{choices}
 use Rattle.tor_terms.specs.declared.env.FlagTable.{FlagTable}
 use Rattle.tor_terms.specs.declared.term.Atom.{Atom}
@@ -20,7 +20,6 @@ use Rattle.tor_terms.specs.Truth.{Datum, Element, World, rows_at, all_hold, has_
 use Rattle.tor_terms.specs.Value.{only_number, only_truth, elem_at, same_kind, same_row, walked, joined, inserted, first_ones, added, total, either, best, picked, not_empty, value}
 use Rattle.tor_terms.specs.Worlds.{same_rows, listed_truth, flag_truth}
 use Rattle.tor_terms.proofs.Identical.{both}
-use Rattle.tor_terms.proofs.Scalars.{scalar_same-true, scalar_same-self}
 use Rattle.tor_axioms.proofs.Decided.{and_left, and_right}
 use Rattle.kernel_lang.specs.declared.parts.Update.{Update}
 use Rattle.kernel_lang.specs.declared.parts.Update.TheVariants.{Push, PushNew, Tick, Plus, Best, Mark}
@@ -29,6 +28,7 @@ use Rattle.kernel_lang.specs.Pools.{Member}
 use Rattle.kernel_lang.specs.Postcondition.{loops_of, nest_walks, body, start_term, whole, flag_by_choice, with_choices}
 use Rattle.kernel_lang.specs.Running.{Layer, outside, inside, placed, passes, started}
 use Rattle.kernel_lang.specs.Validity.{is_mark, is_flag, flags_are_flags, guard_all}
+use Rattle.kernel_lang.proofs.EndSets.{same_cells-true, same_cells-self}
 use Rattle.vc_gen.proofs.Alike.{at, AtomAgrees, FlagsAgree, form_same}
 use Rattle.vc_gen.proofs.AllOf.{some_eq}
 use Rattle.vc_gen.proofs.Fit.{and_three}
@@ -50,15 +50,6 @@ same_kind-true _ _ h = absurd cc
 same_kind-self : (k : Kind) → same_kind k k ≡ true
 same_kind-self Plain = refl
 same_kind-self (Table m) = eq-eqb m m refl
-
-same_cells-true : (xs ys : List Scalar) → same_cells xs ys ≡ true → xs ≡ ys
-same_cells-true [] [] h = refl
-same_cells-true (x ∷ xs) (y ∷ ys) h = both (λ a b. a ∷ b) (scalar_same x y) (same_cells xs ys) h (scalar_same-true x y) (same_cells-true xs ys)
-same_cells-true _ _ h = absurd cc
-
-same_cells-self : (xs : List Scalar) → same_cells xs xs ≡ true
-same_cells-self [] = refl
-same_cells-self (x ∷ xs) = ap₂ (λ a b. a && b) (scalar_same-self x) (same_cells-self xs)
 
 abbrev row : Kind → List Scalar → Row
 row k xs = record { kind = k; cells = xs }

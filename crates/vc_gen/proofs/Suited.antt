@@ -10,7 +10,7 @@ use Rattle.qbs_base.specs.declared.scalar.Row.{Row}
 use Rattle.qbs_base.specs.declared.scalar.Scalar.{Scalar}
 use Rattle.qbs_base.specs.declared.scalar.Ty.{Ty}
 use Rattle.qbs_base.specs.declared.scalar.Ty.TheVariants as tys
-use Rattle.qbs_base.specs.Sort.{put_in, stable_sort}
+use Rattle.qbs_base.specs.Sort.{stable_sort}
 use Rattle.qbs_base.specs.Values.{Database}
 use Rattle.tor_terms.specs.declared.env.Env.{Env}
 use Rattle.tor_terms.specs.declared.env.FlagTable.{FlagTable}
@@ -26,15 +26,16 @@ use Rattle.kernel_lang.specs.declared.parts.ListDef.{ListDef}
 use Rattle.kernel_lang.specs.declared.parts.Update.{Update}
 use Rattle.kernel_lang.specs.declared.parts.Update.TheVariants.{Push, PushNew, Tick, Plus, Best, Mark}
 use Rattle.kernel_lang.specs.Fitting.{key_places, atom_places, element_places, is_of, table_at, ColumnFits, UpdateFits, PartsFit}
-use Rattle.kernel_lang.specs.Given.{rows_of, before, cut, listed, list_at, world_given}
+use Rattle.kernel_lang.specs.Given.{rows_of, before, listed, list_at, world_given}
 use Rattle.kernel_lang.specs.Plain.{Accumulator, Fragment}
 use Rattle.kernel_lang.specs.Pools.{chosen}
 use Rattle.kernel_lang.specs.Sentences.{AccumulatorIsValid}
 use Rattle.kernel_lang.specs.Validity.{all_formulas, formula_is_there, loops_are_there, element_is_there, accumulator_is_there, chain_is_valid, rises, rises_after, guards_within, element_of, element_within, reads_its_chain, start_is_valid, takes_a_column, starts_rightly, loops_are_few, suits_the_lists}
+use Rattle.kernel_lang.proofs.Runs.{all_sorted, all_cut}
 use Rattle.vc_gen.proofs.Scope.{IsNew}
 use Rattle.vc_gen.proofs.Fit.{and_three, and_four, lt_from}
 use Rattle.vc_gen.proofs.Sorted.{Differ, ElementFits, NumbersFit, CountsOne, lists_in, Suits}
-use Rattle.vc_gen.proofs.AllOf.{all_right, all_from, all_take, tests_all, all_flat}
+use Rattle.vc_gen.proofs.AllOf.{all_right, all_from, tests_all, all_flat}
 
 -- ---- the environment, with tables of flags
 
@@ -62,22 +63,6 @@ pub same_given : (f : Fragment) (db : Database) (entry : Entry) (tables : List F
 same_given f db entry tables = ap (λ (lists : ℕ → List Row). record (world_over lists entry) { flags = λ k. flag_truth (slice_get tables k) }) (fun_ext (λ j. list_there db f.lists j))
 
 -- ---- rows of lists are rows of tables
-
-all_put : {X : Type 0} (P : X → Type 0) (lt : X → X → Bool) (x : X) (xs : List X) → P x → AllByRecursion P xs → AllByRecursion P (put_in lt x xs)
-all_put P lt x [] p h = (p, tt)
-all_put P lt x (y ∷ ys) p h = go (lt y x) (all_put P lt x ys p h.1)
-  where
-    go : (b : Bool) → AllByRecursion P (put_in lt x ys) → AllByRecursion P (cond b (y ∷ put_in lt x ys) (x ∷ y ∷ ys))
-    go true g = (h.0, g)
-    go false g = (p, h)
-
-all_sorted : {X : Type 0} (P : X → Type 0) (lt : X → X → Bool) (xs : List X) → AllByRecursion P xs → AllByRecursion P (stable_sort lt xs)
-all_sorted P lt [] h = tt
-all_sorted P lt (x ∷ xs) h = all_put P lt x (stable_sort lt xs) h.0 (all_sorted P lt xs h.1)
-
-all_cut : (P : Row → Type 0) (o : Option ℕ) (rows : List Row) → AllByRecursion P rows → AllByRecursion P (cut o rows)
-all_cut P None rows h = h
-all_cut P (Some n) rows h = all_take P n rows h
 
 all_listed : (P : Row → Type 0) (db : Database) (defs : List ListDef) (j : ℕ) → AllByRecursion P (table_at db (slice_get defs j)) → AllByRecursion P (lists_in (map (listed db) defs) j)
 all_listed P db [] j h = tt

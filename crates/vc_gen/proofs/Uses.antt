@@ -18,7 +18,7 @@ use Rattle.kernel_lang.specs.Paths.{Path}
 use Rattle.kernel_lang.specs.Postcondition.{body, val, effect, start_term}
 use Rattle.kernel_lang.specs.Running.{with_row}
 use Rattle.vc_gen.specs.Conditions.{claim, facts_of}
-use Rattle.vc_gen.specs.Soundness.{IsValidAnywhere}
+use Rattle.tor_axioms.specs.Validity.{IsValidAnywhere}
 use Rattle.vc_gen.proofs.Alike.{at}
 
 abbrev pub AllCurrent : World → List ℕ → Type 0

@@ -2,6 +2,7 @@
 ghost use Rattle.std.specs.Prelude.{◌≡◌, ℕ, List, [], ◌∷◌, None};
 ghost use Rattle.tor_axioms.specs.Accepts.{Proof, Claim};
 ghost use Rattle.kernel_lang.specs.Plain.{Fragment};
+ghost use Rattle.kernel_lang.specs.Refuted.{IsRefuted};
 ghost use Rattle.kernel_lang.specs.Validity.{broken};
 ghost use Rattle.kernel_lang.specs.Worked.{class_A, class_B, class_C, class_D, class_E, name_set};
 ghost use Rattle.vc_gen.specs.Conditions.{conditions};
@@ -33,4 +34,11 @@ pub fn derived_conditions_are_valid()
 pub fn valid_conditions_give_postconditions()
     ensures fitting { (f : Fragment) (c : List ℕ) → broken f ≡ None → AllValid (conditions f c) → EndsAsClaimed f c }
     ensures anywhere { (f : Fragment) (c : List ℕ) → broken f ≡ None → AllValidAnywhere (conditions f c) → EndsAnywhere f c }
+{}
+
+/// The conditions of a candidate that some database refutes don't all have accepted derivations; so
+/// those of the worked candidate that chooses nothing don't.
+pub fn refuted_candidates_are_not_derived()
+    ensures all { (f : Fragment) (c : List ℕ) (ds : List Proof) → broken f ≡ None → IsRefuted f c → AllAccepted (conditions f c) ds → ⊥ }
+    ensures worked { (ds : List Proof) → AllAccepted (conditions class_A []) ds → ⊥ }
 {}

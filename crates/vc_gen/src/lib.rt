@@ -10,6 +10,3 @@ mod paths;
 mod terms;
 
 pub use all::conditions;
-
-#[cfg(test)]
-mod tests;
