@@ -9,4 +9,3 @@ pub mod Starting
 pub mod Lists
 pub mod Numbers
 pub mod Marked
-pub mod Summed

@@ -2,4 +2,3 @@ pub mod Stops
 pub mod Reading
 pub mod Marking
 pub mod Ends
-pub mod Sums

@@ -5,7 +5,7 @@ use qbs_base::{NoMemory, Values};
 
 /// What a fragment ends with: one value for each accumulator with base 0, in their order, or that a
 /// running count or sum leaves 64 bits.
-#[derive(Debug, Drop)]
+#[derive(Drop)]
 pub enum FragmentEnd {
     Store(Values),
     Overflow,

@@ -16,6 +16,3 @@ mod truth;
 
 pub use end::FragmentEnd;
 pub use fragment::run_fragment;
-
-#[cfg(test)]
-mod tests;

@@ -6,3 +6,7 @@ pub mod Sized
 pub mod Sentences
 pub mod Refused
 pub mod Entering
+pub mod Refuting
+pub mod Runs
+pub mod EndLongs
+pub mod EndSets

@@ -9,6 +9,8 @@ pub mod Running
 pub mod Fitting
 pub mod Pools
 pub mod Postcondition
+pub mod Refuted
+pub mod Ends
 pub mod Typed
 pub mod Worked
 pub mod Broken

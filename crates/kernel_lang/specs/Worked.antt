@@ -60,6 +60,10 @@ staff =
     ∷ (codes "Role", role 1 (codes "admin") ∷ role 2 (codes "staff") ∷ role 2 (codes "crew") ∷ [])
     ∷ []
 
+-- one user, whose role is 1
+abbrev pub bob_alone : Database
+bob_alone = (codes "User", bob ∷ []) ∷ []
+
 -- users with these ages
 abbrev pub aged : List ℤ → Database
 aged ages = (codes "User", map user_aged ages) ∷ []

@@ -3,9 +3,11 @@
 #![tactic(auto)]
 
 mod fragment;
+pub mod laws;
 mod parts;
 mod pool;
 mod pooled;
+mod prune;
 mod sentence;
 mod valid;
 pub mod worked;
@@ -14,4 +16,6 @@ pub use fragment::KFragment;
 pub use parts::{Acc, Accs, Candidate, Col, Cols, Entry, Guards, ListDef, ListDefs, Parts, Update};
 pub use pool::pool_of;
 pub use pooled::pool_size;
+pub use prune::PruneAnswer;
 pub use sentence::Sentence;
+pub use valid::sizes::count_conditions;

@@ -12,7 +12,7 @@ pub struct Col {
 pub type Cols = Items<Col>;
 
 /// The list of a loop: the rows of a table, sorted stably by the keys and cut to the limit.
-#[derive(Debug, Drop)]
+#[derive(Drop)]
 pub struct ListDef {
     pub table: u32,
     pub keys: Cols,
@@ -54,7 +54,7 @@ pub struct Acc {
 pub type Accs = Items<Acc>;
 
 /// What a fragment is given besides a database: entry values and known lists.
-#[derive(Debug, Drop)]
+#[derive(Drop)]
 pub struct Entry {
     pub values: Scalars,
     pub known: ScalarLists,

@@ -8,7 +8,7 @@ pub mod flags;
 mod limits;
 pub mod loops;
 mod names;
-mod sizes;
+pub mod sizes;
 mod starts;
 
 use crate::parts::{Acc, Parts};

@@ -5,12 +5,13 @@ ghost use Rattle.qbs_base.specs.declared.scalar.Value.TheVariants as values;
 ghost use Rattle.tor_terms.specs.Plain.{Is, Both, Either};
 ghost use Rattle.kernel_lang.specs.Pools.{combined_pool, pool_of};
 ghost use Rattle.kernel_lang.specs.Postcondition.{postconditions};
+ghost use Rattle.kernel_lang.specs.Refuted.{Refutes, IsRefuted};
 ghost use Rattle.kernel_lang.specs.Running.{fragment_end};
 ghost use Rattle.kernel_lang.specs.Broken.{WorkedAreValid, SentencesAreBroken};
 ghost use Rattle.kernel_lang.specs.Plain.{Fragment};
 ghost use Rattle.kernel_lang.specs.Sentences.{IsValid};
 ghost use Rattle.kernel_lang.specs.Validity.{broken, count_conditions};
-ghost use Rattle.kernel_lang.specs.Worked.{staff, aged, given, nothing, ann, bob, cat, ann_again, dan, long, class_A, class_B, class_C, class_D, class_E, class_F, class_H, class_J, class_V, two_conjuncts, three_loops, flag_under_a_guard, name_set, rows_done, scalar_done, texts};
+ghost use Rattle.kernel_lang.specs.Worked.{staff, bob_alone, aged, given, nothing, ann, bob, cat, ann_again, dan, long, class_A, class_B, class_C, class_D, class_E, class_F, class_H, class_J, class_V, two_conjuncts, three_loops, flag_under_a_guard, name_set, rows_done, scalar_done, texts};
 
 /// Fragments end with what their loops would.
 pub fn fragments_do_what_they_say()
@@ -48,6 +49,12 @@ pub fn postconditions_say_what_fragments_do()
     ensures guarded_flag { postconditions flag_under_a_guard (0 ∷ 2 ∷ 4 ∷ 6 ∷ []) staff nothing ≡ values.Many (texts (codes "ann" ∷ [])) ∷ [] }
     ensures opposite { postconditions class_V (0 ∷ []) staff nothing ≡ values.One (scalars.Bool false) ∷ [] }
     ensures different { postconditions name_set [] staff nothing ≡ values.Many (texts (codes "ann" ∷ codes "bob" ∷ codes "cat" ∷ codes "dan" ∷ [])) ∷ [] }
+{}
+
+/// One user of another role refutes the candidate that chooses no condition.
+pub fn a_wrong_candidate_is_refuted()
+    ensures one_user { Refutes class_A [] bob_alone nothing }
+    ensures refuted { IsRefuted class_A [] }
 {}
 
 /// Pools hold each conjunct once, followed by its opposite, and a flag's pool reads no flag.

@@ -1,3 +1,4 @@
 pub mod Lists
 pub mod Pascal
 pub mod Ranks
+pub mod Shorter

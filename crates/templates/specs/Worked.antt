@@ -1,5 +1,5 @@
 -- How many candidates the worked fragments have, and which.
-use Rattle.std.specs.Prelude.{◌≡◌, ℕ, [], ◌∷◌, Some, length, slice_get}
+use Rattle.std.specs.Prelude.{◌≡◌, ℕ, [], ◌∷◌, Some, length, slice_get, take}
 use Rattle.kernel_lang.specs.Plain.{Fragment}
 use Rattle.kernel_lang.specs.Worked.{class_A, class_C, class_E, two_conjuncts}
 use Rattle.templates.specs.Numbered.{candidates_of}
@@ -23,4 +23,5 @@ pub record Worked : Type 0 where
   pub next_of_two : slice_get (candidates_of class_E 8) 6 ≡ Some (0 ∷ 2 ∷ [])
   pub last_of_two : slice_get (candidates_of class_E 8) 10 ≡ Some (2 ∷ 3 ∷ [])
   pub first_of_three : slice_get (candidates_of class_E 8) 11 ≡ Some (0 ∷ 1 ∷ 2 ∷ [])
+  pub first_ones : take 5 (candidates_of class_E 8) ≡ candidates_of class_E 1
   pub last : slice_get (candidates_of class_E 8) 15 ≡ Some (0 ∷ 1 ∷ 2 ∷ 3 ∷ [])

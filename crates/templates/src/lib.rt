@@ -7,6 +7,3 @@ mod numbered;
 
 pub use fragments::{count, nth};
 pub use numbered::{MAX_POOL, MAX_SIZE, count_of, nth_of};
-
-#[cfg(test)]
-mod tests;

@@ -163,8 +163,10 @@ fn count_own(a: &Acc) -> u64
     count_levels(ways, last_guards(guards, a.base as usize))
 }
 
-fn count_conditions(accs: &[Acc]) -> u64
-    ensures { result ≡ min (spec.count_conditions (map accumulator accs.now)) CAP }
+/// How many conditions accumulators and flags have, counted up to one more than the 4096 that a
+/// fragment may have. It takes no memory.
+pub fn count_conditions(accs: &[Acc]) -> u64
+    ensures { result ≡ min (spec.count_conditions (map accumulator accs.now)) 4097 }
 {
     match accs.split_first() {
         None => 0,

@@ -21,5 +21,6 @@ returns c =
       next_of_two = refl;
       last_of_two = refl;
       first_of_three = refl;
+      first_ones = refl;
       last = refl;
     }
