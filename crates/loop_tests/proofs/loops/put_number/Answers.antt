@@ -1,7 +1,7 @@
 use Rattle.std.proofs.Common.{◌∙◌}
 use Rattle.java_ast.specs.Reading.{program as plain_program}
-use Rattle.worked.proofs.LoopPaths.{listed}
-use Rattle.worked.proofs.loops.put_number.Goals as goal
+use Rattle.loop_tests.proofs.LoopPaths.{listed}
+use Rattle.loop_tests.proofs.loops.put_number.Goals as goal
 
 -- src/loops.rt:83:11
 pub lower-requires-clause-loops : goal.lower-requires-clause-loops

@@ -3,7 +3,7 @@ ghost use Rattle.std.specs.Prelude.{◌≡◌};
 ghost use Rattle.java_ast.specs.Reading.{program as plain_program};
 ghost use Rattle.java_types.specs.Texts.{read_by};
 ghost use Rattle.java_mean.specs.WellTyped.{IsWellTyped};
-ghost use Rattle.fragments.specs.Loops.{loops_of};
+ghost use Rattle.loop_text.specs.Statements.Loops.{loops_of};
 
 use crate::shown::put_lowered;
 use fragments::{Lowered, Outside, loops, lower, needed};

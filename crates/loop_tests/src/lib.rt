@@ -9,10 +9,10 @@ pub mod laws;
 #[cfg(test)]
 mod loop_rows;
 #[cfg(test)]
-mod loop_tests;
-#[cfg(test)]
 mod loops;
 #[cfg(test)]
 mod shown;
+#[cfg(test)]
+mod tests;
 #[cfg(test)]
 mod update_rows;

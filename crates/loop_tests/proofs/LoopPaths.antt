@@ -4,8 +4,8 @@ use Rattle.std.specs.List.{list_any}
 use Rattle.std.proofs.lemmas.Bool.{eq-eqb, or_left, or_right}
 use Rattle.java_ast.specs.Tree.{PlainProgram}
 use Rattle.tor_terms.specs.Same.{same_numbers}
-use Rattle.fragments.specs.Loops.{loops_of}
-use Rattle.fragments.specs.Walking.{IsLoopOf}
+use Rattle.loop_text.specs.Statements.Loops.{loops_of}
+use Rattle.loop_text.specs.Statements.Walking.{IsLoopOf}
 
 numbers_self : (js : List ℕ) → same_numbers js js ≡ true
 numbers_self [] = refl

@@ -1,0 +1,63 @@
+// What is derived for conditions of a small loop.
+use crate::turns::{added_row, added_top, condition};
+use qbs_base::NoMemory;
+use std::alloc::Global;
+use std::test::Fail;
+use tor_axioms::{Derivation, Step, Vc};
+use tor_prover::derive;
+use tor_terms::{Atom, Index, Operand};
+
+// The condition of a turn in which the loop adds its row, where column 4 is true.
+fn turn(alloc: Global, known: &[bool]) -> Result<Box<Vc>, NoMemory> {
+    let left = added_top(alloc, Index::Next(0))?;
+    let right = added_row(alloc)?;
+    condition(alloc, Atom::Truth(Operand::Field(0, 4)), known, left, right)
+}
+
+fn has_rules(steps: &[Step], rules: &[u32]) -> bool {
+    steps.len() == rules.len()
+        && steps
+            .iter()
+            .zip(rules)
+            .all(|(step, rule)| step.rule == *rule)
+}
+
+fn name_of(derivation: &Derivation) -> &'static str {
+    match derivation {
+        Derivation::Steps { left, right } => {
+            if has_rules(left.as_slice(), &[2, 15, 17, 21, 22, 4])
+                && has_rules(right.as_slice(), &[4])
+            {
+                "the steps of the turn"
+            } else {
+                "other steps"
+            }
+        }
+        Derivation::Split { .. } => "a split",
+        Derivation::Absurd => "absurd",
+    }
+}
+
+fn derived(alloc: Global, known: &[bool]) -> Result<&'static str, NoMemory> {
+    let vc = turn(alloc, known)?;
+    match derive(alloc, &vc)? {
+        Some(derivation) => Ok(name_of(&derivation)),
+        None => Ok("none"),
+    }
+}
+
+fn shown(alloc: Global, known: &[bool]) -> &'static str {
+    match derived(alloc, known) {
+        Ok(name) => name,
+        Err(NoMemory) => "no memory",
+    }
+}
+
+#[test]
+fn a_turn_is_derived_by_what_is_known_of_its_test(rt: HostRuntime) -> Result<(), Fail> {
+    assert_eq!(rt; shown(rt.alloc(), &[true]), "the steps of the turn");
+    assert_eq!(rt; shown(rt.alloc(), &[true, false]), "absurd");
+    assert_eq!(rt; shown(rt.alloc(), &[false]), "none");
+    assert_eq!(rt; shown(rt.alloc(), &[]), "none");
+    Ok(())
+}

@@ -1,0 +1,22 @@
+//! Tests of terms, their rules and derivations, and of fragments, over public
+//! calls alone.
+#![tactic(auto)]
+
+#[cfg(test)]
+mod bundles;
+#[cfg(test)]
+mod candidates;
+#[cfg(test)]
+mod conditions;
+#[cfg(test)]
+mod derivations;
+#[cfg(test)]
+mod fragments_run;
+#[cfg(test)]
+mod made;
+#[cfg(test)]
+mod rules;
+#[cfg(test)]
+mod terms;
+#[cfg(test)]
+mod turns;

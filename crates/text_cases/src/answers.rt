@@ -1,0 +1,98 @@
+// Queries over a table of one column, and their answers.
+ghost use Rattle.sql_ast.specs.Reading.{query};
+ghost use Rattle.sql_exec.specs.Answered.{IsAnswerable};
+
+use crate::places::text_of;
+use qbs_base::{Cells, Db, Fail, Kind, NoMemory, Row, Scalar, Scalars, Text};
+use schema::parse_schema;
+use sql_ast::Query;
+use sql_exec::{Answer, answer};
+use sql_parse::parse_query;
+use std::alloc::Global;
+
+fn row(alloc: Global, number: i64) -> Result<Row, NoMemory> {
+    let mut cells = Cells::new(alloc);
+    cells.push(Scalar::Long(number))?;
+    Ok(Row {
+        kind: Kind::Table(0),
+        cells,
+    })
+}
+
+fn number_of(alloc: Global, digits: &[u8]) -> Result<i64, NoMemory> {
+    let text = text_of(alloc, digits)?;
+    match text.as_str().parse::<i64>() {
+        Ok(number) => Ok(number),
+        Err(_) => Ok(0),
+    }
+}
+
+// One table of one column.
+fn numbered(alloc: Global, numbers: &[Vec<u8>]) -> Result<Db, NoMemory> {
+    let mut db = Db::new(alloc);
+    db.add_table(Text::from_string(String::new(alloc)))?;
+    for digits in numbers {
+        let number = number_of(alloc, digits)?;
+        if db.rows(0).is_some() {
+            db.put_row(0, row(alloc, number)?)?;
+        }
+    }
+    Ok(db)
+}
+
+fn put_cell(out: &mut String, cell: &Scalar) -> Result<(), NoMemory> {
+    match cell {
+        Scalar::Long(number) => Ok(write!(out, "{number}")?),
+        _ => Ok(out.push_str("no number")?),
+    }
+}
+
+fn put_rows(out: &mut String, rows: &[Row]) -> Result<(), NoMemory> {
+    out.push_str("rows")?;
+    for row in rows {
+        for cell in row.cells.as_slice() {
+            out.push_str(" ")?;
+            put_cell(out, cell)?;
+        }
+    }
+    Ok(())
+}
+
+fn put_found(out: &mut String, found: &Answer) -> Result<(), NoMemory> {
+    match found {
+        Answer::Rows(rows) => put_rows(out, rows.as_slice()),
+        Answer::One(cell) => put_cell(out, cell),
+        Answer::SumTooLarge => Ok(out.push_str("sum too large")?),
+    }
+}
+
+fn put_of_query(
+    out: &mut String,
+    alloc: Global,
+    q: &Query,
+    numbers: &[Vec<u8>],
+) -> Result<(), NoMemory>
+    requires { IsAnswerable (query q.now) }
+{
+    let db = numbered(alloc, numbers)?;
+    let found = answer(alloc, q, &db, &Scalars::new(alloc))?;
+    put_found(out, &found)
+}
+
+/// Appends the answer of the query in the first field over a table of the numbers in the others.
+#[tactic(auto, using(crate::proofs::Answerable::answerable))]
+pub fn put_answer(out: &mut String, alloc: Global, fields: &[Vec<u8>]) -> Result<(), NoMemory> {
+    let Some((text, numbers)) = fields.split_first() else {
+        return Ok(());
+    };
+    let Ok(schema) = parse_schema(alloc, b"CREATE TABLE T (number BIGINT);") else {
+        return Err(NoMemory);
+    };
+    let text = text_of(alloc, text)?;
+    let _size = text.as_str().len();
+    match parse_query(alloc, &schema, &text) {
+        Ok(q) => put_of_query(out, alloc, &q, numbers),
+        Err(Fail::Fault(_)) => Ok(out.push_str("no query")?),
+        Err(Fail::NoMemory) => Err(NoMemory),
+    }
+}

@@ -1,0 +1,16 @@
+// Words of command lines.
+use crate::places::text_of;
+use qbs_base::{NoMemory, Words};
+use std::alloc::Global;
+use words::read_words;
+
+/// Appends whether words are plain.
+pub fn put_command(out: &mut String, alloc: Global, fields: &[Vec<u8>]) -> Result<(), NoMemory> {
+    let mut words = Words::new(alloc);
+    for word in fields {
+        words.push(text_of(alloc, word.as_slice())?)?;
+    }
+    let is_plain = read_words(alloc, &words)?.is_some();
+    out.push_str(if is_plain { "plain" } else { "not plain" })?;
+    Ok(())
+}

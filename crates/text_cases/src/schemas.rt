@@ -1,0 +1,106 @@
+// Texts of schemas and of tables.
+use crate::escapes::put_line;
+use crate::places::{field, put_span};
+use qbs_base::{Column, Fail, NoMemory, Scalar, Table, Ty};
+use schema::{Schema, load_table, parse_schema};
+use std::alloc::{AllocError, Global};
+
+fn put_column(out: &mut String, column: &Column) -> Result<(), AllocError> {
+    out.push_str(column.name.as_str())?;
+    out.push_str(match column.ty {
+        Ty::Long => " Long",
+        Ty::Bool => " Bool",
+        Ty::Text => " Text",
+    })
+}
+
+fn put_table(out: &mut String, table: &Table) -> Result<(), AllocError> {
+    let mut gap = "";
+    out.push_str(table.name.as_str())?;
+    out.push_str("(")?;
+    for column in table.columns.as_slice() {
+        out.push_str(gap)?;
+        put_column(out, column)?;
+        gap = ", ";
+    }
+    out.push_str(")")
+}
+
+fn put_tables(out: &mut String, tables: &[Table]) -> Result<(), AllocError> {
+    let mut gap = "";
+    for table in tables {
+        out.push_str(gap)?;
+        put_table(out, table)?;
+        gap = " ";
+    }
+    Ok(())
+}
+
+fn put_schema(out: &mut String, alloc: Global, text: &[u8]) -> Result<(), NoMemory> {
+    match parse_schema(alloc, text) {
+        Ok(schema) => Ok(put_tables(out, schema.tables())?),
+        Err(Fail::Fault(fault)) => {
+            let rule = fault.rule;
+            write!(out, "{rule:?} ")?;
+            Ok(put_span(out, &fault.at)?)
+        }
+        Err(Fail::NoMemory) => Err(NoMemory),
+    }
+}
+
+fn put_cell(out: &mut String, cell: &Scalar) -> Result<(), AllocError> {
+    match cell {
+        Scalar::Long(number) => write!(out, "{number}"),
+        Scalar::Bool(truth) => write!(out, "{truth}"),
+        Scalar::Text(text) => put_line(out, text.as_str()),
+    }
+}
+
+fn put_row(out: &mut String, cells: &[Scalar]) -> Result<(), AllocError> {
+    let mut gap = "";
+    out.push_str("(")?;
+    for cell in cells {
+        out.push_str(gap)?;
+        put_cell(out, cell)?;
+        gap = ", ";
+    }
+    out.push_str(")")
+}
+
+// The rows of the first table of a schema.
+fn put_rows(out: &mut String, alloc: Global, schema: &Schema, text: &[u8]) -> Result<(), NoMemory> {
+    if schema.tables().is_empty() {
+        return Ok(());
+    }
+    match load_table(alloc, schema, 0, text) {
+        Ok(rows) => {
+            for row in rows.as_slice() {
+                put_row(out, row.cells.as_slice())?;
+            }
+            Ok(())
+        }
+        Err(Fail::Fault(fault)) => {
+            let rule = fault.rule;
+            let row = fault.row;
+            Ok(write!(out, "{rule:?} at row {row}")?)
+        }
+        Err(Fail::NoMemory) => Err(NoMemory),
+    }
+}
+
+/// Appends the tables of a schema or the rows of a table, or the fault of their text.
+pub fn put_answer(
+    out: &mut String,
+    alloc: Global,
+    kind: &str,
+    fields: &[Vec<u8>],
+) -> Result<(), NoMemory> {
+    let text = field(fields, 0);
+    if kind == "schema" {
+        return put_schema(out, alloc, text);
+    }
+    match parse_schema(alloc, b"CREATE TABLE T (n BIGINT, b BOOLEAN, s TEXT);") {
+        Ok(schema) => put_rows(out, alloc, &schema, text),
+        Err(_) => Err(NoMemory),
+    }
+}
