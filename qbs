@@ -1,24 +1,28 @@
 #!/usr/bin/env bash
-# Runs qbs in the caller's folder with the words as given, and ends with its status. The program is
-# built first if it isn't built for this source; only a proved program is built.
+# Runs qbs in the caller's folder with the words as given, and ends with its status; ./qbs build proves and builds it.
+#
+# What runs is the first of these that there is: the proved program of this very source that was built here; the one in
+# release/, where it was built from this very source; an unproved build of this source, made in a minute for this one
+# run, with a line on standard error that says so.
 set -eu
 top=$(cd "$(dirname "$(readlink -f "${BASH_SOURCE[0]}")")" && pwd)
-sum=$(cd "$top" && { cat crates.txt HANDLES; find crates -path '*/out' -prune -o -type f \( -path '*/src/*' -o -path '*/specs/*' -o -path '*/proofs/*' \) -print0 | LC_ALL=C sort -z | xargs -0 sha256sum; } | sha256sum | cut -c1-32)
-program="$top/out/qbs-$sum"
-if [ ! -x "$program" ]; then
-    echo "qbs: building: every crate is proved before it is built, which takes some minutes the first time" >&2
-    mkdir -p "$top/out"
-    log=$(mktemp)
-    trap 'rm -f "$log"' EXIT
-    built="$top/crates/qbs_program/out/qbs_program"
-    rm -f "$built"
-    (cd "$top/crates/qbs_program" && rt run < /dev/null) > "$log" 2>&1 || true
-    if [ ! -x "$built" ]; then
-        tail -n 40 "$log" >&2
-        echo "qbs: it could not be built" >&2
-        exit 70
-    fi
-    cp "$built" "$program.new"
-    mv "$program.new" "$program"
+sum=$("$top/tools/sum")
+# The file in which this toolchain's program of this source is kept.
+built_here() { echo "$top/out/qbs-$(printf '%s\n%s\n' "$sum" "$(rt version 2>/dev/null)" | sha256sum | cut -c1-32)"; }
+
+if [ "$#" = 1 ] && [ "$1" = build ]; then
+    exec "$top/tools/build" "$(built_here)"
 fi
-exec "$program" "$@"
+# (rt takes a while to say its version, so it is asked only where something was built)
+if compgen -G "$top/out/qbs-*" >/dev/null && built=$(built_here) && [ -x "$built" ]; then
+    exec "$built" "$@"
+fi
+if [ -x "$top/release/qbs" ] && [ "$(sed -n 's/^sources: //p' "$top/release/SUM" 2>/dev/null)" = "$sum" ]; then
+    exec "$top/release/qbs" "$@"
+fi
+if ! command -v rt >/dev/null; then
+    echo "qbs: this source has no program yet, and rt, which builds it, is not on the path" >&2
+    exit 70
+fi
+echo "qbs: an unproved build of this source answers, in a minute; ./qbs build proves it and keeps the program" >&2
+exec "$top/tools/try" "$@"
