@@ -6,7 +6,7 @@ ghost use Rattle.tor_axioms.specs.Rules as spec;
 use crate::make::{make_cat, make_insert, make_proj, make_uniq};
 use qbs_base::NoMemory;
 use std::alloc::Global;
-use tor_terms::{Term, copy_term};
+use tor_terms::{Term, copy_boxed_term};
 
 /// `Proj(e, Nil)` is `Nil`.
 pub fn proj_nil(t: &Term) -> Option<Term>
@@ -22,14 +22,14 @@ pub fn proj_nil(t: &Term) -> Option<Term>
 }
 
 /// `Proj(e, Cat(r, s))` is `Cat(Proj(e, r), Proj(e, s))`.
-pub fn proj_cat(alloc: Global, t: &Term) -> Result<Option<Term>, NoMemory>
-    ensures { IfOk result (λ o. option_map tree_of o ≡ spec.proj_cat (tree_of t.now)) }
+pub fn proj_cat(alloc: Global, t: &Term) -> Result<Option<Box<Term>>, NoMemory>
+    ensures { IfOk result (λ o. option_map (λ u. tree_of u.value) o ≡ spec.proj_cat (tree_of t.now)) }
 {
     match t {
         Term::Proj(e, child) => match &**child {
             Term::Cat(r, s) => {
-                let left = make_proj(alloc, *e, copy_term(alloc, r)?)?;
-                let right = make_proj(alloc, *e, copy_term(alloc, s)?)?;
+                let left = make_proj(alloc, *e, copy_boxed_term(alloc, r)?)?;
+                let right = make_proj(alloc, *e, copy_boxed_term(alloc, s)?)?;
                 Ok(Some(make_cat(alloc, left, right)?))
             }
             _ => Ok(None),
@@ -65,14 +65,14 @@ pub fn uniq_nil(t: &Term) -> Option<Term>
 }
 
 /// `Uniq(Cat(r, Unit(e)))` is `Insert(Uniq(r), e)`.
-pub fn uniq_cat(alloc: Global, t: &Term) -> Result<Option<Term>, NoMemory>
-    ensures { IfOk result (λ o. option_map tree_of o ≡ spec.uniq_cat (tree_of t.now)) }
+pub fn uniq_cat(alloc: Global, t: &Term) -> Result<Option<Box<Term>>, NoMemory>
+    ensures { IfOk result (λ o. option_map (λ u. tree_of u.value) o ≡ spec.uniq_cat (tree_of t.now)) }
 {
     match t {
         Term::Uniq(child) => match &**child {
             Term::Cat(r, last) => match &**last {
                 Term::Unit(e) => {
-                    let first = make_uniq(alloc, copy_term(alloc, r)?)?;
+                    let first = make_uniq(alloc, copy_boxed_term(alloc, r)?)?;
                     Ok(Some(make_insert(alloc, first, *e)?))
                 }
                 _ => Ok(None),

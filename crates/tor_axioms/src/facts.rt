@@ -6,7 +6,7 @@ use std::marker::Model;
 use tor_terms::Atoms;
 
 /// What facts say of an atom.
-#[derive(Clone, Copy, Debug, PartialEq, Eq)]
+#[derive(Clone, Copy, PartialEq, Eq)]
 pub enum Known {
     Yes,
     No,
@@ -14,7 +14,7 @@ pub enum Known {
 }
 
 /// An atom, by its number, that holds or doesn't.
-#[derive(Clone, Copy, Debug, PartialEq, Eq)]
+#[derive(Clone, Copy, PartialEq, Eq)]
 pub struct Literal {
     pub atom: u32,
     pub holds: bool,

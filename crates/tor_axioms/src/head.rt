@@ -21,6 +21,15 @@ use qbs_base::NoMemory;
 use std::alloc::Global;
 use tor_terms::{Atom, Term};
 
+fn in_box(alloc: Global, o: Option<Term>) -> Result<Option<Box<Term>>, NoMemory>
+    ensures { IfOk result (λ p. option_map (λ u. tree_of u.value) p ≡ option_map tree_of o) }
+{
+    match o {
+        Some(t) => Ok(Some(Box::new(alloc, t)?)),
+        None => Ok(None),
+    }
+}
+
 /// The rule of a number, at the head of a term.
 pub fn at_head(
     alloc: Global,
@@ -28,53 +37,53 @@ pub fn at_head(
     t: &Term,
     atoms: &[Atom],
     facts: &[Literal],
-) -> Result<Option<Term>, NoMemory>
-    ensures { IfOk result (λ o. option_map tree_of o ≡ spec.at_head atoms.now facts.now rule (tree_of t.now)) }
+) -> Result<Option<Box<Term>>, NoMemory>
+    ensures { IfOk result (λ o. option_map (λ u. tree_of u.value) o ≡ spec.at_head atoms.now facts.now rule (tree_of t.now)) }
 {
     match rule {
-        1 => Ok(top_zero(t)),
+        1 => in_box(alloc, top_zero(t)),
         2 => top_next(alloc, t),
-        3 => Ok(top_len(t)),
+        3 => in_box(alloc, top_len(t)),
         4 => cat_nil_left(alloc, t),
         5 => cat_nil_right(alloc, t),
         6 => cat_cat(alloc, t),
-        7 => Ok(join_nil_left(t)),
-        8 => Ok(join_nil_right(t)),
+        7 => in_box(alloc, join_nil_left(t)),
+        8 => in_box(alloc, join_nil_right(t)),
         9 => join_cat_left(alloc, t),
         10 => join_cat_right(alloc, t),
         11 => join_ones(alloc, t),
         12 => join_one_join(alloc, t),
         13 => sel_none(alloc, t),
-        14 => Ok(sel_nil(t)),
+        14 => in_box(alloc, sel_nil(t)),
         15 => sel_cat(alloc, t),
-        16 => Ok(sel_no(t, atoms, facts)),
+        16 => in_box(alloc, sel_no(t, atoms, facts)),
         17 => sel_yes(alloc, t, atoms, facts),
-        18 => Ok(sel_join_no(t, atoms, facts)),
+        18 => in_box(alloc, sel_join_no(t, atoms, facts)),
         19 => sel_join_yes(alloc, t, atoms, facts),
-        20 => Ok(proj_nil(t)),
+        20 => in_box(alloc, proj_nil(t)),
         21 => proj_cat(alloc, t),
-        22 => Ok(proj_one(t)),
-        23 => Ok(uniq_nil(t)),
+        22 => in_box(alloc, proj_one(t)),
+        23 => in_box(alloc, uniq_nil(t)),
         24 => uniq_cat(alloc, t),
-        25 => Ok(count_nil(t)),
+        25 => in_box(alloc, count_nil(t)),
         26 => count_cat(alloc, t),
-        27 => Ok(count_one(t)),
-        28 => Ok(sum_nil(t)),
+        27 => in_box(alloc, count_one(t)),
+        28 => in_box(alloc, sum_nil(t)),
         29 => sum_cat(alloc, t),
-        30 => Ok(sum_one(t)),
+        30 => in_box(alloc, sum_one(t)),
         31 => best_nil(alloc, t),
         32 => best_cat(alloc, t),
         33 => best_one(alloc, t),
-        34 => Ok(any_nil(t)),
+        34 => in_box(alloc, any_nil(t)),
         35 => any_cat(alloc, t),
-        36 => Ok(any_one(t)),
+        36 => in_box(alloc, any_one(t)),
         37 => add_zero_left(alloc, t),
         38 => add_zero_right(alloc, t),
         39 => add_add(alloc, t),
         40 => or_false_left(alloc, t),
         41 => or_false_right(alloc, t),
-        42 => Ok(or_true_right(t)),
-        43 => Ok(or_true_left(t)),
+        42 => in_box(alloc, or_true_right(t)),
+        43 => in_box(alloc, or_true_left(t)),
         44 => or_or(alloc, t),
         _ => Ok(None),
     }

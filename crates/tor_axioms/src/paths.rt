@@ -14,7 +14,7 @@ use crate::make::{
 };
 use qbs_base::NoMemory;
 use std::alloc::Global;
-use tor_terms::{Atom, Atoms, Term, TermPath, copy_term};
+use tor_terms::{Atom, Atoms, Term, TermPath, copy_boxed_term};
 
 fn at_path(
     alloc: Global,
@@ -23,8 +23,8 @@ fn at_path(
     term: &Term,
     atoms: &[Atom],
     facts: &[Literal],
-) -> Result<Option<Term>, NoMemory>
-    ensures { IfOk result (λ o. option_map tree_of o ≡ spec.at_path (at_head_of atoms.now facts.now rule) path.now (tree_of term.now)) }
+) -> Result<Option<Box<Term>>, NoMemory>
+    ensures { IfOk result (λ o. option_map (λ u. tree_of u.value) o ≡ spec.at_path (at_head_of atoms.now facts.now rule) path.now (tree_of term.now)) }
 {
     let Some((child, rest)) = path.split_first() else {
         return at_head(alloc, rule, term, atoms, facts);
@@ -104,66 +104,66 @@ fn at_path(
         }
         Term::Cat(a, b) => match *child {
             0 => match at_path(alloc, rule, rest, a, atoms, facts)? {
-                Some(u) => Ok(Some(make_cat(alloc, u, copy_term(alloc, b)?)?)),
+                Some(u) => Ok(Some(make_cat(alloc, u, copy_boxed_term(alloc, b)?)?)),
                 None => Ok(None),
             },
             1 => match at_path(alloc, rule, rest, b, atoms, facts)? {
-                Some(u) => Ok(Some(make_cat(alloc, copy_term(alloc, a)?, u)?)),
+                Some(u) => Ok(Some(make_cat(alloc, copy_boxed_term(alloc, a)?, u)?)),
                 None => Ok(None),
             },
             _ => Ok(None),
         },
         Term::Join(a, b) => match *child {
             0 => match at_path(alloc, rule, rest, a, atoms, facts)? {
-                Some(u) => Ok(Some(make_join(alloc, u, copy_term(alloc, b)?)?)),
+                Some(u) => Ok(Some(make_join(alloc, u, copy_boxed_term(alloc, b)?)?)),
                 None => Ok(None),
             },
             1 => match at_path(alloc, rule, rest, b, atoms, facts)? {
-                Some(u) => Ok(Some(make_join(alloc, copy_term(alloc, a)?, u)?)),
+                Some(u) => Ok(Some(make_join(alloc, copy_boxed_term(alloc, a)?, u)?)),
                 None => Ok(None),
             },
             _ => Ok(None),
         },
         Term::Add(a, b) => match *child {
             0 => match at_path(alloc, rule, rest, a, atoms, facts)? {
-                Some(u) => Ok(Some(make_add(alloc, u, copy_term(alloc, b)?)?)),
+                Some(u) => Ok(Some(make_add(alloc, u, copy_boxed_term(alloc, b)?)?)),
                 None => Ok(None),
             },
             1 => match at_path(alloc, rule, rest, b, atoms, facts)? {
-                Some(u) => Ok(Some(make_add(alloc, copy_term(alloc, a)?, u)?)),
+                Some(u) => Ok(Some(make_add(alloc, copy_boxed_term(alloc, a)?, u)?)),
                 None => Ok(None),
             },
             _ => Ok(None),
         },
         Term::Or(a, b) => match *child {
             0 => match at_path(alloc, rule, rest, a, atoms, facts)? {
-                Some(u) => Ok(Some(make_or(alloc, u, copy_term(alloc, b)?)?)),
+                Some(u) => Ok(Some(make_or(alloc, u, copy_boxed_term(alloc, b)?)?)),
                 None => Ok(None),
             },
             1 => match at_path(alloc, rule, rest, b, atoms, facts)? {
-                Some(u) => Ok(Some(make_or(alloc, copy_term(alloc, a)?, u)?)),
+                Some(u) => Ok(Some(make_or(alloc, copy_boxed_term(alloc, a)?, u)?)),
                 None => Ok(None),
             },
             _ => Ok(None),
         },
         Term::Best(way, a, b) => match *child {
             0 => match at_path(alloc, rule, rest, a, atoms, facts)? {
-                Some(u) => Ok(Some(make_best(alloc, *way, u, copy_term(alloc, b)?)?)),
+                Some(u) => Ok(Some(make_best(alloc, *way, u, copy_boxed_term(alloc, b)?)?)),
                 None => Ok(None),
             },
             1 => match at_path(alloc, rule, rest, b, atoms, facts)? {
-                Some(u) => Ok(Some(make_best(alloc, *way, copy_term(alloc, a)?, u)?)),
+                Some(u) => Ok(Some(make_best(alloc, *way, copy_boxed_term(alloc, a)?, u)?)),
                 None => Ok(None),
             },
             _ => Ok(None),
         },
         Term::Pick(way, a, b) => match *child {
             0 => match at_path(alloc, rule, rest, a, atoms, facts)? {
-                Some(u) => Ok(Some(make_pick(alloc, *way, u, copy_term(alloc, b)?)?)),
+                Some(u) => Ok(Some(make_pick(alloc, *way, u, copy_boxed_term(alloc, b)?)?)),
                 None => Ok(None),
             },
             1 => match at_path(alloc, rule, rest, b, atoms, facts)? {
-                Some(u) => Ok(Some(make_pick(alloc, *way, copy_term(alloc, a)?, u)?)),
+                Some(u) => Ok(Some(make_pick(alloc, *way, copy_boxed_term(alloc, a)?, u)?)),
                 None => Ok(None),
             },
             _ => Ok(None),
@@ -183,14 +183,11 @@ fn rewritten(
 ) -> Result<Option<Term>, NoMemory>
     ensures { IfOk result (λ o. option_map tree_of o ≡ spec.applied atoms.now facts.now rule path.now (tree_of term.now)) }
 {
-    at_path(
-        alloc,
-        rule,
-        path.as_slice(),
-        term,
-        atoms.as_slice(),
-        facts.as_slice(),
-    )
+    let path = path.as_slice();
+    match at_path(alloc, rule, path, term, atoms.as_slice(), facts.as_slice())? {
+        Some(u) => Ok(Some(Box::into_inner(u))),
+        None => Ok(None),
+    }
 }
 
 /// The term that a rule gives at a path, whose numbers count the children from 0. None comes

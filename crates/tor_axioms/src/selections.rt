@@ -1,6 +1,7 @@
 // Rules on selections.
 ghost use Rattle.std.specs.Prelude.{◌≡◌, IfOk, option_map};
-ghost use Rattle.tor_terms.specs.Plain.{tree_of};
+ghost use Rattle.tor_terms.specs.Plain as plain;
+ghost use Rattle.tor_terms.specs.Plain.{forms_of, tree_of};
 ghost use Rattle.tor_axioms.specs.Rules as spec;
 
 use crate::facts::Literal;
@@ -8,16 +9,16 @@ use crate::make::{make_cat, make_join, make_one, make_sel};
 use crate::select::{all_yes, some_no, some_no_within, without_yes};
 use qbs_base::NoMemory;
 use std::alloc::Global;
-use tor_terms::{Atom, Term, copy_term};
+use tor_terms::{Atom, Formulas, Term, copy_boxed_term};
 
 /// `Sel([], r)` is `r`.
-pub fn sel_none(alloc: Global, t: &Term) -> Result<Option<Term>, NoMemory>
-    ensures { IfOk result (λ o. option_map tree_of o ≡ spec.sel_none (tree_of t.now)) }
+pub fn sel_none(alloc: Global, t: &Term) -> Result<Option<Box<Term>>, NoMemory>
+    ensures { IfOk result (λ o. option_map (λ u. tree_of u.value) o ≡ spec.sel_none (tree_of t.now)) }
 {
     match t {
         Term::Sel(fs, r) => {
             if fs.as_slice().is_empty() {
-                Ok(Some(copy_term(alloc, r)?))
+                Ok(Some(copy_boxed_term(alloc, r)?))
             } else {
                 Ok(None)
             }
@@ -40,15 +41,15 @@ pub fn sel_nil(t: &Term) -> Option<Term>
 }
 
 /// `Sel(fs, Cat(r, s))` is `Cat(Sel(fs, r), Sel(fs, s))`.
-pub fn sel_cat(alloc: Global, t: &Term) -> Result<Option<Term>, NoMemory>
-    ensures { IfOk result (λ o. option_map tree_of o ≡ spec.sel_cat (tree_of t.now)) }
+pub fn sel_cat(alloc: Global, t: &Term) -> Result<Option<Box<Term>>, NoMemory>
+    ensures { IfOk result (λ o. option_map (λ u. tree_of u.value) o ≡ spec.sel_cat (tree_of t.now)) }
 {
     match t {
         Term::Sel(fs, child) => match &**child {
             Term::Cat(r, s) => {
                 let formulas = fs.as_slice();
-                let left = make_sel(alloc, formulas, copy_term(alloc, r)?)?;
-                let right = make_sel(alloc, formulas, copy_term(alloc, s)?)?;
+                let left = make_sel(alloc, formulas, copy_boxed_term(alloc, r)?)?;
+                let right = make_sel(alloc, formulas, copy_boxed_term(alloc, s)?)?;
                 Ok(Some(make_cat(alloc, left, right)?))
             }
             _ => Ok(None),
@@ -82,8 +83,8 @@ pub fn sel_yes(
     t: &Term,
     atoms: &[Atom],
     facts: &[Literal],
-) -> Result<Option<Term>, NoMemory>
-    ensures { IfOk result (λ o. option_map tree_of o ≡ spec.sel_yes atoms.now facts.now (tree_of t.now)) }
+) -> Result<Option<Box<Term>>, NoMemory>
+    ensures { IfOk result (λ o. option_map (λ u. tree_of u.value) o ≡ spec.sel_yes atoms.now facts.now (tree_of t.now)) }
 {
     match t {
         Term::Sel(fs, r) => match &**r {
@@ -123,6 +124,15 @@ pub fn sel_join_no(t: &Term, atoms: &[Atom], facts: &[Literal]) -> Option<Term>
     }
 }
 
+// `Sel(fs, Join(One(a), r))`, with a copy of r.
+fn sel_join(alloc: Global, fs: Formulas, a: &[u32], r: &Term) -> Result<Box<Term>, NoMemory>
+    ensures { IfOk result (λ t. tree_of t.value ≡ plain.Sel (forms_of fs) (plain.Join (plain.One a.now) (tree_of r.now))) }
+{
+    let one = make_one(alloc, a, &[])?;
+    let joined = make_join(alloc, one, copy_boxed_term(alloc, r)?)?;
+    Ok(Box::new(alloc, Term::Sel(fs, joined))?)
+}
+
 /// `Sel(fs, Join(One(a), r))` loses its first formula whose loops are all in a and that is decided
 /// to be true, where there is one.
 pub fn sel_join_yes(
@@ -130,19 +140,15 @@ pub fn sel_join_yes(
     t: &Term,
     atoms: &[Atom],
     facts: &[Literal],
-) -> Result<Option<Term>, NoMemory>
-    ensures { IfOk result (λ o. option_map tree_of o ≡ spec.sel_join_yes atoms.now facts.now (tree_of t.now)) }
+) -> Result<Option<Box<Term>>, NoMemory>
+    ensures { IfOk result (λ o. option_map (λ u. tree_of u.value) o ≡ spec.sel_join_yes atoms.now facts.now (tree_of t.now)) }
 {
     match t {
         Term::Sel(fs, child) => match &**child {
             Term::Join(first, r) => match &**first {
                 Term::One(a) => {
                     match without_yes(alloc, atoms, facts, a.as_slice(), fs.as_slice())? {
-                        Some(rest) => {
-                            let one = make_one(alloc, a.as_slice(), &[])?;
-                            let joined = make_join(alloc, one, copy_term(alloc, r)?)?;
-                            Ok(Some(Term::Sel(rest, Box::new(alloc, joined)?)))
-                        }
+                        Some(rest) => Ok(Some(sel_join(alloc, rest, a.as_slice(), r)?)),
                         None => Ok(None),
                     }
                 }

@@ -16,6 +16,7 @@ use qbs_base::{Cells, Items, Kind, NoMemory, Row, Rows, Scalar, Value};
 use std::alloc::Global;
 
 // What a term is found to be.
+#[cycle(evaluate)]
 fn evaluate(alloc: Global, env: &Env, atoms: &[Atom], t: &Term) -> Result<Option<Found>, NoMemory>
     ensures { IfOk result (λ o. o ≡ spec.evaluated env.now atoms.now (tree_of t.now)) }
 {
@@ -26,43 +27,73 @@ fn evaluate(alloc: Global, env: &Env, atoms: &[Atom], t: &Term) -> Result<Option
         Term::One(loops) => one(alloc, env, loops),
         Term::Unit(e) => single(alloc, env, *e),
         Term::Cat(r, s) => {
-            let first = evaluate(alloc, env, atoms, r)?;
-            cat(first, evaluate(alloc, env, atoms, s)?)
+            let first = part(alloc, env, atoms, r)?;
+            let second = part(alloc, env, atoms, s)?;
+            cat(first, second)
         }
         Term::Join(r, s) => {
-            let first = evaluate(alloc, env, atoms, r)?;
-            join(alloc, first, evaluate(alloc, env, atoms, s)?)
+            let first = part(alloc, env, atoms, r)?;
+            let second = part(alloc, env, atoms, s)?;
+            join(alloc, &first, &second)
         }
         Term::Sel(fs, r) => {
-            let part = evaluate(alloc, env, atoms, r)?;
-            sel(alloc, env, atoms, fs.as_slice(), part)
+            let list = part(alloc, env, atoms, r)?;
+            sel(alloc, env, atoms, fs.as_slice(), &list)
         }
-        Term::Proj(e, r) => proj(alloc, env, *e, evaluate(alloc, env, atoms, r)?),
-        Term::Uniq(r) => uniq(alloc, evaluate(alloc, env, atoms, r)?),
+        Term::Proj(e, r) => {
+            let list = part(alloc, env, atoms, r)?;
+            proj(alloc, env, *e, &list)
+        }
+        Term::Uniq(r) => {
+            let list = part(alloc, env, atoms, r)?;
+            uniq(alloc, &list)
+        }
         Term::Insert(r, e) => insert(alloc, env, *e, evaluate(alloc, env, atoms, r)?),
         Term::Hold(n) => hold(env.holds.as_slice().get(*n as usize)),
         Term::Lit(x) => Ok(Some(Found::One(x.clone()?))),
         Term::Item(e) => item(env, *e),
-        Term::Count(r) => Ok(count(evaluate(alloc, env, atoms, r)?)),
-        Term::Sum(r) => Ok(sum(has_whole(r), evaluate(alloc, env, atoms, r)?)),
-        Term::Any(r) => Ok(any(evaluate(alloc, env, atoms, r)?)),
+        Term::Count(r) => {
+            let list = part(alloc, env, atoms, r)?;
+            Ok(count(&list))
+        }
+        Term::Sum(r) => {
+            let list = part(alloc, env, atoms, r)?;
+            Ok(sum(has_whole(r), &list))
+        }
+        Term::Any(r) => {
+            let list = part(alloc, env, atoms, r)?;
+            Ok(any(&list))
+        }
         Term::Best(way, v, r) => {
-            let start = evaluate(alloc, env, atoms, v)?;
-            Ok(best(*way, has_whole(r), start, evaluate(alloc, env, atoms, r)?))
+            let start = part(alloc, env, atoms, v)?;
+            let list = part(alloc, env, atoms, r)?;
+            Ok(best(*way, has_whole(r), &start, &list))
         }
         Term::Pick(way, v, n) => {
-            let first = evaluate(alloc, env, atoms, v)?;
-            Ok(pick(*way, first, evaluate(alloc, env, atoms, n)?))
+            let first = part(alloc, env, atoms, v)?;
+            let second = part(alloc, env, atoms, n)?;
+            Ok(pick(*way, &first, &second))
         }
         Term::Add(a, b) => {
-            let first = evaluate(alloc, env, atoms, a)?;
-            Ok(add(first, evaluate(alloc, env, atoms, b)?))
+            let first = part(alloc, env, atoms, a)?;
+            let second = part(alloc, env, atoms, b)?;
+            Ok(add(&first, &second))
         }
         Term::Or(a, b) => {
-            let first = evaluate(alloc, env, atoms, a)?;
-            Ok(or(first, evaluate(alloc, env, atoms, b)?))
+            let first = part(alloc, env, atoms, a)?;
+            let second = part(alloc, env, atoms, b)?;
+            Ok(or(&first, &second))
         }
     }
+}
+
+// What a part of a term is found to be, in a box.
+#[cycle(evaluate)]
+fn part(alloc: Global, env: &Env, atoms: &[Atom], t: &Term) -> Result<Box<Option<Found>>, NoMemory>
+    ensures { IfOk result (λ o. o.value ≡ spec.evaluated env.now atoms.now (tree_of t.now)) }
+{
+    let found = evaluate(alloc, env, atoms, t)?;
+    Ok(Box::new(alloc, found)?)
 }
 
 fn push_cells(all: &mut Cells, cells: &[Scalar]) -> Result<(), NoMemory>
@@ -126,7 +157,8 @@ fn shown(alloc: Global, found: Found) -> Result<Value, NoMemory>
 #[tactic(auto, using(crate::proofs::Shown::no_value, crate::proofs::Shown::some_fits, crate::proofs::Shown::none_fits))]
 pub fn eval(alloc: Global, term: &Term, atoms: &Atoms, env: &Env) -> Result<Option<Value>, NoMemory>
     ensures value { IfOk result (λ o. o ≡ fits.eval_of env.now atoms.now (tree_of term.now)) }
-    ensures none { IfOk result (λ o. is_some o ≡ (fits.sums_fit (world_of env.now) atoms.now (tree_of term.now) && is_some (fits.sort env.now atoms.now (tree_of term.now)))) }
+    ensures none { IfOk result (λ o.
+        is_some o ≡ (fits.sums_fit (world_of env.now) atoms.now (tree_of term.now) && is_some (fits.sort env.now atoms.now (tree_of term.now)))) }
 {
     match evaluate(alloc, env, atoms.as_slice(), term)? {
         Some(found) => Ok(Some(shown(alloc, found)?)),

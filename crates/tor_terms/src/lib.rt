@@ -16,7 +16,7 @@ pub mod laws;
 mod same;
 mod term;
 
-pub use copy::{copy_formula, copy_formulas, copy_term};
+pub use copy::{copy_boxed_term, copy_formula, copy_formulas, copy_term};
 pub use env::{Env, FlagTable, FlagTables};
 pub use eval_terms::eval;
 pub use same::{same_operand, same_term};
