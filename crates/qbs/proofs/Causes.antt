@@ -59,6 +59,7 @@ rewrite_no_text files o s p statuses.Turns out rep h k = absurd h
 rewrite_no_text files o s p statuses.NoMemory out rep h k = absurd h
 rewrite_no_text files o s p statuses.Limit out rep h k = h.0
 rewrite_no_text files o s p statuses.NotYet out rep h k = h.0
+rewrite_no_text files o s p statuses.Store out rep h k = absurd h
 
 sql_no_text : (files : Given) (s d q : List ℕ) (status : Status) (out rep : List ℕ) → SqlCause files s d q status out rep → KeepsOutput status → out ≡ []
 sql_no_text files s d q statuses.Ok out rep h k = absurd k
@@ -76,6 +77,7 @@ sql_no_text files s d q statuses.Turns out rep h k = absurd h
 sql_no_text files s d q statuses.NoMemory out rep h k = absurd h
 sql_no_text files s d q statuses.Limit out rep h k = h.0
 sql_no_text files s d q statuses.NotYet out rep h k = absurd h
+sql_no_text files s d q statuses.Store out rep h k = absurd h
 
 run_no_text : (files : Given) (o : Options) (s p d : List ℕ) (call : Call) (status : Status) (out rep : List ℕ) → RunCause files o s p d call status out rep → KeepsOutput status → out ≡ []
 run_no_text files o s p d call statuses.Ok out rep h k = absurd k
@@ -93,6 +95,7 @@ run_no_text files o s p d call statuses.Turns out rep h k = h.0
 run_no_text files o s p d call statuses.NoMemory out rep h k = absurd h
 run_no_text files o s p d call statuses.Limit out rep h k = h.0
 run_no_text files o s p d call statuses.NotYet out rep h k = h.0
+run_no_text files o s p d call statuses.Store out rep h k = absurd h
 
 other_no_text : (status : Status) (out rep : List ℕ) → NotBuiltCause status out rep → out ≡ []
 other_no_text statuses.NotYet out rep h = h.0
@@ -110,6 +113,7 @@ other_no_text statuses.Bundle out rep h = absurd h
 other_no_text statuses.Turns out rep h = absurd h
 other_no_text statuses.NoMemory out rep h = absurd h
 other_no_text statuses.Limit out rep h = absurd h
+other_no_text statuses.Store out rep h = absurd h
 
 words_no_text : (status : Status) (out rep : List ℕ) → WordsCause status out rep → out ≡ []
 words_no_text statuses.Words out rep h = h.0
@@ -127,6 +131,7 @@ words_no_text statuses.Turns out rep h = absurd h
 words_no_text statuses.NoMemory out rep h = absurd h
 words_no_text statuses.Limit out rep h = absurd h
 words_no_text statuses.NotYet out rep h = absurd h
+words_no_text statuses.Store out rep h = absurd h
 
 plain_no_text : (files : Given) (command : Option Command) (status : Status) (out rep : List ℕ) → PlainCause files command status out rep → KeepsOutput status → out ≡ []
 plain_no_text files None status out rep h k = words_no_text status out rep h
@@ -157,6 +162,7 @@ split files command statuses.Bundle out rep h = inr h
 split files command statuses.Turns out rep h = inr h
 split files command statuses.Limit out rep h = inr h
 split files command statuses.NotYet out rep h = inr h
+split files command statuses.Store out rep h = inr h
 
 no_text : (files : Given) (command : Option Command) (status : Status) (out rep : List ℕ) → CauseOf files command status out rep → KeepsOutput status → out ≡ []
 no_text files command status out rep h k = elim (split files command status out rep h) [ inl none ↦ none | inr plain ↦ plain_no_text files command status out rep plain k ]

@@ -71,7 +71,9 @@ fn push_rows(out: &mut String, tables: &[Text], rows: &[Row]) -> Result<(), Allo
 }
 
 fn push_list(out: &mut String, tables: &[Text], rows: &[Row]) -> Result<(), AllocError>
-    ensures { OnOk result (string_bytes out.new ≡ string_bytes out.old ++ (codes "list " ++ decimal (length rows.now) ++ codes "\n" ++ flat_map (row_line tables.now) rows.now)) }
+    ensures { OnOk result (
+        string_bytes out.new
+        ≡ string_bytes out.old ++ (codes "list " ++ decimal (length rows.now) ++ codes "\n" ++ flat_map (row_line tables.now) rows.now)) }
 {
     let mut buffer = Buffer::new();
     out.push_str("list ")?;

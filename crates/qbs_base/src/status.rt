@@ -35,6 +35,8 @@ pub enum Status {
     Limit,
     /// What is asked for isn't built yet.
     NotYet,
+    /// The store of databases that was handed in isn't one of the schema.
+    Store,
 }
 
 impl Status {
@@ -58,6 +60,7 @@ impl Status {
             Status::NoMemory => 12,
             Status::Limit => 13,
             Status::NotYet => 14,
+            Status::Store => 15,
         }
     }
 }
