@@ -1,6 +1,7 @@
 -- The names that the tokens of a schema declare are those of its tables and columns.
-use Rattle.std.proofs.Common.{◌≡◌, ℕ, Bool, true, false, ◌&&◌, cond, List, [], ◌∷◌, ◌++◌, length, Option, Some, None, map, refl, sym, ap, subst, ◌∙◌, append_assoc, inl, inr}
-use Rattle.std.specs.Prelude.{codes}
+use Rattle.std.proofs.Common.{◌≡◌, ℕ, Bool, true, false, ◌&&◌, cond, List, [], ◌∷◌, ◌++◌, length, Option, Some, None, map, refl, sym, ap, subst, ◌∙◌, append_assoc, arith, inl, inr}
+use Rattle.std.specs.Prelude.{codes, nat_lt}
+use Rattle.std.proofs.lemmas.Bool.Decides.{nat_tests}
 use Rattle.std.proofs.lemmas.List.{append-nil}
 use Rattle.readers.specs.Reading.{option_cases, first_passes}
 use Rattle.qbs_base.specs.declared.span.Span.{Span}
@@ -20,7 +21,7 @@ use Rattle.schema.specs.Words.{spells}
 use Rattle.schema.specs.Tokens.{kinds_of}
 use Rattle.schema.specs.Grammar.{HasType, long, truth, text, sized, HasMarks, unmarked, not_null, primary, HasRest, typed, HasNames, one, further, HasColumns, none, key, more, HasTable, table, HasSchema, empty, followed}
 use Rattle.schema.specs.Reading.{is_word}
-use Rattle.schema.specs.Naming.{next_where, begins_key, role_of, Declared, declares, declared}
+use Rattle.schema.specs.Naming.{next_where, begins_key, role_of, Declared, declares, declared_before}
 use Rattle.schema.proofs.Complete.{rest_starts}
 
 -- a name and what it is the name of
@@ -65,13 +66,17 @@ map_append : (xs ys : List Declared) → map plain_of (xs ++ ys) ≡ map plain_o
 map_append [] ys = refl
 map_append (x ∷ xs) ys = ap (λ (zs : List Plain). plain_of x ∷ zs) (map_append xs ys)
 
-pub declared_same : (w : Where) (ts : List Token) → map plain_of (declared w ts) ≡ names_in w (kinds_of ts)
-unfolding declared names_in
+none_left : (n : ℕ) → nat_lt n 0 ≡ false
+none_left n = grind (arith, nat_tests)
+
+pub declared_same : (w : Where) (ts : List Token) → map plain_of (declared_before 0 w ts) ≡ names_in w (kinds_of ts)
+unfolding declared_before names_in
 declared_same w [] = refl
 declared_same w (t ∷ ts) =
     let here : map plain_of (declares (role_of w t.kind ts) t.at) ≡ some_of (role_in w t.kind (kinds_of ts)) = declares_same (role_of w t.kind ts) t.at ∙ ap some_of (role_same w t.kind ts) in
-    map_append (declares (role_of w t.kind ts) t.at) (declared (next_where w t.kind) ts)
-    ∙ ap (λ (zs : List Plain). zs ++ map plain_of (declared (next_where w t.kind) ts)) here
+    ap (λ (b : Bool). map plain_of (cond b [] (declares (role_of w t.kind ts) t.at ++ declared_before 0 (next_where w t.kind) ts))) (none_left (length ts))
+    ∙ map_append (declares (role_of w t.kind ts) t.at) (declared_before 0 (next_where w t.kind) ts)
+    ∙ ap (λ (zs : List Plain). zs ++ map plain_of (declared_before 0 (next_where w t.kind) ts)) here
     ∙ ap (λ (zs : List Plain). some_of (role_in w t.kind (kinds_of ts)) ++ zs) (declared_same (next_where w t.kind) ts)
 
 -- ---- parts that declare nothing
@@ -150,5 +155,5 @@ schema_declares _ _ (followed {us} {vs} {t} {tables} p h) =
     table_declares us t vs p ∙ ap (λ (zs : List Plain). (role.Table, t.name) ∷ columns_names t.columns ++ zs) (schema_declares vs tables h)
 
 -- the names that the tokens of a schema declare
-pub names_agree : (ts : List Token) (tables : List Table) → HasSchema (kinds_of ts) tables → map plain_of (declared at.Create ts) ≡ tables_names tables
+pub names_agree : (ts : List Token) (tables : List Table) → HasSchema (kinds_of ts) tables → map plain_of (declared_before 0 at.Create ts) ≡ tables_names tables
 names_agree ts tables h = declared_same at.Create ts ∙ schema_declares (kinds_of ts) tables h

@@ -8,6 +8,7 @@ pub mod Judged
 pub mod Longs
 pub mod Loops
 pub mod Named
+pub mod OneFault
 pub mod Pieces
 pub mod Placed
 pub mod Recorded

@@ -19,7 +19,7 @@ use Rattle.schema.specs.declared.fault.SchemaFault.{SchemaFault}
 use Rattle.schema.specs.Words.{is_among, is_reserved, is_reserved_table}
 use Rattle.schema.specs.Tokens.{kinds_of}
 use Rattle.schema.specs.Grammar.{HasSchema}
-use Rattle.schema.specs.Naming.{Declared, declared, nothing_seen, seen_with, broken_by, first_broken}
+use Rattle.schema.specs.Naming.{Declared, declared_before, nothing_seen, seen_with, broken_by, first_broken}
 use Rattle.schema.specs.Rules.{AreColumns, IsSchema}
 use Rattle.schema.proofs.Agreement.{Plain, plain_of, column_name, columns_names, tables_names, names_agree}
 
@@ -198,10 +198,10 @@ columns_each (t ∷ tables) h =
     )
 
 -- where no name breaks a rule
-pub sound : (ts : List Token) (tables : List Table) → HasSchema (kinds_of ts) tables → first_broken nothing_seen (declared Create ts) ≡ None → IsSchema tables
+pub sound : (ts : List Token) (tables : List Table) → HasSchema (kinds_of ts) tables → first_broken nothing_seen (declared_before 0 Create ts) ≡ None → IsSchema tables
 unfolding IsDistinct
 sound ts tables h e =
-    let fine : Fine nothing_seen (tables_names tables) = subst (Fine nothing_seen) (names_agree ts tables h) (fine_of nothing_seen (declared Create ts) e) in
+    let fine : Fine nothing_seen (tables_names tables) = subst (Fine nothing_seen) (names_agree ts tables h) (fine_of nothing_seen (declared_before 0 Create ts) e) in
     let each = fine_tables [] [] tables fine in
     let few = each_few 64 is_reserved_table [] (map (λ t. t.name) tables) (omega arith) each.0 in
     record {
@@ -212,11 +212,11 @@ sound ts tables h e =
     }
 
 -- where the tables are as the rules ask
-pub unbroken : (ts : List Token) (tables : List Table) → HasSchema (kinds_of ts) tables → IsSchema tables → first_broken nothing_seen (declared Create ts) ≡ None
+pub unbroken : (ts : List Token) (tables : List Table) → HasSchema (kinds_of ts) tables → IsSchema tables → first_broken nothing_seen (declared_before 0 Create ts) ≡ None
 unbroken ts tables h s =
     let few = s.few in
     let each : EachTable [] tables = (
       each_of 64 is_reserved_table [] (map (λ t. t.name) tables) s.distinct (all_map (λ t. t.name) (λ n. is_reserved_table n ≡ false) tables s.free) (omega (arith, few, length-map tables (λ t. t.name))),
       columns_each tables s.columns,
     ) in
-    of_fine nothing_seen (declared Create ts) (subst (Fine nothing_seen) (sym (names_agree ts tables h)) (tables_fine [] [] tables each))
+    of_fine nothing_seen (declared_before 0 Create ts) (subst (Fine nothing_seen) (sym (names_agree ts tables h)) (tables_fine [] [] tables each))

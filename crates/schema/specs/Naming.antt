@@ -1,5 +1,5 @@
 -- The names that tokens declare, and the rules that they break.
-use Rattle.std.specs.Prelude.{ℕ, Bool, ◌&&◌, nat_le, List, [], ◌∷◌, ◌++◌, length, Option, Some, None, codes, if◌then◌else◌}
+use Rattle.std.specs.Prelude.{ℕ, Bool, ◌&&◌, nat_le, nat_lt, List, [], ◌∷◌, ◌++◌, length, Option, Some, None, codes, if◌then◌else◌}
 use Rattle.std.specs.Str.{bytes_eq}
 use Rattle.readers.specs.Reading.{option_cases, first_passes}
 use Rattle.qbs_base.specs.declared.span.Span.{Span}
@@ -53,10 +53,12 @@ abbrev pub declares : Option (Role × List ℕ) → Span → List Declared
 declares None span = []
 declares (Some (r, n)) span = record { role = r; name = n; span = span } ∷ []
 
--- the names that the tokens of the front of a schema declare, in order
-unfoldable pub declared : Where → List Token → List Declared
-declared w [] = []
-declared w (t ∷ ts) = declares (role_of w t.kind ts) t.at ++ declared (next_where w t.kind) ts
+-- The names that all but the last n of the tokens declare, in order. What a token declares depends on the tokens behind it, the
+-- last n too.
+unfoldable pub declared_before : ℕ → Where → List Token → List Declared
+declared_before n w [] = []
+declared_before n w (t ∷ ts) =
+    if nat_lt (length ts) n then [] else declares (role_of w t.kind ts) t.at ++ declared_before n (next_where w t.kind) ts
 
 -- ---- rules
 

@@ -1,5 +1,5 @@
 -- The schema of a text, or the first fault.
-use Rattle.std.specs.Prelude.{ℕ, ◌-◌, List, [], ◌∷◌, length, take, drop, Option, Some, None, Result, Ok, Err}
+use Rattle.std.specs.Prelude.{ℕ, ◌-◌, List, [], ◌∷◌, length, drop, Option, Some, None, Result, Ok, Err}
 use Rattle.readers.specs.declared.fault.Fault.{Fault}
 use Rattle.readers.specs.declared.fault.Fault.TheVariants.{Unexpected, TooDeep}
 use Rattle.qbs_base.specs.declared.span.Span.{Span}
@@ -10,19 +10,16 @@ use Rattle.schema.specs.declared.fault.SchemaRule.TheVariants.{BadToken}
 use Rattle.schema.specs.declared.fault.SchemaFault.{SchemaFault}
 use Rattle.schema.specs.Tokens.{tokens_of, kinds_of, end_of}
 use Rattle.schema.specs.Reading.{read_of}
-use Rattle.schema.specs.Naming.{declared, nothing_seen, first_broken}
+use Rattle.schema.specs.Naming.{declared_before, nothing_seen, first_broken}
 
 -- how many tokens are left from a fault on; none is too deep, since nothing is nested
 abbrev pub left_of : Fault → ℕ
 left_of (Unexpected n) = n
 left_of (TooDeep n) = n
 
--- the tokens from the last n on, and those before
+-- the last n tokens
 abbrev pub last_from : ℕ → List Token → List Token
 last_from n ts = drop (length ts - n) ts
-
-abbrev pub before : ℕ → List Token → List Token
-before n ts = take (length ts - n) ts
 
 -- the stretch of the first token, or the end
 abbrev pub first_span : Span → List Token → Span
@@ -35,9 +32,9 @@ judged None read = read
 judged (Some fault) read = Err fault
 
 abbrev pub schema_from : Span → List Token → Result (List Table) Fault → Result (List Table) SchemaFault
-schema_from end ts (Ok tables) = judged (first_broken nothing_seen (declared Create ts)) (Ok tables)
+schema_from end ts (Ok tables) = judged (first_broken nothing_seen (declared_before 0 Create ts)) (Ok tables)
 schema_from end ts (Err fault) =
-    judged (first_broken nothing_seen (declared Create (before (left_of fault) ts))) (Err (record { rule = BadToken; at = first_span end (last_from (left_of fault) ts) }))
+    judged (first_broken nothing_seen (declared_before (left_of fault) Create ts)) (Err (record { rule = BadToken; at = first_span end (last_from (left_of fault) ts) }))
 
 -- the schema that a text has, or its first fault
 unfoldable pub schema_of : List ℕ → Result (List Table) SchemaFault

@@ -111,7 +111,7 @@ fn judge(alloc: Global, tokens: &Tokens) -> Result<Tables, Fail<SchemaFault>>
     let list = tokens.list.as_slice();
     let fault = match read(alloc, list) {
         Ok(tables) => {
-            return match first_broken(alloc, list)? {
+            return match first_broken(alloc, list, 0)? {
                 Some(fault) => Err(Fail::Fault(fault)),
                 None => Ok(Tables::from_vec(tables)),
             };
@@ -119,12 +119,12 @@ fn judge(alloc: Global, tokens: &Tokens) -> Result<Tables, Fail<SchemaFault>>
         Err(ReadError::Memory) => return Err(Fail::NoMemory),
         Err(ReadError::Fault(fault)) => fault,
     };
-    let (before, rest) = list.split_at(list.len() - left(fault));
-    match first_broken(alloc, before)? {
+    let behind = left(fault);
+    match first_broken(alloc, list, behind)? {
         Some(fault) => Err(Fail::Fault(fault)),
         None => Err(Fail::Fault(SchemaFault {
             rule: SchemaRule::BadToken,
-            at: first_span(tokens.end, rest),
+            at: first_span(tokens.end, &list[list.len() - behind..]),
         })),
     }
 }

@@ -50,7 +50,7 @@ ghost use Rattle.std.specs.Prelude.{◌≡◌, ◌++◌, List, IfOk, OnOk, Some,
 ghost use Rattle.std.specs.Str.{bytes_eq};
 ghost use Rattle.readers.specs.Reading.{option_cases};
 ghost use Rattle.schema.specs.Words.{is_among};
-ghost use Rattle.schema.specs.Naming.{Declared, next_where, begins_key as begins_key_clause, role_of, declares, declared, nothing_seen, seen_with, broken_by, first_broken as first_broken_name};
+ghost use Rattle.schema.specs.Naming.{Declared, next_where, begins_key as begins_key_clause, role_of, declares, declared_before, nothing_seen, seen_with, broken_by, first_broken as first_broken_name};
 ghost use Rattle.schema.specs.declared.names.Where.TheVariants.{Create};
 
 /// Whether a name is one of these.
@@ -176,7 +176,10 @@ impl Seen {
         token: &Token,
         rest: &[Token],
     ) -> Result<Option<SchemaFault>, NoMemory>
-        ensures { IfOk result (λ fault. (names : List Declared) → first_broken_name self.old (declares (role_of place token.now.kind rest.now) token.now.at ++ names) ≡ option_cases fault (first_broken_name self.new names) (λ f. Some f)) }
+        ensures { IfOk result (λ fault.
+            (names : List Declared)
+            → first_broken_name self.old (declares (role_of place token.now.kind rest.now) token.now.at ++ names)
+            ≡ option_cases fault (first_broken_name self.new names) (λ f. Some f)) }
     {
         let Some((role, name)) = declared_by(place, token, rest) else {
             return Ok(None);
@@ -189,10 +192,14 @@ impl Seen {
     }
 }
 
-/// The fault of the first name that breaks a rule, among those that the tokens of the front of a
-/// schema declare.
-pub fn first_broken(alloc: Global, tokens: &[Token]) -> Result<Option<SchemaFault>, NoMemory>
-    ensures { IfOk result (λ fault. fault ≡ first_broken_name nothing_seen (declared Create tokens.now)) }
+/// The fault of the first name that breaks a rule, among those that all but the last so many of the
+/// tokens of a schema declare.
+pub fn first_broken(
+    alloc: Global,
+    tokens: &[Token],
+    left: usize,
+) -> Result<Option<SchemaFault>, NoMemory>
+    ensures { IfOk result (λ fault. fault ≡ first_broken_name nothing_seen (declared_before left Create tokens.now)) }
 {
     let mut seen = Seen {
         tables: Names::new(alloc),
@@ -201,6 +208,9 @@ pub fn first_broken(alloc: Global, tokens: &[Token]) -> Result<Option<SchemaFaul
     let mut place = Where::Create;
     let mut rest = tokens;
     while let Some((token, after)) = rest.split_first() {
+        if after.len() < left {
+            return Ok(None);
+        }
         let fault = seen.judge(alloc, place, token, after)?;
         if fault.is_some() {
             return Ok(fault);

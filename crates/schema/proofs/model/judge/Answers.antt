@@ -9,5 +9,5 @@ pub overflow_sub-list : goal.overflow_sub-list
 overflow_sub-list c =
     let within = read_within (kinds_of c.as_slice-list.result.now) c.in-Err-Fault.fault (rw c.in-Err-Fault.field-0-is at c.in-Err-Fault.ensures) in
     let count = length-map c.as_slice-list.result.now (λ t. t.kind) in
-    let left = c.left.ensures in
+    let left = c.left-behind.ensures in
     omega (arith, within, count, left)
