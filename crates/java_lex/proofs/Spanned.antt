@@ -58,6 +58,13 @@ stands done bs span line column start forward within =
       within = within;
     }
 
+-- so those of a stretch are those of the place before which its bytes begin
+pub line_of : (text : List ℕ) (span : Span) → StandsIn text span → span.line ≡ (place_after first_place (take span.start text)).line
+line_of text span h = h.line ∙ sym (line_after first_place (take span.start text))
+
+pub column_of : (text : List ℕ) (span : Span) → StandsIn text span → span.column ≡ (place_after first_place (take span.start text)).column
+column_of text span h = h.column ∙ sym (column_after first_place [] (take span.start text) refl)
+
 -- ---- tokens in order
 
 abbrev Spanned : List ℕ → ℕ → Result (List Token) LexFault → Type 0

@@ -1,8 +1,9 @@
 -- What the spans of a text's tokens say.
-use Rattle.std.specs.Prelude.{◌≡◌, ℕ, ◌+◌, ◌<◌, ◌≤◌, List, [], ◌∷◌, length, take, count_by, ◌==◌}
+use Rattle.std.specs.Prelude.{◌≡◌, ℕ, ◌+◌, ◌<◌, ◌≤◌, List, [], ◌∷◌, length, take, count_by, ◌==◌, slice_get, Some}
 use Rattle.std.specs.List.{suffix_len}
 use Rattle.qbs_base.specs.declared.span.Span.{Span}
 use Rattle.java_lex.specs.declared.token.Token.{Token}
+use Rattle.java_lex.specs.declared.token.Tokens.{Tokens}
 use Rattle.java_lex.specs.Bytes.{line_feed, is_in_line}
 
 -- a stretch of the text, with its line and its column, counted from 1: how many lines are before it, and how many bytes of
@@ -28,3 +29,11 @@ pub record EndsText (text : List ℕ) (span : Span) : Type 0 where
 pub record IsByteOf (text : List ℕ) (span : Span) : Type 0 where
   pub stands : StandsIn text span
   pub one : span.end ≡ span.start + 1
+
+-- two stretches begin at the same line and column
+abbrev pub SamePlace : Span → Span → Type 0
+SamePlace a b = (a.line ≡ b.line) × (a.column ≡ b.column)
+
+-- this is the token with the number n, counted from 0
+abbrev pub IsToken : Tokens → ℕ → Token → Type 0
+IsToken tokens n t = slice_get tokens.list n ≡ Some t
