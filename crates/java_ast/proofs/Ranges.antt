@@ -15,7 +15,7 @@ use Rattle.java_ast.proofs.Bodies.{if_is, if_else_is, for_each_is, while_is}
 
 -- ---- lists of statements
 
-appended : (a b : List Stmt) → statements (a ++ b) ≡ and_then (statements a) (statements b)
+pub appended : (a b : List Stmt) → statements (a ++ b) ≡ and_then (statements a) (statements b)
 appended [] b = refl
 appended (s ∷ a) b = ap (Then (statement s)) (appended a b)
 
@@ -23,12 +23,12 @@ and_then_assoc : (a b c : Statements) → and_then (and_then a b) c ≡ and_then
 and_then_assoc Nothing b c = refl
 and_then_assoc (Then s a) b c = ap (Then s) (and_then_assoc a b c)
 
-front_is : (n : ℕ) (block : List Stmt) → statements (take n block) ≡ first_of n (statements block)
+pub front_is : (n : ℕ) (block : List Stmt) → statements (take n block) ≡ first_of n (statements block)
 front_is zero block = refl
 front_is (suc n) [] = refl
 front_is (suc n) (s ∷ block) = ap (Then (statement s)) (front_is n block)
 
-back_is : (n : ℕ) (block : List Stmt) → statements (drop n block) ≡ behind_of n (statements block)
+pub back_is : (n : ℕ) (block : List Stmt) → statements (drop n block) ≡ behind_of n (statements block)
 back_is zero block = refl
 back_is (suc n) [] = refl
 back_is (suc n) (s ∷ block) = back_is n block

@@ -1,3 +1,5 @@
 pub mod Path
+pub mod Placed
 pub mod Reading
 pub mod Tree
+pub mod Unplaced

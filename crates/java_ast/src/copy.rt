@@ -86,28 +86,28 @@ pub fn copy_params(alloc: Global, params: &[Param]) -> Result<Params, NoMemory>
     Ok(all)
 }
 
-fn copy_literal(span: Span, value: &Scalar) -> Result<Expr, NoMemory>
+pub fn copy_literal(span: Span, value: &Scalar) -> Result<Expr, NoMemory>
     ensures { IfOk result (λ c. expression c ≡ plain.Lit span value.now) }
 {
     let node = ExprNode::Lit(value.clone()?);
     Ok(Expr { span, node })
 }
 
-fn copy_variable(span: Span, name: &Name) -> Result<Expr, NoMemory>
+pub fn copy_variable(span: Span, name: &Name) -> Result<Expr, NoMemory>
     ensures { IfOk result (λ c. expression c ≡ plain.Var span name.now) }
 {
     let node = ExprNode::Var(name.clone()?);
     Ok(Expr { span, node })
 }
 
-fn copy_size(span: Span, name: &Name) -> Result<Expr, NoMemory>
+pub fn copy_size(span: Span, name: &Name) -> Result<Expr, NoMemory>
     ensures { IfOk result (λ c. expression c ≡ plain.Size span name.now) }
 {
     let node = ExprNode::Size(name.clone()?);
     Ok(Expr { span, node })
 }
 
-fn copy_fetch(span: Span, table: &Name) -> Result<Expr, NoMemory>
+pub fn copy_fetch(span: Span, table: &Name) -> Result<Expr, NoMemory>
     ensures { IfOk result (λ c. expression c ≡ plain.Fetch span table.now) }
 {
     let node = ExprNode::Fetch(table.clone()?);
@@ -115,7 +115,7 @@ fn copy_fetch(span: Span, table: &Name) -> Result<Expr, NoMemory>
 }
 
 /// The column of a row, with a copy of its name.
-fn copy_field(span: Span, row: Box<Expr>, name: &Name) -> Result<Expr, NoMemory>
+pub fn copy_field(span: Span, row: Box<Expr>, name: &Name) -> Result<Expr, NoMemory>
     ensures { IfOk result (λ c. expression c ≡ plain.Field span (expression row.value) name.now) }
 {
     let name = name.clone()?;
@@ -123,7 +123,7 @@ fn copy_field(span: Span, row: Box<Expr>, name: &Name) -> Result<Expr, NoMemory>
     Ok(Expr { span, node })
 }
 
-fn copy_get(span: Span, name: &Name, place: Box<Expr>) -> Result<Expr, NoMemory>
+pub fn copy_get(span: Span, name: &Name, place: Box<Expr>) -> Result<Expr, NoMemory>
     ensures { IfOk result (λ c. expression c ≡ plain.Get span name.now (expression place.value)) }
 {
     let name = name.clone()?;
@@ -131,7 +131,7 @@ fn copy_get(span: Span, name: &Name, place: Box<Expr>) -> Result<Expr, NoMemory>
     Ok(Expr { span, node })
 }
 
-fn copy_contains(span: Span, name: &Name, member: Box<Expr>) -> Result<Expr, NoMemory>
+pub fn copy_contains(span: Span, name: &Name, member: Box<Expr>) -> Result<Expr, NoMemory>
     ensures { IfOk result (λ c. expression c ≡ plain.Contains span name.now (expression member.value)) }
 {
     let name = name.clone()?;
@@ -140,7 +140,7 @@ fn copy_contains(span: Span, name: &Name, member: Box<Expr>) -> Result<Expr, NoM
 }
 
 /// A query of these arguments, with copies of its other parts.
-fn copy_query(
+pub fn copy_query(
     alloc: Global,
     span: Span,
     element: &JTy,
@@ -154,14 +154,14 @@ fn copy_query(
     Ok(query(span, element, text, arguments))
 }
 
-fn copy_query_long(span: Span, text: &Text, arguments: Vec<Expr>) -> Result<Expr, NoMemory>
+pub fn copy_query_long(span: Span, text: &Text, arguments: Vec<Expr>) -> Result<Expr, NoMemory>
     ensures { IfOk result (λ c. expression c ≡ plain.QueryLong span text.now (expressions arguments.items)) }
 {
     let text = copy_text(text)?;
     Ok(query_long(span, text, arguments))
 }
 
-fn copy_query_boolean(span: Span, text: &Text, arguments: Vec<Expr>) -> Result<Expr, NoMemory>
+pub fn copy_query_boolean(span: Span, text: &Text, arguments: Vec<Expr>) -> Result<Expr, NoMemory>
     ensures { IfOk result (λ c. expression c ≡ plain.QueryBoolean span text.now (expressions arguments.items)) }
 {
     let text = copy_text(text)?;

@@ -159,7 +159,9 @@ fn branch_with(
     first: u64,
     others: &[Stmt],
 ) -> Result<Vec<Stmt>, NoMemory>
-    ensures { IfOk result (λ c. statements c.items ≡ (if is_there then replaced_in path.now number first (statements others.now) (statements block.now) else statements block.now)) }
+    ensures { IfOk result (λ c.
+        statements c.items
+        ≡ (if is_there then replaced_in path.now number first (statements others.now) (statements block.now) else statements block.now)) }
 {
     if is_there {
         block_with(alloc, block, number, path, first, others)
