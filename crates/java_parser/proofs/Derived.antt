@@ -19,7 +19,7 @@ use Rattle.java_parser.specs.Rules.{One, Or}
 use Rattle.java_parser.specs.Words.{is_among, other_types, is_name, is_table, is_variable, variable_in, name_in, table_in, text_in, literal_in, natural_in, by_word, word_if, is_number_type, element_type}
 use Rattle.java_parser.specs.Expressions.{limit, Limit, Negative, Variable, Creation, created, Call, EqualTo, SizeOf, GetFrom, ContainedIn, FetchFrom, QueryOf, QueryOfLong, QueryOfBoolean, query_of, call_of, left_behind, TableClass, ElementQuery, QueryStart, operator_in, ranks, longest, HasAtom, literal, grouped, creation, HasSource, no_source, source, HasCall, equal_to, size_of, get_from, contained_in, fetch_from, query_of_element, query_of_long, query_of_truth, HasArguments, no_more, one_more, HasSuffix, field, called, HasParts, atom, dotted, further, HasUnary, variable, parts, negation, HasChain, operand, joined, HasRank, unary, chain}
 use Rattle.java_parser.specs.Printed.{word, sign, integer, literal_tokens, type_tokens, operator_tokens, open_unless, close_unless, call, dot_class, creation as creation_tokens, expression_tokens, argument_tokens}
-use Rattle.java_parser.specs.Unplaced.{unplaced, unplaced_all}
+use Rattle.java_ast.specs.Unplaced.{unplaced, unplaced_all}
 use Rattle.java_parser.specs.InGrammar.{IsName, IsTable, IsVariable, IsElement, InExpression, InExpressions}
 use Rattle.java_parser.proofs.Fixed.{both_true}
 use Rattle.java_parser.proofs.Signs.{AreTokens, Parts, split, none_left, this_node, opens, one_token, Three, three, Called, called_parts, Single, single, allowed}

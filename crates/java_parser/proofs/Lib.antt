@@ -1,4 +1,5 @@
 pub mod Again
+pub mod Apart
 pub mod BlockLaws
 pub mod BodyLaws
 pub mod Chain
@@ -35,11 +36,13 @@ pub mod Signs
 pub mod SingleLaws
 pub mod Sound
 pub mod Spelling
+pub mod Starts
 pub mod Stated
 pub mod StatementLaws
 pub mod Steps
 pub mod Texts
 pub mod Turns
+pub mod TwoPlaces
 pub mod TypeLaws
 pub mod Whole
 pub mod Wholes

@@ -19,7 +19,7 @@ use Rattle.java_parser.specs.Words.{by_word, scalar_type}
 use Rattle.java_parser.specs.Statements.{Parenthesised}
 use Rattle.java_parser.specs.Grammar.{Reached, Whether, Result, Parameter, NextParameter, Parameters, Method, HasDotted, ended, starred, dotted, Dotted, Package, Class, deepest, HasProgram}
 use Rattle.java_parser.specs.Printed.{word, sign, parted, type_tokens, braced_tokens, statements_tokens, access_tokens, word_tokens_if, result_tokens, param_tokens, method_tokens, part_tokens, parts_tokens, package_tokens, import_tokens, tokens_of}
-use Rattle.java_parser.specs.Unplaced.{unplaced_method, unplaced_methods, unplaced_program}
+use Rattle.java_ast.specs.Unplaced.{unplaced_method, unplaced_methods, unplaced_program}
 use Rattle.java_parser.specs.InGrammar.{IsName, IsScalarType, InResult, InParams, InMethod, InMethods, AreNames, AreNamesOrStar, InDotted, InPackage, InImports, IsInGrammar}
 use Rattle.java_parser.specs.ReadBack.{SameProgram, IsReadBack}
 use Rattle.java_parser.specs.Written.{parts_of, is_star, IsWritten}

@@ -16,7 +16,7 @@ use Rattle.java_parser.specs.Types.{Spelling, Key}
 use Rattle.java_parser.specs.Expressions.{HasRank, ranks, HasExpression}
 use Rattle.java_parser.specs.Statements.{Parenthesised, Condition, Value, Addition, Printing, Further, is_turned, keys_in, downs_in, Keys, Sorting, MemberCall, NamedRest, Plain, Declaration, Walk, ForHead, HasStatement, plain as plainly, if_alone, if_else, for_each, while, block, HasBlock, braces, HasStatements, none, declared, stated}
 use Rattle.java_parser.specs.Printed.{word, sign, call, type_tokens, expression_tokens, reversed_tokens, key_tokens, keys_tokens, braced_tokens, returned_tokens, walked_tokens, tested_tokens, print_head, statement_tokens, statements_tokens}
-use Rattle.java_parser.specs.Unplaced.{unplaced, unplaced_statement, unplaced_block}
+use Rattle.java_ast.specs.Unplaced.{unplaced, unplaced_statement, unplaced_block}
 use Rattle.java_parser.specs.InGrammar.{IsName, IsTable, IsType, IsElement, InExpression, IsSome, AreKeys, InReturn, InStatement, InStatements}
 use Rattle.java_parser.proofs.Signs.{AreTokens, Parts, split, none_left, this_node, opens, one_token, Three, three}
 use Rattle.java_parser.proofs.Derived.{Found, expression_has, name_has, IsNoType, table_no_type, ElementWord, element_word, not_among, regroup}

@@ -7,6 +7,7 @@ pub mod InGrammar
 pub mod Kept
 pub mod Marks
 pub mod Parsed
+pub mod Placing
 pub mod Printed
 pub mod ReadBack
 pub mod Reading
@@ -19,6 +20,5 @@ pub mod Rules
 pub mod Statements
 pub mod Tails
 pub mod Types
-pub mod Unplaced
 pub mod Words
 pub mod Written

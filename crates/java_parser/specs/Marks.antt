@@ -2,6 +2,7 @@
 use Rattle.std.specs.Prelude.{◌≡◌, ◌<◌, ◌-◌, ℕ, List, length, slice_get, map, Bool, true, false, Option, Some}
 use Rattle.qbs_base.specs.declared.span.Span.{Span}
 use Rattle.java_lex.specs.declared.token.Token.{Token}
+pub use Rattle.java_ast.specs.Unplaced.{nowhere}
 
 -- Where only the grammar is asked for, the limits hold at no token.
 pub record Tok : Type 0 where
@@ -29,9 +30,6 @@ abbrev pub Allows : ℕ → Tok → Type 0
 Allows room t = t.strict ≡ true → 0 < room
 
 -- ---- places
-
-abbrev pub nowhere : Span
-nowhere = record { line = 0; column = 0; start = 0; end = 0 }
 
 -- from the start of the one to the end of the other
 abbrev pub bounds : Option Token → Option Token → Span

@@ -5,7 +5,7 @@ use Rattle.java_lex.specs.declared.token.Token.{Token}
 use Rattle.java_lex.specs.declared.token.Tokens.{Tokens}
 use Rattle.java_lex.specs.Lexing.{lexed as lexed_as}
 use Rattle.java_parser.specs.Grammar.{IsProgram}
-use Rattle.java_parser.specs.Unplaced.{unplaced_program}
+use Rattle.java_ast.specs.Unplaced.{unplaced_program}
 
 -- the tokens have a program that is this one, but for places
 pub record SameProgram (ts : List Token) (p : PlainProgram) : Type 0 where

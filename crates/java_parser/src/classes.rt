@@ -94,7 +94,8 @@ fn parameters_behind(
     first: Param,
     tokens: &[Token],
 ) -> Result<(Vec<Param>, &[Token]), ReadError>
-    ensures { Gives (λ x. (map param_of x.0.items, all_strict x.1.now)) result (made (λ xs. param_of first ∷ xs) (many_at is_no_comma next_parameter_at) (all_strict tokens.now)) }
+    ensures { Gives (λ x. (map param_of x.0.items, all_strict x.1.now)) result (
+        made (λ xs. param_of first ∷ xs) (many_at is_no_comma next_parameter_at) (all_strict tokens.now)) }
 {
     let mut params = Vec::new(alloc);
     params.push(first)?;

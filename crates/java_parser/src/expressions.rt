@@ -115,7 +115,8 @@ fn chain<'a>(
     first: Box<Expr>,
     tokens: &'a [Token],
 ) -> Result<(Box<Expr>, &'a [Token]), ReadError>
-    ensures { Gives (λ x. (expression_of x.0.value, all_strict x.1.now)) result (chain_at (is_operator rank) (operand_at rank (rank_at room rank)) left (all_strict from.now) (expression_of first.value) (all_strict tokens.now)) }
+    ensures { Gives (λ x. (expression_of x.0.value, all_strict x.1.now)) result (
+        chain_at (is_operator rank) (operand_at rank (rank_at room rank)) left (all_strict from.now) (expression_of first.value) (all_strict tokens.now)) }
 {
     if !is_next_operator(rank, tokens) {
         return Ok((first, tokens));
@@ -140,7 +141,8 @@ fn operand(
     first: Box<Expr>,
     tokens: &[Token],
 ) -> Result<(ExprNode, &[Token]), ReadError>
-    ensures { Gives (λ x. (node_expression x.0, all_strict x.1.now)) result (operand_at rank (rank_at room rank) left (expression_of first.value) (all_strict tokens.now)) }
+    ensures { Gives (λ x. (node_expression x.0, all_strict x.1.now)) result (
+        operand_at rank (rank_at room rank) left (expression_of first.value) (all_strict tokens.now)) }
 {
     let (operator, rest) = operator(left, rank, tokens)?;
     let (second, rest) = ranked(alloc, room, rank, rest)?;
@@ -231,7 +233,8 @@ fn behind_variable<'a>(
     at: Span,
     tokens: &'a [Token],
 ) -> Result<(ExprNode, Option<u32>, &'a [Token]), ReadError>
-    ensures { Gives (λ x. ((node_expression x.0, x.1), all_strict x.2.now)) result (behind_variable_at room (inside room) (variable.now, plain.Var at variable.now) (all_strict tokens.now)) }
+    ensures { Gives (λ x. ((node_expression x.0, x.1), all_strict x.2.now)) result (
+        behind_variable_at room (inside room) (variable.now, plain.Var at variable.now) (all_strict tokens.now)) }
 {
     if is_next_sign(".", tokens) {
         return dotted(alloc, room, variable, at, tokens);
@@ -249,7 +252,8 @@ fn dotted<'a>(
     at: Span,
     tokens: &'a [Token],
 ) -> Result<(ExprNode, Option<u32>, &'a [Token]), ReadError>
-    ensures { Gives (λ x. ((node_expression x.0, x.1), all_strict x.2.now)) result (dotted_at room (inside room) (variable.now, plain.Var at variable.now) (all_strict tokens.now)) }
+    ensures { Gives (λ x. ((node_expression x.0, x.1), all_strict x.2.now)) result (
+        dotted_at room (inside room) (variable.now, plain.Var at variable.now) (all_strict tokens.now)) }
 {
     let rest = sign(".", tokens)?;
     let (member, rest) = name(rest)?;
@@ -278,7 +282,8 @@ fn parts<'a>(
     first: Box<Expr>,
     tokens: &'a [Token],
 ) -> Result<(Box<Expr>, &'a [Token]), ReadError>
-    ensures { Gives (λ x. (expression_of x.0.value, all_strict x.1.now)) result (chain_at (is_this_sign (codes ".")) (part_at room (inside room)) left (all_strict from.now) (expression_of first.value) (all_strict tokens.now)) }
+    ensures { Gives (λ x. (expression_of x.0.value, all_strict x.1.now)) result (
+        chain_at (is_this_sign (codes ".")) (part_at room (inside room)) left (all_strict from.now) (expression_of first.value) (all_strict tokens.now)) }
 {
     if !is_next_sign(".", tokens) {
         return Ok((first, tokens));
@@ -322,7 +327,8 @@ fn suffix<'a>(
     left: u32,
     tokens: &'a [Token],
 ) -> Result<(ExprNode, u32, &'a [Token]), ReadError>
-    ensures { Gives (λ x. ((node_expression x.0, x.1), all_strict x.2.now)) result (suffix_at room (inside room) (option_copied bare.entry) (expression_of row.value) member.now left (all_strict tokens.now)) }
+    ensures { Gives (λ x. ((node_expression x.0, x.1), all_strict x.2.now)) result (
+        suffix_at room (inside room) (option_copied bare.entry) (expression_of row.value) member.now left (all_strict tokens.now)) }
 {
     if !is_next_sign("(", tokens) {
         let node = nodes::field(row, member)?;
@@ -347,7 +353,8 @@ fn called<'a>(
     call: Called,
     tokens: &'a [Token],
 ) -> Result<(ExprNode, &'a [Token]), ReadError>
-    ensures { Gives (λ x. (node_expression x.0, all_strict x.1.now)) result (called_at room (inside room) (name_or_none (option_copied bare.entry)) (expression_of row.value) (seen call) (all_strict tokens.now)) }
+    ensures { Gives (λ x. (node_expression x.0, all_strict x.1.now)) result (
+        called_at room (inside room) (name_or_none (option_copied bare.entry)) (expression_of row.value) (seen call) (all_strict tokens.now)) }
 {
     let rest = opening(room, "(", tokens)?;
     let name = name_or_empty(alloc, bare)?;
