@@ -11,6 +11,7 @@ pub mod Fewer
 pub mod Matters
 pub mod Members
 pub mod Numbered
+pub mod Placing
 pub mod Puts
 pub mod Reached
 pub mod Replaced

@@ -8,6 +8,7 @@ pub mod Keeps
 pub mod Mentions
 pub mod Numbers
 pub mod Outcome
+pub mod PlacedValues
 pub mod Places
 pub mod Queries
 pub mod Reaches

@@ -65,10 +65,15 @@ abbrev pub listed_in : Option JavaType → Option Single
 listed_in (Some (Listed a)) = Some a
 listed_in _ = None
 
--- a set of what a query lists, where those are scalars
+-- a set by its head, of what a query lists: where those aren't scalars its elements aren't known, which breaks no further rule
 abbrev pub set_of : Option Kindred → Option Kindred
 set_of (Some (Only (Listed (ScalarOf ty)))) = Some (Only (Distinct (ScalarOf ty)))
-set_of _ = None
+set_of _ = Some AnySet
+
+-- a list of scalars, of which a set can be made
+abbrev pub lists_scalars : Kindred → Bool
+lists_scalars (Only (Listed (ScalarOf ty))) = true
+lists_scalars _ = false
 
 -- The type of an expression, by its head: none where a variable, a table or a column isn't known, which
 -- breaks no further rule.
@@ -324,7 +329,7 @@ mismatch schema read r (value vs (Contains at x e)) = unless_passes (λ (k : Jav
 mismatch schema read r (value vs (Query at ty text es)) = arguments schema vs (params_of (read text)) es
 mismatch schema read r (value vs (QueryLong at text es)) = arguments schema vs (params_of (read text)) es
 mismatch schema read r (value vs (QueryBoolean at text es)) = arguments schema vs (params_of (read text)) es
-mismatch schema read r (value vs (NewSetOf at e)) = unless_passes (λ (k : Kindred). not (is_none (set_of (Some k)))) (type_of schema vs e) at
+mismatch schema read r (value vs (NewSetOf at e)) = unless_passes lists_scalars (type_of schema vs e) at
 mismatch schema read r (step vs w last (Declare at ty x e)) = set_of_rows ty at ++ given schema vs (type_spelled schema ty) e
 mismatch schema read r (step vs w last (Assign at x e)) = given schema vs (type_at vs x) e
 mismatch schema read r (step vs w last (Add at x e)) = unless_passes is_many (type_at vs x) at ++ unless_single (type_of schema vs e) (element_of (type_at vs x)) (at_of e)

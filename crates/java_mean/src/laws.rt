@@ -1,13 +1,17 @@
 //! Laws of what programs do, for the crates above. They do nothing.
-ghost use Rattle.std.specs.Prelude.{◌≡◌, ◌≢◌, ℕ, ℤ, ◌+◌, List, ◌∷◌, ◌++◌, Option, slice_get};
+ghost use Rattle.std.specs.Prelude.{◌≡◌, ◌≢◌, ℕ, ℤ, ◌+◌, List, ◌∷◌, ◌++◌, Option, Ok, slice_get};
 ghost use Rattle.qbs_base.specs.declared.span.Span.{Span};
 ghost use Rattle.qbs_base.specs.declared.scalar.Scalar.{Scalar};
 ghost use Rattle.qbs_base.specs.declared.scalar.Value.{Value};
 ghost use Rattle.qbs_base.specs.Values.{Schema, Database, IsDatabaseOf};
-ghost use Rattle.java_ast.specs.Tree.{PlainMethod, PlainProgram, Statements};
+ghost use Rattle.java_ast.specs.Placed.{placed, placed_all};
+ghost use Rattle.java_ast.specs.Tree.{Expression, Expressions, PlainMethod, PlainProgram, Statements};
 ghost use Rattle.sql_ast.specs.Tree.{PlainQuery};
 ghost use Rattle.java_mean.specs.Asks.{frame_of, result_type};
 ghost use Rattle.java_mean.specs.declared.ending.RunFault.{RunFault};
+ghost use Rattle.java_mean.specs.Expression.{value_of, scalars_of};
+ghost use Rattle.java_mean.specs.PlacedValues.{result_at};
+ghost use Rattle.java_mean.specs.Store.{Store};
 ghost use Rattle.java_mean.specs.World.{World};
 ghost use Rattle.java_mean.specs.Outcome.{Outcome, Done, Faulted, Stuck, outcome, start, world_with};
 ghost use Rattle.java_mean.specs.Types.{Types, types_of_params, types_past, IsTyped, IsTypedAt, AreArguments};
@@ -24,16 +28,26 @@ ghost use Rattle.java_mean.specs.FirstForm.{FormPlaces, QueryPlaces, HasLongColu
 /// More turns change nothing of a method that is done or faulted.
 #[tactic(auto, using(crate::proofs::Further::done_with_more, crate::proofs::Further::faulted_with_more))]
 pub fn more_turns_change_nothing()
-    ensures done { (w : World) (m : PlainMethod) (args : List Scalar) (n k : ℕ) (lines : List (List ℕ)) (value : Option Value) → outcome w m args n ≡ Done lines value → outcome w m args (n + k) ≡ Done lines value }
-    ensures faulted { (w : World) (m : PlainMethod) (args : List Scalar) (n k : ℕ) (fault : RunFault) (at : Span) → outcome w m args n ≡ Faulted fault at → outcome w m args (n + k) ≡ Faulted fault at }
+    ensures done { (w : World) (m : PlainMethod) (args : List Scalar) (n k : ℕ) (lines : List (List ℕ)) (value : Option Value)
+        → outcome w m args n ≡ Done lines value
+        → outcome w m args (n + k) ≡ Done lines value }
+    ensures faulted { (w : World) (m : PlainMethod) (args : List Scalar) (n k : ℕ) (fault : RunFault) (at : Span)
+        → outcome w m args n ≡ Faulted fault at
+        → outcome w m args (n + k) ≡ Faulted fault at }
 {}
 
 /// A method has one outcome with a number of turns, and where it is done it is done with the same
 /// whatever the turns.
 #[tactic(auto, using(crate::proofs::Further::done_with_same))]
 pub fn outcome_is_one()
-    ensures same_turns { (w : World) (m : PlainMethod) (args : List Scalar) (n : ℕ) (one other : Outcome) → outcome w m args n ≡ one → outcome w m args n ≡ other → one ≡ other }
-    ensures any_turns { (w : World) (m : PlainMethod) (args : List Scalar) (n k : ℕ) (lines other_lines : List (List ℕ)) (value other_value : Option Value) → outcome w m args n ≡ Done lines value → outcome w m args k ≡ Done other_lines other_value → Done lines value ≡ Done other_lines other_value }
+    ensures same_turns { (w : World) (m : PlainMethod) (args : List Scalar) (n : ℕ) (one other : Outcome)
+        → outcome w m args n ≡ one
+        → outcome w m args n ≡ other
+        → one ≡ other }
+    ensures any_turns { (w : World) (m : PlainMethod) (args : List Scalar) (n k : ℕ) (lines other_lines : List (List ℕ)) (value other_value : Option Value)
+        → outcome w m args n ≡ Done lines value
+        → outcome w m args k ≡ Done other_lines other_value
+        → Done lines value ≡ Done other_lines other_value }
 {}
 
 /// Under every schema there is a way to find the query that a text has, so that what is said for
@@ -51,69 +65,159 @@ pub fn keeping_is_a_preorder()
 
 /// A method's body gives way to one that is done with the same wherever the first is done.
 pub fn replaced_bodies_keep()
-    ensures { (schema : Schema) (p : PlainProgram) (before after : List PlainMethod) (m : PlainMethod) (body : Statements) → IsDoneAlike schema m (with_body m body) → Keeps (with_methods p (before ++ m ∷ after)) (with_methods p (before ++ with_body m body ∷ after)) schema }
+    ensures { (schema : Schema) (p : PlainProgram) (before after : List PlainMethod) (m : PlainMethod) (body : Statements)
+        → IsDoneAlike schema m (with_body m body)
+        → Keeps (with_methods p (before ++ m ∷ after)) (with_methods p (before ++ with_body m body ∷ after)) schema }
 {}
 
 /// The first form of a loop gives way to a query: the program keeps what it does under every schema
 /// that has the table with the column of type Long.
 pub fn first_form_gives_way()
-    ensures { (schema : Schema) (t o x f text : List ℕ) (d : ℤ) (at : FormPlaces) (to : QueryPlaces) (p : PlainProgram) (before after : List PlainMethod) (m : PlainMethod) (has : HasLongColumn schema t f) → x ≢ o → HasQuery schema text (selection t has.table f has.column d) → Keeps (with_methods p (before ++ with_body m (collecting at t o x f d) ∷ after)) (with_methods p (before ++ with_body m (selecting to t o text) ∷ after)) schema }
+    ensures { (schema : Schema) (t o x f text : List ℕ) (d : ℤ) (at : FormPlaces) (to : QueryPlaces) (p : PlainProgram) (before after : List PlainMethod)
+        (m : PlainMethod) (has : HasLongColumn schema t f)
+        → x ≢ o
+        → HasQuery schema text (selection t has.table f has.column d)
+        → Keeps (with_methods p (before ++ with_body m (collecting at t o x f d) ∷ after)) (with_methods p (before ++ with_body m (selecting to t o text) ∷ after)) schema }
 {}
 
 /// What a program runs on answers query texts by their queries' types. There a well-typed method is
 /// never stuck, and what it returns is of its result's type.
 pub fn typed_methods_are_never_stuck()
-    ensures worlds { (schema : Schema) (read : List ℕ → Option PlainQuery) (db : Database) (m : PlainMethod) → IsDatabaseOf schema db → IsWorld (frame_of schema read m) (world_with schema read db) }
-    ensures never { (c : Frame) (m : PlainMethod) (z : Types) → TypedStatements c None (types_of_params c.schema m.params) m.body z → (w : World) → IsWorld c w → (args : List Scalar) → AreArguments c.schema m.params args → (turns : ℕ) → outcome w m args turns ≢ Stuck }
-    ensures result { (c : Frame) (m : PlainMethod) (z : Types) → TypedStatements c None (types_of_params c.schema m.params) m.body z → (w : World) → IsWorld c w → (args : List Scalar) → AreArguments c.schema m.params args → (turns : ℕ) (lines : List (List ℕ)) (v : Value) → outcome w m args turns ≡ Done lines (Some v) → IsResult c.schema c.result (Some v) }
+    ensures worlds { (schema : Schema) (read : List ℕ → Option PlainQuery) (db : Database) (m : PlainMethod)
+        → IsDatabaseOf schema db
+        → IsWorld (frame_of schema read m) (world_with schema read db) }
+    ensures never { (c : Frame) (m : PlainMethod) (z : Types)
+        → TypedStatements c None (types_of_params c.schema m.params) m.body z
+        → (w : World)
+        → IsWorld c w
+        → (args : List Scalar)
+        → AreArguments c.schema m.params args
+        → (turns : ℕ)
+        → outcome w m args turns ≢ Stuck }
+    ensures result { (c : Frame) (m : PlainMethod) (z : Types)
+        → TypedStatements c None (types_of_params c.schema m.params) m.body z
+        → (w : World)
+        → IsWorld c w
+        → (args : List Scalar)
+        → AreArguments c.schema m.params args
+        → (turns : ℕ) (lines : List (List ℕ)) (v : Value)
+        → outcome w m args turns ≡ Done lines (Some v)
+        → IsResult c.schema c.result (Some v) }
 {}
 
 /// Each method of a program in which no rule is broken, and whose literals have 64 bits, has a typing:
 /// the variables have the types of their declarations.
 pub fn well_typed_methods_are_typed()
-    ensures { (schema : Schema) (read : List ℕ → Option PlainQuery) (p : PlainProgram) (n : ℕ) (m : PlainMethod) → IsWellTyped schema read p → NumbersFit p → slice_get p.methods n ≡ Some m → TypedStatements (frame_of schema read m) None (types_of_params schema m.params) m.body (types_past schema (types_of_params schema m.params) m.body) }
+    ensures { (schema : Schema) (read : List ℕ → Option PlainQuery) (p : PlainProgram) (n : ℕ) (m : PlainMethod)
+        → IsWellTyped schema read p
+        → NumbersFit p
+        → slice_get p.methods n ≡ Some m
+        → TypedStatements (frame_of schema read m) None (types_of_params schema m.params) m.body (types_past schema (types_of_params schema m.params) m.body) }
 {}
 
 /// Each place in such a method is well typed: the statements there and what stands round them have
 /// typings, where the variables that are visible have the types of their declarations.
 pub fn well_typed_methods_have_typed_places()
-    ensures { (schema : Schema) (read : List ℕ → Option PlainQuery) (p : PlainProgram) (n : ℕ) (m : PlainMethod) (hole : Hole) (part : Statements) → IsWellTyped schema read p → NumbersFit p → slice_get p.methods n ≡ Some m → m.body ≡ fill hole part → IsTypedPlace (frame_of schema read m) None (types_of_params schema m.params) hole part }
+    ensures { (schema : Schema) (read : List ℕ → Option PlainQuery) (p : PlainProgram) (n : ℕ) (m : PlainMethod) (hole : Hole) (part : Statements)
+        → IsWellTyped schema read p
+        → NumbersFit p
+        → slice_get p.methods n ≡ Some m
+        → m.body ≡ fill hole part
+        → IsTypedPlace (frame_of schema read m) None (types_of_params schema m.params) hole part }
 {}
 
 /// A method of a well-typed program is never stuck, on a database of the schema and on arguments of its
 /// types, and what it returns is of its result's type.
 pub fn well_typed_methods_are_never_stuck()
-    ensures never { (schema : Schema) (read : List ℕ → Option PlainQuery) (p : PlainProgram) (n : ℕ) (m : PlainMethod) (db : Database) (args : List Scalar) (turns : ℕ) → IsWellTyped schema read p → NumbersFit p → slice_get p.methods n ≡ Some m → IsDatabaseOf schema db → AreArguments schema m.params args → outcome (world_with schema read db) m args turns ≢ Stuck }
-    ensures result { (schema : Schema) (read : List ℕ → Option PlainQuery) (p : PlainProgram) (n : ℕ) (m : PlainMethod) (db : Database) (args : List Scalar) (turns : ℕ) → IsWellTyped schema read p → NumbersFit p → slice_get p.methods n ≡ Some m → IsDatabaseOf schema db → AreArguments schema m.params args → (lines : List (List ℕ)) (v : Value) → outcome (world_with schema read db) m args turns ≡ Done lines (Some v) → IsResult schema (result_type schema m.result) (Some v) }
+    ensures never { (schema : Schema) (read : List ℕ → Option PlainQuery) (p : PlainProgram) (n : ℕ) (m : PlainMethod) (db : Database) (args : List Scalar)
+        (turns : ℕ)
+        → IsWellTyped schema read p
+        → NumbersFit p
+        → slice_get p.methods n ≡ Some m
+        → IsDatabaseOf schema db
+        → AreArguments schema m.params args
+        → outcome (world_with schema read db) m args turns ≢ Stuck }
+    ensures result { (schema : Schema) (read : List ℕ → Option PlainQuery) (p : PlainProgram) (n : ℕ) (m : PlainMethod) (db : Database) (args : List Scalar)
+        (turns : ℕ)
+        → IsWellTyped schema read p
+        → NumbersFit p
+        → slice_get p.methods n ≡ Some m
+        → IsDatabaseOf schema db
+        → AreArguments schema m.params args
+        → (lines : List (List ℕ)) (v : Value)
+        → outcome (world_with schema read db) m args turns ≡ Done lines (Some v)
+        → IsResult schema (result_type schema m.result) (Some v) }
 {}
 
 /// What statements at a place do matters only in the states in which a run comes to the place.
 pub fn only_reached_states_matter()
-    ensures { (w : World) (hole : Hole) (p q : Statements) (s : State) → ((t : State) → Reaches w p hole s t → meanings p w t ≡ meanings q w t) → meanings (fill hole p) w s ≡ meanings (fill hole q) w s }
+    ensures { (w : World) (hole : Hole) (p q : Statements) (s : State)
+        → ((t : State) → Reaches w p hole s t → meanings p w t ≡ meanings q w t)
+        → meanings (fill hole p) w s ≡ meanings (fill hole q) w s }
 {}
 
 /// A run of a method of a well-typed program comes to a place only in states that are typed there: each
 /// variable that is visible has a value of its declared type. The same holds of statements that may be
 /// replaced, under the types with which they may be.
 pub fn well_typed_methods_reach_typed_stores()
-    ensures stores { (schema : Schema) (read : List ℕ → Option PlainQuery) (p : PlainProgram) (n : ℕ) (m : PlainMethod) (hole : Hole) (part : Statements) → IsWellTyped schema read p → NumbersFit p → slice_get p.methods n ≡ Some m → m.body ≡ fill hole part → (db : Database) (args : List Scalar) → IsDatabaseOf schema db → AreArguments schema m.params args → (turns : ℕ) (s : State) → Reaches (world_with schema read db) part hole (start m args turns) s → IsTyped schema (types_at schema (types_of_params schema m.params) hole) s.store }
-    ensures places { (schema : Schema) (read : List ℕ → Option PlainQuery) (p : PlainProgram) (n : ℕ) (m : PlainMethod) (hole : Hole) (part : Statements) → IsWellTyped schema read p → NumbersFit p → slice_get p.methods n ≡ Some m → m.body ≡ fill hole part → (db : Database) (args : List Scalar) → IsDatabaseOf schema db → AreArguments schema m.params args → (turns : ℕ) (s : State) → Reaches (world_with schema read db) part hole (start m args turns) s → IsTypedAt schema m (first_of hole) (path_of hole) s.store }
-    ensures replaced { (c : Frame) (m : PlainMethod) (hole : Hole) (old new : Statements) (r : MayReplace c m hole old new) (w : World) → IsWorld c w → (args : List Scalar) → AreArguments c.schema m.params args → (turns : ℕ) (s : State) → Reaches w old hole (start m args turns) s → IsTyped c.schema r.before s.store }
+    ensures stores { (schema : Schema) (read : List ℕ → Option PlainQuery) (p : PlainProgram) (n : ℕ) (m : PlainMethod) (hole : Hole) (part : Statements)
+        → IsWellTyped schema read p
+        → NumbersFit p
+        → slice_get p.methods n ≡ Some m
+        → m.body ≡ fill hole part
+        → (db : Database) (args : List Scalar)
+        → IsDatabaseOf schema db
+        → AreArguments schema m.params args
+        → (turns : ℕ) (s : State)
+        → Reaches (world_with schema read db) part hole (start m args turns) s
+        → IsTyped schema (types_at schema (types_of_params schema m.params) hole) s.store }
+    ensures places { (schema : Schema) (read : List ℕ → Option PlainQuery) (p : PlainProgram) (n : ℕ) (m : PlainMethod) (hole : Hole) (part : Statements)
+        → IsWellTyped schema read p
+        → NumbersFit p
+        → slice_get p.methods n ≡ Some m
+        → m.body ≡ fill hole part
+        → (db : Database) (args : List Scalar)
+        → IsDatabaseOf schema db
+        → AreArguments schema m.params args
+        → (turns : ℕ) (s : State)
+        → Reaches (world_with schema read db) part hole (start m args turns) s
+        → IsTypedAt schema m (first_of hole) (path_of hole) s.store }
+    ensures replaced { (c : Frame) (m : PlainMethod) (hole : Hole) (old new : Statements) (r : MayReplace c m hole old new) (w : World)
+        → IsWorld c w
+        → (args : List Scalar)
+        → AreArguments c.schema m.params args
+        → (turns : ℕ) (s : State)
+        → Reaches w old hole (start m args turns) s
+        → IsTyped c.schema r.before s.store }
 {}
 
 /// Variables that are not live don't matter: well-typed statements do the same in two states that give each
 /// variable of their typing one value of its type. They pass in both in the same way, with the same lines
 /// and the same returned value, to such states, and are stuck in none.
 pub fn only_typed_variables_matter()
-    ensures { (c : Frame) (l : Option Types) (g z : Types) (p : Statements) → TypedStatements c l g p z → (w : World) → IsWorld c w → Simulates (Alike c.schema g) (Alike c.schema z) (exits c l ⊥) (meanings p w) (meanings p w) }
+    ensures { (c : Frame) (l : Option Types) (g z : Types) (p : Statements)
+        → TypedStatements c l g p z
+        → (w : World)
+        → IsWorld c w
+        → Simulates (Alike c.schema g) (Alike c.schema z) (exits c l ⊥) (meanings p w) (meanings p w) }
 {}
 
 /// Statements of a well-typed method, at any depth, give way to well-typed ones that do the same from
 /// each typed state from which the old ones pass: the method is done with the same, and the program
 /// keeps what it does.
 pub fn replaced_statements_keep()
-    ensures outcomes { (c : Frame) (m : PlainMethod) (hole : Hole) (old new : Statements) → MayReplace c m hole old new → (w : World) → IsWorld c w → (args : List Scalar) → AreArguments c.schema m.params args → (turns : ℕ) (lines : List (List ℕ)) (v : Option Value) → outcome w (with_body m (fill hole old)) args turns ≡ Done lines v → outcome w (with_body m (fill hole new)) args turns ≡ Done lines v }
-    ensures programs { (schema : Schema) (p : PlainProgram) (before after : List PlainMethod) (m : PlainMethod) (hole : Hole) (old new : Statements) → ((reader : Reader schema) → MayReplace (frame_of schema reader.read m) m hole old new) → Keeps (with_methods p (before ++ with_body m (fill hole old) ∷ after)) (with_methods p (before ++ with_body m (fill hole new) ∷ after)) schema }
+    ensures outcomes { (c : Frame) (m : PlainMethod) (hole : Hole) (old new : Statements)
+        → MayReplace c m hole old new
+        → (w : World)
+        → IsWorld c w
+        → (args : List Scalar)
+        → AreArguments c.schema m.params args
+        → (turns : ℕ) (lines : List (List ℕ)) (v : Option Value)
+        → outcome w (with_body m (fill hole old)) args turns ≡ Done lines v
+        → outcome w (with_body m (fill hole new)) args turns ≡ Done lines v }
+    ensures programs { (schema : Schema) (p : PlainProgram) (before after : List PlainMethod) (m : PlainMethod) (hole : Hole) (old new : Statements)
+        → ((reader : Reader schema) → MayReplace (frame_of schema reader.read m) m hole old new)
+        → Keeps (with_methods p (before ++ with_body m (fill hole old) ∷ after)) (with_methods p (before ++ with_body m (fill hole new) ∷ after)) schema }
 {}
 
 /// In a well-typed program statements at any depth give way to others that do the same from each typed
@@ -123,12 +227,48 @@ pub fn replaced_statements_keep()
 /// mentioned behind it. Which way to find queries a program is well typed by doesn't matter.
 pub fn well_typed_replacements_keep()
     ensures readers { (schema : Schema) (one other : Reader schema) (p : PlainProgram) → IsWellTyped schema one.read p → IsWellTyped schema other.read p }
-    ensures fewer { (schema : Schema) (reader : Reader schema) (p : PlainProgram) (before after : List PlainMethod) (m : PlainMethod) (hole : Hole) (old new : Statements) → IsWellTyped schema reader.read (with_methods p (before ++ with_body m (fill hole old) ∷ after)) → NumbersFit (with_methods p (before ++ with_body m (fill hole old) ∷ after)) → IsWellTyped schema reader.read (with_methods p (before ++ with_body m (fill hole new) ∷ after)) → NumbersFit (with_methods p (before ++ with_body m (fill hole new) ∷ after)) → Extends (types_past schema (types_at schema (types_of_params schema m.params) hole) old) (types_past schema (types_at schema (types_of_params schema m.params) hole) new) → Replaces (frame_of schema reader.read m) (loop_at schema None (types_of_params schema m.params) hole) (types_at schema (types_of_params schema m.params) hole) (types_past schema (types_at schema (types_of_params schema m.params) hole) new) old new → Keeps (with_methods p (before ++ with_body m (fill hole old) ∷ after)) (with_methods p (before ++ with_body m (fill hole new) ∷ after)) schema }
-    ensures more { (schema : Schema) (reader : Reader schema) (p : PlainProgram) (before after : List PlainMethod) (m : PlainMethod) (hole : Hole) (old new : Statements) → IsWellTyped schema reader.read (with_methods p (before ++ with_body m (fill hole old) ∷ after)) → NumbersFit (with_methods p (before ++ with_body m (fill hole old) ∷ after)) → IsWellTyped schema reader.read (with_methods p (before ++ with_body m (fill hole new) ∷ after)) → NumbersFit (with_methods p (before ++ with_body m (fill hole new) ∷ after)) → Extends (types_past schema (types_at schema (types_of_params schema m.params) hole) new) (types_past schema (types_at schema (types_of_params schema m.params) hole) old) → Replaces (frame_of schema reader.read m) (loop_at schema None (types_of_params schema m.params) hole) (types_at schema (types_of_params schema m.params) hole) (types_past schema (types_at schema (types_of_params schema m.params) hole) old) old new → Keeps (with_methods p (before ++ with_body m (fill hole old) ∷ after)) (with_methods p (before ++ with_body m (fill hole new) ∷ after)) schema }
+    ensures fewer { (schema : Schema) (reader : Reader schema) (p : PlainProgram) (before after : List PlainMethod) (m : PlainMethod) (hole : Hole)
+        (old new : Statements)
+        → IsWellTyped schema reader.read (with_methods p (before ++ with_body m (fill hole old) ∷ after))
+        → NumbersFit (with_methods p (before ++ with_body m (fill hole old) ∷ after))
+        → IsWellTyped schema reader.read (with_methods p (before ++ with_body m (fill hole new) ∷ after))
+        → NumbersFit (with_methods p (before ++ with_body m (fill hole new) ∷ after))
+        → Extends (types_past schema (types_at schema (types_of_params schema m.params) hole) old) (
+        types_past schema (types_at schema (types_of_params schema m.params) hole) new)
+        → Replaces (frame_of schema reader.read m) (loop_at schema None (types_of_params schema m.params) hole)
+        (types_at schema (types_of_params schema m.params) hole)
+        (types_past schema (types_at schema (types_of_params schema m.params) hole) new)
+        old new
+        → Keeps (with_methods p (before ++ with_body m (fill hole old) ∷ after)) (with_methods p (before ++ with_body m (fill hole new) ∷ after)) schema }
+    ensures more { (schema : Schema) (reader : Reader schema) (p : PlainProgram) (before after : List PlainMethod) (m : PlainMethod) (hole : Hole)
+        (old new : Statements)
+        → IsWellTyped schema reader.read (with_methods p (before ++ with_body m (fill hole old) ∷ after))
+        → NumbersFit (with_methods p (before ++ with_body m (fill hole old) ∷ after))
+        → IsWellTyped schema reader.read (with_methods p (before ++ with_body m (fill hole new) ∷ after))
+        → NumbersFit (with_methods p (before ++ with_body m (fill hole new) ∷ after))
+        → Extends (types_past schema (types_at schema (types_of_params schema m.params) hole) new) (
+        types_past schema (types_at schema (types_of_params schema m.params) hole) old)
+        → Replaces (frame_of schema reader.read m) (loop_at schema None (types_of_params schema m.params) hole)
+        (types_at schema (types_of_params schema m.params) hole)
+        (types_past schema (types_at schema (types_of_params schema m.params) hole) old)
+        old new
+        → Keeps (with_methods p (before ++ with_body m (fill hole old) ∷ after)) (with_methods p (before ++ with_body m (fill hole new) ∷ after)) schema }
     ensures wide { (schema : Schema) (reader : Reader schema) (p : PlainProgram) (before after : List PlainMethod) (m : PlainMethod)
         (hole : Hole) (old new : Statements) (alike : Types)
         → IsWellTyped schema reader.read (with_part p before after m hole old) → NumbersFit (with_part p before after m hole old)
         → IsWellTyped schema reader.read (with_part p before after m hole new) → NumbersFit (with_part p before after m hole new)
         → GivesWay (frame_of schema reader.read m) None (types_of_params schema m.params) hole old new alike
         → Keeps (with_part p before after m hole old) (with_part p before after m hole new) schema }
+{}
+
+/// An expression whose places are all replaced by one has the same value, and so have the arguments of a
+/// query. Where it ends otherwise it ends in the same way, a fault at that place.
+#[tactic(auto, using(crate::proofs::Placing::laws))]
+pub fn places_change_no_value()
+    ensures exact { (to : Span) (e : Expression) (w : World) (s : Store) → value_of (placed to e) w s ≡ result_at to (value_of e w s) }
+    ensures same { (to : Span) (e : Expression) (w : World) (s : Store) (v : Value) → value_of e w s ≡ Ok v → value_of (placed to e) w s ≡ Ok v }
+    ensures back { (to : Span) (e : Expression) (w : World) (s : Store) (v : Value) → value_of (placed to e) w s ≡ Ok v → value_of e w s ≡ Ok v }
+    ensures all_exact { (to : Span) (es : Expressions) (w : World) (s : Store) → scalars_of (placed_all to es) w s ≡ result_at to (scalars_of es w s) }
+    ensures all_same { (to : Span) (es : Expressions) (w : World) (s : Store) (xs : List Scalar) → scalars_of es w s ≡ Ok xs → scalars_of (placed_all to es) w s ≡ Ok xs }
+    ensures all_back { (to : Span) (es : Expressions) (w : World) (s : Store) (xs : List Scalar) → scalars_of (placed_all to es) w s ≡ Ok xs → scalars_of es w s ≡ Ok xs }
 {}

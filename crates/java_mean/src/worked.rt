@@ -33,7 +33,8 @@ pub fn loops_do_what_they_say()
     ensures none_by_name { outcome staff (class_H 0 false) [] 0 ≡ rows_done [] }
     ensures printed { outcome staff class_J [] 20 ≡ Done (codes "2" ∷ codes "1" ∷ codes "2" ∷ codes "0" ∷ codes "1" ∷ []) None }
     ensures counted { outcome staff class_W [] 3 ≡ scalar_done (long 3) }
-    ensures names { outcome staff name_set [] 5 ≡ rows_done (alone (text (codes "ann")) ∷ alone (text (codes "bob")) ∷ alone (text (codes "cat")) ∷ alone (text (codes "dan")) ∷ []) }
+    ensures names { outcome staff name_set [] 5
+        ≡ rows_done (alone (text (codes "ann")) ∷ alone (text (codes "bob")) ∷ alone (text (codes "cat")) ∷ alone (text (codes "dan")) ∷ []) }
 {}
 
 /// Turns that run out, and faults at their places.
@@ -56,7 +57,8 @@ pub fn queries_do_what_loops_do()
     ensures sum { outcome (asking (payments (negsuc 0 ∷ pos (2 ^ 63 - 1) ∷ pos 1 ∷ [])) sum_text sum_query) class_D_asking [] 0 ≡ scalar_done (long (2 ^ 63 - 1)) }
     ensures too_large { outcome (asking (payments (pos (2 ^ 63 - 1) ∷ pos 1 ∷ [])) sum_text sum_query) class_D_asking [] 0 ≡ Faulted faults.SumTooLarge loop_place }
     ensures counted { outcome (asking staff count_text count_query) class_J_asking [] 5 ≡ Done (codes "2" ∷ codes "1" ∷ codes "2" ∷ codes "0" ∷ codes "1" ∷ []) None }
-    ensures names { outcome (asking staff names_text names_query) name_set_asking [] 0 ≡ rows_done (alone (text (codes "ann")) ∷ alone (text (codes "bob")) ∷ alone (text (codes "cat")) ∷ alone (text (codes "dan")) ∷ []) }
+    ensures names { outcome (asking staff names_text names_query) name_set_asking [] 0
+        ≡ rows_done (alone (text (codes "ann")) ∷ alone (text (codes "bob")) ∷ alone (text (codes "cat")) ∷ alone (text (codes "dan")) ∷ []) }
 {}
 
 /// A loop that copies a table, as an example of statements that give way to others: each leave a variable
