@@ -25,6 +25,14 @@ pub struct Typed {
 }
 
 impl Typed {
+    /// A program as one that may be well typed, which isn't asked here. It takes no memory.
+    pub fn of(program: Program) -> Typed
+        ensures { result.program ≡ program }
+    {
+        read_literals(&program);
+        Typed { program }
+    }
+
     /// The program that was checked.
     pub fn program(&self) -> &Program
         ensures { result.now ≡ self.now.program }

@@ -27,14 +27,45 @@ pub fn query_texts_are_read_exactly()
 /// A method of a program that was checked is never stuck, on a database of the schema and on arguments
 /// of its types, and what it returns is of its result's type.
 pub fn checked_programs_are_never_stuck()
-    ensures never { (schema : Schema) (p : PlainProgram) (n : ℕ) (m : PlainMethod) (db : Database) (args : List Scalar) (turns : ℕ) → IsWellTyped schema (read_by schema) p → NumbersFit p → slice_get p.methods n ≡ Some m → IsDatabaseOf schema db → AreArguments schema m.params args → outcome (world_with schema (read_by schema) db) m args turns ≢ Stuck }
-    ensures checked { (schema : Schema) (typed : Typed) (n : ℕ) (m : PlainMethod) (db : Database) (args : List Scalar) (turns : ℕ) → IsWellTyped schema (read_by schema) (program typed.program) → slice_get (program typed.program).methods n ≡ Some m → IsDatabaseOf schema db → AreArguments schema m.params args → outcome (world_with schema (read_by schema) db) m args turns ≢ Stuck }
-    ensures result { (schema : Schema) (typed : Typed) (n : ℕ) (m : PlainMethod) (db : Database) (args : List Scalar) (turns : ℕ) → IsWellTyped schema (read_by schema) (program typed.program) → slice_get (program typed.program).methods n ≡ Some m → IsDatabaseOf schema db → AreArguments schema m.params args → (lines : List (List ℕ)) (v : Value) → outcome (world_with schema (read_by schema) db) m args turns ≡ Done lines (Some v) → IsResult schema (result_type schema m.result) (Some v) }
+    ensures never { (schema : Schema) (p : PlainProgram) (n : ℕ) (m : PlainMethod) (db : Database) (args : List Scalar) (turns : ℕ)
+        → IsWellTyped schema (read_by schema) p
+        → NumbersFit p
+        → slice_get p.methods n ≡ Some m
+        → IsDatabaseOf schema db
+        → AreArguments schema m.params args
+        → outcome (world_with schema (read_by schema) db) m args turns ≢ Stuck }
+    ensures checked { (schema : Schema) (typed : Typed) (n : ℕ) (m : PlainMethod) (db : Database) (args : List Scalar) (turns : ℕ)
+        → IsWellTyped schema (read_by schema) (program typed.program)
+        → slice_get (program typed.program).methods n ≡ Some m
+        → IsDatabaseOf schema db
+        → AreArguments schema m.params args
+        → outcome (world_with schema (read_by schema) db) m args turns ≢ Stuck }
+    ensures result { (schema : Schema) (typed : Typed) (n : ℕ) (m : PlainMethod) (db : Database) (args : List Scalar) (turns : ℕ)
+        → IsWellTyped schema (read_by schema) (program typed.program)
+        → slice_get (program typed.program).methods n ≡ Some m
+        → IsDatabaseOf schema db
+        → AreArguments schema m.params args
+        → (lines : List (List ℕ)) (v : Value)
+        → outcome (world_with schema (read_by schema) db) m args turns ≡ Done lines (Some v)
+        → IsResult schema (result_type schema m.result) (Some v) }
 {}
 
 /// Each place in a method of a program that was checked is well typed, and a run of the method, on a
 /// database of the schema and on arguments of its types, comes there only in states that are typed there.
 pub fn checked_programs_reach_typed_stores()
-    ensures places { (schema : Schema) (typed : Typed) (n : ℕ) (m : PlainMethod) (hole : Hole) (part : Statements) → IsWellTyped schema (read_by schema) (program typed.program) → slice_get (program typed.program).methods n ≡ Some m → m.body ≡ fill hole part → IsTypedPlace (frame_of schema (read_by schema) m) None (types_of_params schema m.params) hole part }
-    ensures stores { (schema : Schema) (typed : Typed) (n : ℕ) (m : PlainMethod) (hole : Hole) (part : Statements) → IsWellTyped schema (read_by schema) (program typed.program) → slice_get (program typed.program).methods n ≡ Some m → m.body ≡ fill hole part → (db : Database) (args : List Scalar) → IsDatabaseOf schema db → AreArguments schema m.params args → (turns : ℕ) (s : State) → Reaches (world_with schema (read_by schema) db) part hole (start m args turns) s → IsTyped schema (types_at schema (types_of_params schema m.params) hole) s.store }
+    ensures places { (schema : Schema) (typed : Typed) (n : ℕ) (m : PlainMethod) (hole : Hole) (part : Statements)
+        → IsWellTyped schema (read_by schema) (program typed.program)
+        → slice_get (program typed.program).methods n ≡ Some m
+        → m.body ≡ fill hole part
+        → IsTypedPlace (frame_of schema (read_by schema) m) None (types_of_params schema m.params) hole part }
+    ensures stores { (schema : Schema) (typed : Typed) (n : ℕ) (m : PlainMethod) (hole : Hole) (part : Statements)
+        → IsWellTyped schema (read_by schema) (program typed.program)
+        → slice_get (program typed.program).methods n ≡ Some m
+        → m.body ≡ fill hole part
+        → (db : Database) (args : List Scalar)
+        → IsDatabaseOf schema db
+        → AreArguments schema m.params args
+        → (turns : ℕ) (s : State)
+        → Reaches (world_with schema (read_by schema) db) part hole (start m args turns) s
+        → IsTyped schema (types_at schema (types_of_params schema m.params) hole) s.store }
 {}

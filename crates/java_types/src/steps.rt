@@ -99,7 +99,9 @@ fn returned(
     scope: &Scope,
     kept: &mut Option<TypeFault>,
 )
-    ensures { kept.new ≡ least kept.old (marked broken.Mismatch (rules.returned schema.now scope.now (option_map spelled result_type.now) at (option_map expression value.now))) }
+    ensures { kept.new
+        ≡ least kept.old (
+        marked broken.Mismatch (rules.returned schema.now scope.now (option_map spelled result_type.now) at (option_map expression value.now))) }
 {
     match (result_type, value) {
         (None, None) => {}
@@ -127,7 +129,10 @@ pub fn at_step(
     last: bool,
     kept: &mut Option<TypeFault>,
 )
-    ensures { kept.new ≡ least kept.old (faults_at schema.now (read_by schema.now) (option_map spelled result_type.now) (step scope.now (around walked.now in_loop end) last (statement s.now))) }
+    ensures { kept.new
+        ≡ least kept.old (
+        faults_at schema.now (read_by schema.now) (option_map spelled result_type.now) (
+        step scope.now (around walked.now in_loop end) last (statement s.now))) }
 {
     let at = s.span;
     match &s.node {

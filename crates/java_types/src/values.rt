@@ -190,7 +190,9 @@ fn identity(
     scope: &Scope,
     kept: &mut Option<TypeFault>,
 )
-    ensures { kept.new ≡ least kept.old (marked broken.TextIdentity (rules.text_identity schema.now (value scope.now (tree.Binary at op (expression a.now) (expression b.now))))) }
+    ensures { kept.new
+        ≡ least kept.old (
+        marked broken.TextIdentity (rules.text_identity schema.now (value scope.now (tree.Binary at op (expression a.now) (expression b.now))))) }
 {
     match op {
         Op::Eq => note_if(
@@ -240,7 +242,8 @@ fn note_query(
     scope: &Scope,
     kept: &mut Option<TypeFault>,
 )
-    ensures { kept.new ≡ least (least (least (least kept.old (marked broken.Mismatch (rules.arguments schema.now scope.now (rules.params_of (option_map query (option_copied q.entry))) (expressions args.now)))) (marked broken.BadQuery (rules.only_if (not fits) at))) (marked broken.UnorderedQuery (rules.only_if (not ordered) at))) (marked broken.Arity (rules.only_if (not (rules.fits_query (option_map query (option_copied q.entry)) (expressions args.now))) at)) }
+    ensures { kept.new
+        ≡ least (least (least (least kept.old (marked broken.Mismatch (rules.arguments schema.now scope.now (rules.params_of (option_map query (option_copied q.entry))) (expressions args.now)))) (marked broken.BadQuery (rules.only_if (not fits) at))) (marked broken.UnorderedQuery (rules.only_if (not ordered) at))) (marked broken.Arity (rules.only_if (not (rules.fits_query (option_map query (option_copied q.entry)) (expressions args.now))) at)) }
 {
     arguments(params_of(q), args, schema, scope, kept);
     note_if(kept, !fits, TypeRule::BadQuery, at);
@@ -261,7 +264,11 @@ fn at_listing(
     scope: &Scope,
     kept: &mut Option<TypeFault>,
 ) -> Result<(), NoMemory>
-    ensures { OnOk result (kept.new ≡ least kept.old (faults_at schema.now (read_by schema.now) (option_map spelled result_type.now) (value scope.now (tree.Query at (spelled ty.now) text.now (expressions args.now))))) }
+    ensures { OnOk result (
+        kept.new
+        ≡ least kept.old (
+        faults_at schema.now (read_by schema.now) (option_map spelled result_type.now) (
+        value scope.now (tree.Query at (spelled ty.now) text.now (expressions args.now))))) }
 {
     let a = single_spelled(schema, ty);
     let read = query_of(alloc, schema, text)?;
@@ -284,7 +291,11 @@ fn at_number(
     scope: &Scope,
     kept: &mut Option<TypeFault>,
 ) -> Result<(), NoMemory>
-    ensures { OnOk result (kept.new ≡ least kept.old (faults_at schema.now (read_by schema.now) (option_map spelled result_type.now) (value scope.now (tree.QueryLong at text.now (expressions args.now))))) }
+    ensures { OnOk result (
+        kept.new
+        ≡ least kept.old (
+        faults_at schema.now (read_by schema.now) (option_map spelled result_type.now) (
+        value scope.now (tree.QueryLong at text.now (expressions args.now))))) }
 {
     let read = query_of(alloc, schema, text)?;
     let q = read.as_deref();
@@ -304,7 +315,11 @@ fn at_truth(
     scope: &Scope,
     kept: &mut Option<TypeFault>,
 ) -> Result<(), NoMemory>
-    ensures { OnOk result (kept.new ≡ least kept.old (faults_at schema.now (read_by schema.now) (option_map spelled result_type.now) (value scope.now (tree.QueryBoolean at text.now (expressions args.now))))) }
+    ensures { OnOk result (
+        kept.new
+        ≡ least kept.old (
+        faults_at schema.now (read_by schema.now) (option_map spelled result_type.now) (
+        value scope.now (tree.QueryBoolean at text.now (expressions args.now))))) }
 {
     let read = query_of(alloc, schema, text)?;
     let q = read.as_deref();
@@ -322,7 +337,9 @@ pub fn at_value(
     scope: &Scope,
     kept: &mut Option<TypeFault>,
 ) -> Result<(), NoMemory>
-    ensures { OnOk result (kept.new ≡ least kept.old (faults_at schema.now (read_by schema.now) (option_map spelled result_type.now) (value scope.now (expression e.now)))) }
+    ensures { OnOk result (
+        kept.new
+        ≡ least kept.old (faults_at schema.now (read_by schema.now) (option_map spelled result_type.now) (value scope.now (expression e.now)))) }
 {
     let at = e.span;
     match &e.node {

@@ -32,7 +32,10 @@ pub fn walk_expr(
     scope: &Scope,
     kept: &mut Option<TypeFault>,
 ) -> Result<(), NoMemory>
-    ensures { OnOk result (kept.new ≡ least kept.old (faults_in schema.now (read_by schema.now) (option_map spelled result_type.now) (in_expression scope.now (expression e.now)))) }
+    ensures { OnOk result (
+        kept.new
+        ≡ least kept.old (
+        faults_in schema.now (read_by schema.now) (option_map spelled result_type.now) (in_expression scope.now (expression e.now)))) }
 {
     at_value(alloc, e, schema, result_type, scope, kept)?;
     match &e.node {
@@ -73,7 +76,10 @@ fn walk_all(
     scope: &Scope,
     kept: &mut Option<TypeFault>,
 ) -> Result<(), NoMemory>
-    ensures { OnOk result (kept.new ≡ least kept.old (faults_in schema.now (read_by schema.now) (option_map spelled result_type.now) (in_expressions scope.now (expressions es.now)))) }
+    ensures { OnOk result (
+        kept.new
+        ≡ least kept.old (
+        faults_in schema.now (read_by schema.now) (option_map spelled result_type.now) (in_expressions scope.now (expressions es.now)))) }
 {
     for e in es {
         walk_expr(e, alloc, schema, result_type, scope, kept)?;
@@ -135,7 +141,11 @@ fn walk_stmt<'a>(
     last: bool,
     kept: &mut Option<TypeFault>,
 ) -> Result<(), NoMemory>
-    ensures kept { OnOk result (kept.new ≡ least kept.old (faults_in schema.now (read_by schema.now) (option_map spelled result_type.now) (in_statement schema.now scope.old (around walked.old in_loop end) last (statement s.now)))) }
+    ensures kept { OnOk result (
+        kept.new
+        ≡ least kept.old (
+        faults_in schema.now (read_by schema.now) (option_map spelled result_type.now) (
+        in_statement schema.now scope.old (around walked.old in_loop end) last (statement s.now)))) }
     ensures scope { OnOk result (scope.new ≡ after schema.now scope.old (statement s.now)) }
     ensures walked { OnOk result (walked.new ≡ walked.old) }
 {
@@ -267,7 +277,11 @@ pub fn walk_block<'a>(
     end: bool,
     kept: &mut Option<TypeFault>,
 ) -> Result<(), NoMemory>
-    ensures kept { OnOk result (kept.new ≡ least kept.old (faults_in schema.now (read_by schema.now) (option_map spelled result_type.now) (in_statements schema.now scope.old (around walked.old in_loop end) (statements block.now)))) }
+    ensures kept { OnOk result (
+        kept.new
+        ≡ least kept.old (
+        faults_in schema.now (read_by schema.now) (option_map spelled result_type.now) (
+        in_statements schema.now scope.old (around walked.old in_loop end) (statements block.now)))) }
     ensures scope { OnOk result (scope.new ≡ scope.old) }
     ensures walked { OnOk result (walked.new ≡ walked.old) }
 {
@@ -301,7 +315,11 @@ fn walk_params<'a>(
     scope: &mut Scope<'a>,
     kept: &mut Option<TypeFault>,
 ) -> Result<(), NoMemory>
-    ensures kept { OnOk result (kept.new ≡ least kept.old (faults_in schema.now (read_by schema.now) (option_map spelled result_type.now) (in_params schema.now scope.old at (map plain_param params.now)))) }
+    ensures kept { OnOk result (
+        kept.new
+        ≡ least kept.old (
+        faults_in schema.now (read_by schema.now) (option_map spelled result_type.now) (
+        in_params schema.now scope.old at (map plain_param params.now)))) }
     ensures scope { OnOk result (scope.new ≡ with_params schema.now scope.old (map plain_param params.now)) }
 {
     for p in params {
@@ -320,7 +338,11 @@ pub fn walk_method(
     schema: &Schema,
     kept: &mut Option<TypeFault>,
 ) -> Result<(), NoMemory>
-    ensures { OnOk result (kept.new ≡ least kept.old (faults_in schema.now (read_by schema.now) (option_map spelled m.now.result) (places.whole double (plain_method m.now) ∷ in_method schema.now (plain_method m.now)))) }
+    ensures { OnOk result (
+        kept.new
+        ≡ least kept.old (
+        faults_in schema.now (read_by schema.now) (option_map spelled m.now.result) (
+        places.whole double (plain_method m.now) ∷ in_method schema.now (plain_method m.now)))) }
 {
     at_method(m, double, returns(m.body.as_slice()), schema, kept);
     let mut scope = Scope::new(alloc);

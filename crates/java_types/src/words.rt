@@ -182,7 +182,7 @@ pub fn walked_element(k: Option<Kindred>) -> Option<Single>
     }
 }
 
-/// A set of the scalars that a list has.
+/// A set by its head, of the scalars that a list has. Of anything else its elements aren't known.
 pub fn set_of(k: Option<Kindred>) -> Option<Kindred>
     ensures { result ≡ rules.set_of k }
 {
@@ -190,7 +190,16 @@ pub fn set_of(k: Option<Kindred>) -> Option<Kindred>
         Some(Kindred::Only(JavaType::Listed(Single::ScalarOf(ty)))) => {
             Some(Kindred::Only(JavaType::Distinct(Single::ScalarOf(ty))))
         }
-        _ => None,
+        _ => Some(Kindred::AnySet),
+    }
+}
+
+fn lists_scalars(k: Kindred) -> bool
+    ensures { result ≡ rules.lists_scalars k }
+{
+    match k {
+        Kindred::Only(JavaType::Listed(Single::ScalarOf(_))) => true,
+        _ => false,
     }
 }
 
@@ -203,10 +212,10 @@ pub fn unless_scalars(kept: &mut Option<TypeFault>, k: Option<JavaType>, at: Spa
 }
 
 pub fn unless_set(kept: &mut Option<TypeFault>, k: Option<Kindred>, at: Span)
-    ensures { kept.new ≡ least kept.old (marked broken.Mismatch (rules.unless_passes (λ (j : Kindred). not (rules.is_none (rules.set_of (Some j)))) k at)) }
+    ensures { kept.new ≡ least kept.old (marked broken.Mismatch (rules.unless_passes rules.lists_scalars k at)) }
 {
     if let Some(j) = k {
-        note_if(kept, set_of(Some(j)).is_none(), TypeRule::Mismatch, at);
+        note_if(kept, !lists_scalars(j), TypeRule::Mismatch, at);
     }
 }
 
