@@ -1,5 +1,5 @@
 -- How deep conditions are.
-use Rattle.std.proofs.Common.{◌≡◌, ℕ, ◌≤◌, ◌<◌, ◌+◌, ◌*◌, Bool, List, Option, Some, None, arith}
+use Rattle.std.proofs.Common.{◌≡◌, ℕ, ◌<◌, ◌+◌, ◌*◌, Bool, List, Option, Some, None, arith}
 use denote.Hole.Rolled.{depth_falls}
 use Rattle.std.specs.Global.{Box}
 use Rattle.sql_ast.specs.declared.tree.Cond.{Cond, size-Cond}

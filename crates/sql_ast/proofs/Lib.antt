@@ -25,5 +25,6 @@ pub mod Resolved
 pub mod Shown
 pub mod ShownQuery
 pub mod Spelled
+pub mod Utf8
 pub mod Whole
 pub mod Words

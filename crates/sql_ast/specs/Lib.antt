@@ -12,6 +12,7 @@ pub mod Texts
 pub mod Tokens
 pub mod Tree
 pub mod Typing
+pub mod Utf8
 pub mod Valid
 pub mod Worked
 pub mod Written

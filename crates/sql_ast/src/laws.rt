@@ -1,5 +1,6 @@
 //! Laws of queries, for the crates above. They do nothing.
 ghost use Rattle.std.specs.Prelude.{◌≡◌, ◌↔◌, ◌<◌, ◌^◌, ℕ, List, length, Ok, Err};
+ghost use Rattle.std.specs.Str.{IsUtf8};
 ghost use Rattle.qbs_base.specs.Values.{Database, Schema};
 ghost use Rattle.qbs_base.specs.declared.scalar.Scalar.{Scalar};
 ghost use Rattle.sql_ast.specs.Answers.{IsOrderComplete, HasOneAnswer};
@@ -8,6 +9,7 @@ ghost use Rattle.sql_ast.specs.declared.rule.SqlRule.{SqlRule};
 ghost use Rattle.sql_ast.specs.Reader.{query_of_text};
 ghost use Rattle.sql_ast.specs.Texts.{HasQuery, BreaksRule};
 ghost use Rattle.sql_ast.specs.Tree.{PlainListing, PlainQuery, Listing};
+ghost use Rattle.sql_ast.specs.Utf8.{LiteralsAreUtf8};
 ghost use Rattle.sql_ast.specs.Valid.{IsQueryOf};
 ghost use Rattle.sql_ast.specs.Worked.{Worked};
 
@@ -28,6 +30,12 @@ pub fn a_canonical_text_has_its_query()
     ensures valid { (schema : Schema) (text : List ℕ) (q : PlainQuery) → length text < 2 ^ 64 → HasQuery schema text q → IsQueryOf schema q }
     ensures has { (schema : Schema) (q : PlainQuery) → IsQueryOf schema q → HasQuery schema (canonical q) q }
     ensures again { (schema : Schema) (text : List ℕ) (q : PlainQuery) → length text < 2 ^ 64 → HasQuery schema text q → HasQuery schema (canonical q) q }
+{}
+
+/// The canonical text of a query of the schema is UTF-8 where the query's text literals are. Its
+/// names are ASCII.
+pub fn canonical_texts_are_utf8()
+    ensures { (schema : Schema) (q : PlainQuery) → IsQueryOf schema q → LiteralsAreUtf8 q → IsUtf8 (canonical q) }
 {}
 
 /// Reading a text from left to right gives the query that it has by the grammar, or else the first

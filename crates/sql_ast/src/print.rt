@@ -242,7 +242,9 @@ fn put_inner(
     from: &FromItems,
     filter: &Option<Box<Cond>>,
 ) -> Result<(), NoMemory>
-    ensures { OnOk result (string_bytes out.new ≡ string_bytes out.old ++ (from_text around from.now ++ filter_text (around + length from.now) (inner_filter filter.now) ++ codes ")")) }
+    ensures { OnOk result (
+        string_bytes out.new
+        ≡ string_bytes out.old ++ (from_text around from.now ++ filter_text (around + length from.now) (inner_filter filter.now) ++ codes ")")) }
 {
     put_from(out, around, from.as_slice())?;
     put_filter(out, with_items(around, from)?, filter)?;

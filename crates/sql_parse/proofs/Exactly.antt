@@ -1,5 +1,5 @@
 -- Reading a text from left to right answers as the grammar says.
-use Rattle.std.proofs.Common.{◌≡◌, ℕ, List, Result, Ok, Err, sym, subst}
+use Rattle.std.proofs.Common.{◌≡◌, ℕ, ◌<◌, ◌^◌, List, length, Result, Ok, Err, sym, subst}
 use Rattle.std.specs.Prelude.{IfOk, IfErr}
 use Rattle.qbs_base.specs.declared.memory.Fail.{Fail}
 use Rattle.qbs_base.specs.declared.memory.Fail.TheVariants as fails
@@ -13,6 +13,7 @@ use Rattle.sql_ast.specs.Texts.{HasQuery, BreaksRule}
 use Rattle.sql_ast.specs.Tree.{PlainQuery}
 use Rattle.sql_ast.specs.Valid.{IsQueryOf}
 use Rattle.sql_ast.proofs.CanonicalQuery.{canonical_has_query}
+use Rattle.sql_ast.proofs.InvertedQuery.{has_query_valid}
 use Rattle.sql_ast.proofs.Judged.{query_exactly, rule_exactly}
 use Rattle.sql_parse.specs.declared.refusal.SqlFault.{SqlFault}
 use Rattle.sql_parse.specs.Answers.{Answers, IfRule}
@@ -20,6 +21,10 @@ use Rattle.sql_parse.specs.Answers.{Answers, IfRule}
 pub is_found : (schema : Schema) (text : List ℕ) (r : Result Query (Fail SqlFault)) → Answers query r (query_of_text schema text) → IfOk r (λ q. HasQuery schema text (query q))
 is_found schema text (Ok q) h = (query_exactly schema text (query q)).1 h
 is_found schema text (Err e) h = tt
+
+pub is_valid : (schema : Schema) (text : List ℕ) (r : Result Query (Fail SqlFault)) → length text < 2 ^ 64 → Answers query r (query_of_text schema text) → IfOk r (λ q. IsQueryOf schema (query q))
+is_valid schema text (Ok q) short h = has_query_valid schema text (query q) short ((query_exactly schema text (query q)).1 h)
+is_valid schema text (Err e) short h = tt
 
 pub is_refused : (schema : Schema) (text : List ℕ) (r : Result Query (Fail SqlFault)) → Answers query r (query_of_text schema text) → IfErr r (IfRule (BreaksRule schema text))
 is_refused schema text (Ok q) h = tt

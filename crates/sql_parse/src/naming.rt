@@ -240,7 +240,8 @@ fn column_inside<'a>(
     parts: &'a RawParts,
     raw: &'a Option<Box<RawCond>>,
 ) -> Result<(SqlCol, FromItems, Option<Box<Cond>>), Stop>
-    ensures value { Gives (λ x. (x.0, x.1, inner_filter x.2)) result (column_in schema.now (knowns_of (in_sight known.old)) (col_of col.now) (parts_of parts.now) (filter_of raw.now)) }
+    ensures value { Gives (λ x. (x.0, x.1, inner_filter x.2)) result (
+        column_in schema.now (knowns_of (in_sight known.old)) (col_of col.now) (parts_of parts.now) (filter_of raw.now)) }
     ensures same { OnOk result (in_sight known.new ≡ in_sight known.old) }
 {
     let own = known_parts(alloc, schema, parts.as_slice())?;

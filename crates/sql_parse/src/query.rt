@@ -1,5 +1,5 @@
 // The query that a text has under a schema.
-ghost use Rattle.std.specs.Prelude.{◌≡◌, Ok, Err, IfOk, IfErr};
+ghost use Rattle.std.specs.Prelude.{◌≡◌, ◌<◌, ◌^◌, length, Ok, Err, IfOk, IfErr};
 ghost use Rattle.sql_ast.specs.Canonical.{canonical};
 ghost use Rattle.sql_ast.specs.Names.{named_query as named_query_of};
 ghost use Rattle.sql_ast.specs.Reader.{written_in, query_of_text};
@@ -54,6 +54,13 @@ fn find(alloc: Global, schema: &[Table], text: &Text) -> Result<Query, Fail<SqlF
     }
 }
 
+/// Reads the length of a text: that of any that is held has 64 bits. It changes nothing.
+fn read_length(text: &Text)
+    ensures { length text.now < 2 ^ 64 }
+{
+    let _length = text.as_str().len();
+}
+
 /// Reads the query that a text has under a schema. The fault is the smallest rule that the text
 /// breaks: `BadToken` where it isn't in the grammar, and of a text in the grammar `Unknown`,
 /// `Mismatch`, `BadGroup` or `BadParameter`, whichever comes first. The time that it takes grows
@@ -64,11 +71,14 @@ pub fn parse_query(alloc: Global, schema: &Schema, text: &Text) -> Result<Query,
     // What is read is a query that the text has, and what it has is read.
     ensures found { IfOk result (λ q. HasQuery schema.now text.now (plain_query q)) }
     ensures only { (q : PlainQuery) → HasQuery schema.now text.now q → Answers plain_query result (Ok q) }
+    // It is a query of the schema: its names are known, and its types, group and parameters fit.
+    ensures valid { IfOk result (λ q. IsQueryOf schema.now (plain_query q)) }
     // A fault is the first rule that the text breaks, and a text that breaks a rule is refused by it.
     ensures fault { IfErr result (IfRule (BreaksRule schema.now text.now)) }
     ensures refused { (rule : Rule) → BreaksRule schema.now text.now rule → Answers plain_query result (Err rule) }
     // The canonical text of a query is read as that query.
     ensures again { (q : PlainQuery) → IsQueryOf schema.now q → text.now ≡ canonical q → Answers plain_query result (Ok q) }
 {
+    read_length(text);
     find(alloc, schema.tables(), text)
 }

@@ -3,7 +3,7 @@ use Rattle.qbs_base.specs.Values.{Schema}
 use Rattle.sql_ast.specs.Reader.{query_of_text}
 use Rattle.sql_ast.specs.Reading.{query}
 use Rattle.sql_parse.specs.Answers.{Answers}
-use Rattle.sql_parse.proofs.Exactly.{is_found, is_refused, is_read, is_broken, is_again}
+use Rattle.sql_parse.proofs.Exactly.{is_found, is_valid, is_refused, is_read, is_broken, is_again}
 use Rattle.sql_parse.proofs.query.parse_query.Goals as goal
 
 pub returns : goal.returns
@@ -12,6 +12,7 @@ returns c =
     record {
       exact = found;
       found = is_found c.args.schema.now c.args.text.now c.find.result found;
+      valid = is_valid c.args.schema.now c.args.text.now c.find.result c.read_length.ensures found;
       only = is_read c.args.schema.now c.args.text.now c.find.result found;
       fault = is_refused c.args.schema.now c.args.text.now c.find.result found;
       refused = is_broken c.args.schema.now c.args.text.now c.find.result found;
