@@ -1,7 +1,10 @@
 -- The worked queries, computed.
-use Rattle.std.proofs.Common.{refl}
+use Rattle.std.proofs.Common.{[], ◌∷◌, refl}
 use Rattle.std.specs.Fmt.{digits}
-use Rattle.sql_emit.specs.Worked.{WorkedLists, WorkedFlags, WorkedNumbers, WorkedParameters, WorkedQueries}
+use Rattle.std.specs.Str.{is_utf8, chars}
+use Rattle.std.proofs.lemmas.Str.{IsUtf8-from_is_utf8}
+use lib.Utf8.{encode}
+use Rattle.sql_emit.specs.Worked.{WorkedLists, WorkedFlags, WorkedNumbers, WorkedParameters, WorkedTexts, WorkedQueries}
 
 lists : WorkedLists
 unfolding digits
@@ -61,5 +64,16 @@ parameters =
       second_first = record { text_is = refl; entries_are = refl };
     }
 
+texts : WorkedTexts
+unfolding is_utf8 chars encode
+texts =
+    record {
+      quotes =
+          record {
+            own = ((tt, IsUtf8-from_is_utf8 (79 ∷ 39 ∷ 78 ∷ 34 ∷ 92 ∷ 195 ∷ 169 ∷ []) refl), tt);
+            of_known = ((tt, IsUtf8-from_is_utf8 (195 ∷ 169 ∷ []) refl), tt);
+          };
+    }
+
 pub worked : WorkedQueries
-worked = record { lists = lists; flags = flags; numbers = numbers; parameters = parameters }
+worked = record { lists = lists; flags = flags; numbers = numbers; parameters = parameters; texts = texts }

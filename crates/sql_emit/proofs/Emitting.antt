@@ -1,6 +1,7 @@
 -- What is emitted, as the code makes it, and what the laws say of it.
 use Rattle.std.proofs.Common.{◌≡◌, ℕ, zero, suc, ◌<◌, ◌≤◌, true, List, [], ◌∷◌, map, length, slice_get, Some, None, option_map, Result, Ok, Err, IfOk, refl, sym, ap, ap₂, ◌∙◌, subst, arith}
 use Rattle.std.specs.List.{AllByRecursion}
+use Rattle.std.specs.Str.{IsUtf8}
 use Rattle.qbs_base.specs.declared.memory.NoMemory.{NoMemory}
 use Rattle.qbs_base.specs.declared.scalar.Ty.{Ty}
 use Rattle.qbs_base.specs.Values.{Schema}
@@ -18,20 +19,23 @@ use Rattle.kernel_lang.specs.Validity.{broken}
 use Rattle.kernel_lang.specs.Whole.{fragment_of}
 use Rattle.kernel_lang.proofs.Sentences.{valid}
 use Rattle.sql_ast.specs.Answers.{IsOrderComplete}
+use Rattle.sql_ast.specs.Canonical.{canonical}
 use Rattle.sql_ast.specs.Reading.{query}
 use Rattle.sql_ast.specs.Tree.{Filter, Everything, PlainQuery}
 use Rattle.sql_ast.specs.Valid.{IsQueryOf}
 use Rattle.sql_emit.specs.declared.emission.Emitted.{Emitted}
 use Rattle.sql_emit.specs.Emitted.{query_by, query_of, where_of}
-use Rattle.sql_emit.specs.Given.{AreKnownTo, IsHeld, IsOutermost, QueryIsCounted, SaysWhatIsClaimed, AnswersWhatIsClaimed}
+use Rattle.sql_emit.specs.Given.{AreKnownTo, IsHeld, IsOutermost, QueryIsCounted, SaysWhatIsClaimed, AnswersWhatIsClaimed, HasEntries, TextsAreUtf8, QueryIsUtf8}
 use Rattle.sql_emit.specs.Numbered.{Emission, filter_in, filter_uses, first_uses, renumbered_filter, with_filter, type_of, numbered_by, in_order, emission, emitted}
 use Rattle.sql_emit.specs.Reading.{emission_of, number_first}
 use Rattle.sql_emit.specs.Scopes.{Ground, ground}
 use Rattle.sql_emit.proofs.Claims.{says}
 use Rattle.sql_emit.proofs.Complete.{complete}
+use Rattle.sql_emit.proofs.Entries.{entries_are}
 use Rattle.sql_emit.proofs.Flagged.{member_is}
 use Rattle.sql_emit.proofs.Queries.{le_of, grammatical}
 use Rattle.sql_emit.proofs.Tools.{some_eq}
+use Rattle.sql_emit.proofs.Utf8.{queries_are_utf8}
 use Rattle.sql_emit.proofs.Valid.{MemberAt, chain_parts, member_at}
 
 -- ---- what a fragment's accumulators are
@@ -116,6 +120,18 @@ module _ (schema : Schema) (f : Fragment) (cand : List ℕ) (acc : ℕ) (known :
   pub order_by : (r : Result Emitted NoMemory) → IfOk r (λ e. Some (emission_of e) ≡ emitted schema f cand acc known args) → IfOk r (λ e. IsOrderComplete (query e.query))
   order_by (Err e) h = tt
   order_by (Ok e) h = subst (λ (x : Emission). IsOrderComplete x.query) (sym (is_defined (emission_of e) h)) (complete schema f cand known args acc (out.accumulator, member.choice) unbroken member.there)
+
+  pub entries_by : AreKnownTo schema f known args → (r : Result Emitted NoMemory) → IfOk r (λ e. Some (emission_of e) ≡ emitted schema f cand acc known args) → IfOk r (λ e. HasEntries f (emission_of e))
+  entries_by are (Err e) h = tt
+  entries_by are (Ok e) h = subst (HasEntries f) (sym (is_defined (emission_of e) h)) (entries_are schema f known args unbroken are cand (out.accumulator, member.choice))
+
+  pub utf8_by : TextsAreUtf8 f known
+      → (r : Result Emitted NoMemory) → IfOk r (λ e. Some (emission_of e) ≡ emitted schema f cand acc known args) → IfOk r (λ e. IsQueryOf schema (query e.query)) → IfOk r (λ e. IsUtf8 (canonical (query e.query)))
+  utf8_by texts (Err e) h grammar = tt
+  utf8_by texts (Ok e) h grammar =
+      let same : QueryIsUtf8 schema (query e.query) =
+      subst (λ (x : Emission). QueryIsUtf8 schema x.query) (sym (is_defined (emission_of e) h)) (queries_are_utf8 schema f known args unbroken texts cand acc (out.accumulator, member.choice) member.there) in
+      same.text grammar
 
   pub meaning_by : is_typed schema f ≡ true → AreKnownTo schema f known args
       → (r : Result Emitted NoMemory) → IfOk r (λ e. Some (emission_of e) ≡ emitted schema f cand acc known args) → IfOk r (λ e. AnswersWhatIsClaimed schema f cand acc known args (emission_of e))

@@ -1,5 +1,4 @@
 pub mod Emitting
-pub mod Outside
 pub mod Computed
 pub mod Uses
 pub mod Flagged
@@ -33,3 +32,5 @@ pub mod Flags
 pub mod Valid
 pub mod Limits
 pub mod Nest
+pub mod Entries
+pub mod Utf8

@@ -115,7 +115,7 @@ module _ (P : ℕ → Type 0) where
       go true = h
       go false = push seen h
 
-  only_used : (seen ns : List ℕ) → AllByRecursion P seen → AllByRecursion P ns → AllByRecursion P (first_uses seen ns)
+  pub only_used : (seen ns : List ℕ) → AllByRecursion P seen → AllByRecursion P ns → AllByRecursion P (first_uses seen ns)
   only_used seen [] h u = h
   only_used seen (n ∷ ns) h u = only_used (entered seen n) ns (entered_all seen n h u.0) u.1
 

@@ -1,6 +1,7 @@
 -- What a query is emitted from, and what it means.
 use Rattle.std.specs.Prelude.{◌≡◌, ℕ, ◌+◌, ◌<◌, ◌^◌, false, List, [], ◌∷◌, map, length, slice_get}
 use Rattle.std.specs.List.{AllByRecursion}
+use Rattle.std.specs.Str.{IsUtf8}
 use Rattle.std.specs.declared.option.Option.{Option}
 use Rattle.std.specs.declared.option.Option.TheVariants.{Some, None}
 use Rattle.qbs_base.specs.declared.scalar.Scalar.{Scalar}
@@ -21,12 +22,15 @@ use Rattle.kernel_lang.specs.Postcondition.{claimed}
 use Rattle.kernel_lang.specs.Typed.{operand_type}
 use Rattle.sql_ast.specs.declared.tree.SqlCol.{SqlCol}
 use Rattle.sql_ast.specs.declared.tree.SqlItem.TheVariants as items
+use Rattle.sql_ast.specs.Canonical.{canonical}
 use Rattle.sql_ast.specs.Meaning.{Answered, Rows, One, number_answered, plain_row, query_answer}
 use Rattle.sql_ast.specs.Tree.{Condition, Both, Either, Not, Compare, Bare, Exists, Within, Filter, Everything, Where, PlainListing, PlainQuery, Listing, Number, Truth}
 use Rattle.sql_ast.specs.Typing.{ty_of_col}
-use Rattle.sql_ast.specs.Valid.{FitsScalar, IsQueryOf}
-use Rattle.sql_emit.specs.Emitted.{item_col}
-use Rattle.sql_emit.specs.Numbered.{Emission}
+use Rattle.sql_ast.specs.Utf8.{ScalarIsUtf8, LiteralsAreUtf8}
+use Rattle.sql_ast.specs.Valid.{FitsScalar, IsQueryOf, params_in}
+use Rattle.sql_emit.specs.Emitted.{item_col, query_of}
+use Rattle.sql_emit.specs.Numbered.{Emission, in_order}
+use Rattle.sql_emit.specs.Scopes.{ground}
 
 -- an accumulator that stands outside all loops
 pub record IsOutermost (f : Fragment) (acc : ℕ) : Type 0 where
@@ -108,6 +112,46 @@ SaysWhatIsClaimed schema f cand known args m e =
 -- of the accumulator of this number, with what the candidate chooses for it
 abbrev pub AnswersWhatIsClaimed : Schema → Fragment → List ℕ → ℕ → List PlainQuery → List (List ℕ) → Emission → Type 0
 AnswersWhatIsClaimed schema f cand acc known args e = (m : Member) → slice_get (members f cand) acc ≡ Some m → SaysWhatIsClaimed schema f cand known args m e
+
+-- ---- The entries of a query's parameters
+
+-- each is an entry of the fragment, and has the type of its parameter
+pub record HasEntries (f : Fragment) (e : Emission) : Type 0 where
+  pub there : AllByRecursion (λ k. k < length f.entries) e.entries
+  pub types : map (slice_get f.entries) e.entries ≡ map Some (params_in e.query)
+
+-- so it is for each accumulator, whatever is chosen for it
+abbrev pub EntriesAreThere : Schema → Fragment → List PlainQuery → List (List ℕ) → Type 0
+EntriesAreThere schema f known args = (cand : List ℕ) (m : Member) → HasEntries f (in_order f.entries (query_of (ground schema f cand known args) m))
+
+-- ---- Text literals
+
+abbrev pub LiteralIsUtf8 : Operand → Type 0
+LiteralIsUtf8 (operands.Field j c) = Unit {0}
+LiteralIsUtf8 (operands.Entry k) = Unit {0}
+LiteralIsUtf8 (operands.Lit x) = ScalarIsUtf8 x
+
+abbrev pub AtomIsUtf8 : Atom → Type 0
+AtomIsUtf8 (atoms.Less a b) = LiteralIsUtf8 a × LiteralIsUtf8 b
+AtomIsUtf8 (atoms.Same a b) = LiteralIsUtf8 a × LiteralIsUtf8 b
+AtomIsUtf8 (atoms.Truth a) = LiteralIsUtf8 a
+AtomIsUtf8 (atoms.Member a q) = LiteralIsUtf8 a
+AtomIsUtf8 (atoms.Flag k loops) = Unit {0}
+
+-- the text literals of a fragment's atoms and of its known queries are UTF-8
+pub record TextsAreUtf8 (f : Fragment) (known : List PlainQuery) : Type 0 where
+  pub own : AllByRecursion AtomIsUtf8 f.atoms
+  pub of_known : AllByRecursion LiteralsAreUtf8 known
+
+-- its literals are UTF-8, and where it is a query of the schema, its canonical text is
+pub record QueryIsUtf8 (schema : Schema) (q : PlainQuery) : Type 0 where
+  pub literals : LiteralsAreUtf8 q
+  pub text : IsQueryOf schema q → IsUtf8 (canonical q)
+
+-- so it is for each accumulator, whatever is chosen for it
+abbrev pub QueriesAreUtf8 : Schema → Fragment → List PlainQuery → List (List ℕ) → Type 0
+QueriesAreUtf8 schema f known args =
+    (cand : List ℕ) (acc : ℕ) (m : Member) → slice_get (members f cand) acc ≡ Some m → QueryIsUtf8 schema (in_order f.entries (query_of (ground schema f cand known args) m)).query
 
 -- ---- What code alone can hold: numbers of 64 bits, and FROM items that can be counted
 

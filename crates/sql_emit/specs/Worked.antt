@@ -24,6 +24,7 @@ use Rattle.sql_ast.specs.Canonical.{canonical}
 use Rattle.sql_ast.specs.Tree.{PlainQuery, Listing, Compare, Where}
 use Rattle.sql_ast.specs.Worked.{schema}
 use Rattle.sql_emit.specs.Emitted.{position_key}
+use Rattle.sql_emit.specs.Given.{TextsAreUtf8}
 use Rattle.sql_emit.specs.Numbered.{Emission, emitted}
 
 abbrev pub text_of : Option Emission → List ℕ
@@ -177,9 +178,14 @@ pub record WorkedParameters : Type 0 where
   pub twice : Has entry_twice (0 ∷ 1 ∷ []) [] [] (codes "SELECT t1.* FROM User t1 WHERE (t1.age = ?1 OR t1.roleId = ?1) AND t1.id <> ?1 ORDER BY t1._pos") (0 ∷ [])
   pub second_first : Has other_order (0 ∷ []) [] [] (codes "SELECT t1.* FROM User t1 WHERE t1.age < ?1 AND t1.name = ?2 ORDER BY t1._pos") (1 ∷ 0 ∷ [])
 
+-- literals with a letter of two bytes, in a fragment and in a known query
+pub record WorkedTexts : Type 0 where
+  pub quotes : TextsAreUtf8 quoted (roles_labelled (opnds.Lit (scalars.Text (195 ∷ 169 ∷ []))) [] ∷ [])
+
 -- fragments with the texts of their queries, for the schema of the worked queries
 pub record WorkedQueries : Type 0 where
   pub lists : WorkedLists
   pub flags : WorkedFlags
   pub numbers : WorkedNumbers
   pub parameters : WorkedParameters
+  pub texts : WorkedTexts

@@ -1,15 +1,17 @@
 // The query of an accumulator, with the entries of its parameters.
 ghost use Rattle.std.specs.Prelude.{◌≡◌, ◌<◌, ◌≤◌, true, length, map, IfOk, Some, slice_get};
+ghost use Rattle.std.specs.Str.{IsUtf8};
 ghost use Rattle.tor_terms.specs.Plain.{forms_of};
 ghost use Rattle.kernel_lang.specs.Plain.{accumulator};
 ghost use Rattle.kernel_lang.specs.Pools.{chosen};
 ghost use Rattle.kernel_lang.specs.Typed.{is_typed};
 ghost use Rattle.kernel_lang.specs.Whole.{fragment_of};
 ghost use Rattle.sql_ast.specs.Answers.{IsOrderComplete};
+ghost use Rattle.sql_ast.specs.Canonical.{canonical};
 ghost use Rattle.sql_ast.specs.Reading.{query};
 ghost use Rattle.sql_ast.specs.Valid.{IsQueryOf};
 ghost use Rattle.sql_emit.specs.Emitted.{query_of};
-ghost use Rattle.sql_emit.specs.Given.{AreKnownTo, IsOutermost, AnswersWhatIsClaimed};
+ghost use Rattle.sql_emit.specs.Given.{AreKnownTo, IsOutermost, AnswersWhatIsClaimed, HasEntries};
 ghost use Rattle.sql_emit.specs.Numbered.{emitted, in_order};
 ghost use Rattle.sql_emit.specs.Reading.{ground_of, emission_of, AreShort};
 ghost use Rattle.sql_emit.specs.Scopes.{ground as plain_ground};
@@ -20,6 +22,7 @@ use crate::ground::Ground;
 use crate::held::read_numbers;
 use crate::numbered::{order_of, renumbered_filter, types_in};
 use crate::query::query_by;
+use crate::texts::read_texts;
 use kernel_lang::{Acc, Candidate, KFragment};
 use qbs_base::{NoMemory, NumberLists, Numbers, Ty};
 use schema::Schema;
@@ -75,7 +78,9 @@ fn emission(
     requires some { 0 < length acc.now.chain }
     requires few { length acc.now.chain ≤ 3 }
     requires short { AreShort g }
-    ensures { IfOk result (λ e. emission_of e ≡ in_order types.now (query_of (ground_of g.entry) (accumulator acc.now, chosen g.entry.cand.now first (forms_of acc.now.pool)))) }
+    ensures { IfOk result (λ e.
+        emission_of e
+        ≡ in_order types.now (query_of (ground_of g.entry) (accumulator acc.now, chosen g.entry.cand.now first (forms_of acc.now.pool)))) }
 {
     let filter = accumulator_filter(alloc, g, acc, first)?;
     let order = order_of(alloc, &filter)?;
@@ -120,8 +125,9 @@ pub fn emit_exactly(
 /// The query is of the grammar of queries, and a list query has one answer. On every database of the
 /// schema, with the values of its entries, it answers what is claimed: a number is too large exactly
 /// where it isn't in 64 bits, and a set is the list of first occurrences. Its parameters are numbered
-/// by first occurrence. `NoMemory` comes where memory runs out, and where a FROM item of a known query
-/// has a number past 32 bits.
+/// by first occurrence, and each takes the value of an entry of the fragment, of its type. Its
+/// canonical text is UTF-8. `NoMemory` comes where memory runs out, and where a FROM item of a known
+/// query has a number past 32 bits.
 pub fn emit(
     alloc: Global,
     schema: &Schema,
@@ -137,10 +143,14 @@ pub fn emit(
     ensures exact { IfOk result (λ e. Some (emission_of e) ≡ emitted schema.now (fragment_of frag.now) cand.now acc (map query known.now) known_args.now) }
     ensures grammar { IfOk result (λ e. IsQueryOf schema.now (query e.query)) }
     ensures order { IfOk result (λ e. IsOrderComplete (query e.query)) }
+    ensures entries { IfOk result (λ e. HasEntries (fragment_of frag.now) (emission_of e)) }
+    ensures utf8 { IfOk result (λ e. IsUtf8 (canonical (query e.query))) }
     ensures meaning { IfOk result (λ e. AnswersWhatIsClaimed schema.now (fragment_of frag.now) cand.now acc (map query known.now) known_args.now (emission_of e)) }
 {
     read_numbers(frag);
-    count_queries(known.as_slice())?;
+    let queries = known.as_slice();
+    count_queries(queries)?;
+    read_texts(frag, queries);
     // Whose names are those of a schema, as the grammar asks.
     let _tables = schema.tables();
     emit_exactly(alloc, schema, frag, cand, acc, known, known_args)

@@ -64,7 +64,8 @@ fn limit_of_loop(
     j: u32,
     filter: Option<Cond>,
 ) -> Result<Option<Cond>, NoMemory>
-    ensures { IfOk result (λ f. filter_of f ≡ all_also (filter_of filter) (spec.limit_tests n (list_of (ground_of g.entry) j).keys (list_of (ground_of g.entry) j).limit)) }
+    ensures { IfOk result (λ f.
+        filter_of f ≡ all_also (filter_of filter) (spec.limit_tests n (list_of (ground_of g.entry) j).keys (list_of (ground_of g.entry) j).limit)) }
 {
     match g.lists.get(j as usize) {
         Some(list) => limit_of_list(alloc, n, list, filter),
@@ -152,7 +153,10 @@ fn quiet_formulas(
 ) -> Result<Option<Cond>, NoMemory>
     requires small { IsSmall s }
     requires room { first + length pool.now < 2 ^ 32 }
-    ensures { IfOk result (λ f. filter_of f ≡ all_also (filter_of filter) (map (spec.formula spec.no_flag (ground_of g.entry) (scope_of s.entry)) (chosen g.entry.cand.now first (forms_of pool.now)))) }
+    ensures { IfOk result (λ f.
+        filter_of f
+        ≡ all_also (filter_of filter) (
+        map (spec.formula spec.no_flag (ground_of g.entry) (scope_of s.entry)) (chosen g.entry.cand.now first (forms_of pool.now)))) }
 {
     match pool.split_first() {
         None => Ok(filter),
@@ -181,7 +185,13 @@ fn quiet_filter(
     requires small { IsSmall s }
     requires place { n ≤ 6 }
     requires room { first + length acc.now.pool < 2 ^ 32 }
-    ensures { IfOk result (λ f. filter_of f ≡ spec.joined (spec.conditions spec.no_flag (ground_of g.entry) (scope_of s.entry) n s.entry.own.now (accumulator acc.now, chosen g.entry.cand.now first (forms_of acc.now.pool)))) }
+    ensures { IfOk result (λ f.
+        filter_of f
+        ≡ spec.joined (
+        spec.conditions spec.no_flag (ground_of g.entry) (scope_of s.entry) n s.entry.own.now (
+          accumulator acc.now,
+          chosen g.entry.cand.now first (forms_of acc.now.pool),
+        ))) }
 {
     let filter = limits(alloc, g, n, s.own, None)?;
     let filter = quiet_formulas(alloc, g, s, first, acc.pool.as_slice(), filter)?;
@@ -236,7 +246,10 @@ fn flag_exists(alloc: Global, g: Ground, s: Scope, acc: &Acc, first: u32) -> Res
     requires some { 0 < length s.own.now }
     requires few { length s.own.now ≤ 3 }
     requires short { length acc.now.chain ≤ 3 }
-    ensures { IfOk result (λ c. condition c ≡ spec.flag_exists (ground_of g.entry) (scope_of s.entry) (Some (accumulator acc.now, chosen g.entry.cand.now first (forms_of acc.now.pool)))) }
+    ensures { IfOk result (λ c.
+        condition c
+        ≡ spec.flag_exists (ground_of g.entry) (scope_of s.entry) (
+        Some (accumulator acc.now, chosen g.entry.cand.now first (forms_of acc.now.pool)))) }
 {
     let own = flag_loops(acc);
     with_room(first, acc.pool.len())?;
@@ -270,7 +283,9 @@ fn literal(alloc: Global, g: Ground, s: Scope, k: u32, holds: bool) -> Result<Co
     requires some { 0 < length s.own.now }
     requires few { length s.own.now ≤ 3 }
     requires short { AreShort g }
-    ensures { IfOk result (λ c. condition c ≡ spec.literal (spec.flag_condition (ground_of g.entry)) (ground_of g.entry) (scope_of s.entry) (slice_get g.entry.atoms.now k) holds) }
+    ensures { IfOk result (λ c.
+        condition c
+        ≡ spec.literal (spec.flag_condition (ground_of g.entry)) (ground_of g.entry) (scope_of s.entry) (slice_get g.entry.atoms.now k) holds) }
 {
     match g.atoms.get(k as usize) {
         None => Ok(fixed(!holds)),
@@ -318,7 +333,10 @@ fn formulas(
     requires few { length s.own.now ≤ 3 }
     requires short { AreShort g }
     requires room { first + length pool.now < 2 ^ 32 }
-    ensures { IfOk result (λ f. filter_of f ≡ all_also (filter_of filter) (map (spec.formula (spec.flag_condition (ground_of g.entry)) (ground_of g.entry) (scope_of s.entry)) (chosen g.entry.cand.now first (forms_of pool.now)))) }
+    ensures { IfOk result (λ f.
+        filter_of f
+        ≡ all_also (filter_of filter) (
+        map (spec.formula (spec.flag_condition (ground_of g.entry)) (ground_of g.entry) (scope_of s.entry)) (chosen g.entry.cand.now first (forms_of pool.now)))) }
 {
     match pool.split_first() {
         None => Ok(filter),

@@ -12,9 +12,7 @@ pub mod laws;
 mod literal;
 mod numbered;
 mod query;
+mod texts;
 mod within;
 
-pub use emission::{Emitted, emit};
-
-#[cfg(test)]
-mod tests;
+pub use emission::{Emitted, emit, emit_exactly};

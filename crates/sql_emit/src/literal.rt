@@ -70,7 +70,9 @@ fn compared(
     b: &Operand,
 ) -> Result<Cond, NoMemory>
     requires { IsSmall s }
-    ensures { IfOk result (λ c. condition c ≡ plain.Compare cmp (spec.side (ground_of g.entry) (scope_of s.entry) a.now) (spec.side (ground_of g.entry) (scope_of s.entry) b.now)) }
+    ensures { IfOk result (λ c.
+        condition c
+        ≡ plain.Compare cmp (spec.side (ground_of g.entry) (scope_of s.entry) a.now) (spec.side (ground_of g.entry) (scope_of s.entry) b.now)) }
 {
     let a = side(alloc, g, s, a)?;
     let b = side(alloc, g, s, b)?;
@@ -165,7 +167,9 @@ fn member(
     holds: bool,
 ) -> Result<Cond, NoMemory>
     requires { IsSmall s }
-    ensures { IfOk result (λ c. condition c ≡ spec.within_query (ground_of g.entry) (scope_of s.entry) a.now (spec.args_of (slice_get g.entry.args.now number)) (slice_get (ground_of g.entry).known number) holds) }
+    ensures { IfOk result (λ c.
+        condition c
+        ≡ spec.within_query (ground_of g.entry) (scope_of s.entry) a.now (spec.args_of (slice_get g.entry.args.now number)) (slice_get (ground_of g.entry).known number) holds) }
 {
     let args: &[u64] = match g.args.get(number as usize) {
         Some(args) => args.as_slice(),

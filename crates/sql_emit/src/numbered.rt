@@ -128,7 +128,9 @@ fn renumbered_within(
     parts: Membership,
     filter: Option<Cond>,
 ) -> Result<Cond, NoMemory>
-    ensures { IfOk result (λ c. condition c ≡ plain.Within (spec.renumbered_opnd order.now parts.entry.opnd.now) parts.entry.negated parts.entry.col.now parts.entry.from.now (filter_of filter)) }
+    ensures { IfOk result (λ c.
+        condition c
+        ≡ plain.Within (spec.renumbered_opnd order.now parts.entry.opnd.now) parts.entry.negated parts.entry.col.now parts.entry.from.now (filter_of filter)) }
 {
     let opnd = renumbered_opnd(order, parts.opnd)?;
     let col = parts.col.clone()?;

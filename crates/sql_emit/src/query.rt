@@ -152,7 +152,9 @@ fn sum_query(
     params: Tys,
 ) -> Result<Query, NoMemory>
     requires { length loops.now ≤ 3 }
-    ensures { IfOk result (λ q. query q ≡ with_filter (spec.number_query (ground_of g.entry) loops.now (NumberKind.Sum (spec.elem_col (ground_of g.entry) (outermost loops.now) e.now) (pos 0)) plain.Everything) (filter_of filter) params) }
+    ensures { IfOk result (λ q.
+        query q
+        ≡ with_filter (spec.number_query (ground_of g.entry) loops.now (NumberKind.Sum (spec.elem_col (ground_of g.entry) (outermost loops.now) e.now) (pos 0)) plain.Everything) (filter_of filter) params) }
 {
     let col = loop_col(alloc, g, loops, e)?;
     number_query(alloc, g, loops, NumberKind::Sum(col, 0), filter, params)
@@ -168,7 +170,9 @@ fn best_query(
     params: Tys,
 ) -> Result<Query, NoMemory>
     requires { length acc.now.chain ≤ 3 }
-    ensures { IfOk result (λ q. query q ≡ with_filter (spec.number_query (ground_of g.entry) acc.now.chain (spec.best_kind way (spec.elem_col (ground_of g.entry) (outermost acc.now.chain) e.now) acc.now.start) plain.Everything) (filter_of filter) params) }
+    ensures { IfOk result (λ q.
+        query q
+        ≡ with_filter (spec.number_query (ground_of g.entry) acc.now.chain (spec.best_kind way (spec.elem_col (ground_of g.entry) (outermost acc.now.chain) e.now) acc.now.start) plain.Everything) (filter_of filter) params) }
 {
     let loops = acc.chain.as_slice();
     let col = loop_col(alloc, g, loops, e)?;
@@ -183,7 +187,10 @@ fn truth_query(
     filter: Option<Cond>,
     params: Tys,
 ) -> Result<Query, NoMemory>
-    ensures { IfOk result (λ q. query q ≡ plain.Truth (record { negated = acc.now.opposite; from = from_items_of (ground_of g.entry) acc.now.chain; filter = filter_of filter; params = params })) }
+    ensures { IfOk result (λ q.
+        query q
+        ≡ plain.Truth (
+        record { negated = acc.now.opposite; from = from_items_of (ground_of g.entry) acc.now.chain; filter = filter_of filter; params = params })) }
 {
     let from = from_items(alloc, g, acc.chain.as_slice())?;
     Ok(Query::Truth(TruthQuery {
@@ -203,7 +210,9 @@ pub fn query_by(
     params: Tys,
 ) -> Result<Query, NoMemory>
     requires { length acc.now.chain ≤ 3 }
-    ensures { IfOk result (λ q. query q ≡ with_filter (spec.query_by acc.now.update (ground_of g.entry) (accumulator acc.now, []) plain.Everything) (filter_of filter) params) }
+    ensures { IfOk result (λ q.
+        query q
+        ≡ with_filter (spec.query_by acc.now.update (ground_of g.entry) (accumulator acc.now, []) plain.Everything) (filter_of filter) params) }
 {
     let loops = acc.chain.as_slice();
     match &acc.update {

@@ -94,7 +94,9 @@ fn moved_within(
     parts: Membership,
     filter: Option<Cond>,
 ) -> Result<Cond, NoMemory>
-    ensures { IfOk result (λ c. condition c ≡ plain.Within (spec.moved_opnd n args.now parts.entry.opnd.now) parts.entry.negated (spec.moved_col n parts.entry.col.now) parts.entry.from.now (filter_of filter)) }
+    ensures { IfOk result (λ c.
+        condition c
+        ≡ plain.Within (spec.moved_opnd n args.now parts.entry.opnd.now) parts.entry.negated (spec.moved_col n parts.entry.col.now) parts.entry.from.now (filter_of filter)) }
 {
     let opnd = moved_opnd(n, args, parts.opnd)?;
     let col = moved_col(n, parts.col)?;

@@ -1,5 +1,5 @@
-//! Tests of terms, their rules and derivations, and of fragments, over public
-//! calls alone.
+//! Tests of terms, their rules and derivations, of fragments and of the queries
+//! that are emitted, over public calls alone.
 #![tactic(auto)]
 
 #[cfg(test)]
@@ -10,6 +10,8 @@ mod candidates;
 mod conditions;
 #[cfg(test)]
 mod derivations;
+#[cfg(test)]
+mod emitted;
 #[cfg(test)]
 mod fragments_run;
 #[cfg(test)]

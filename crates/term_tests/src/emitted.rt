@@ -7,8 +7,6 @@ ghost use Rattle.sql_emit.specs.Given.{IsOutermost};
 
 mod fragments;
 
-use crate::emission::emit_exactly;
-use crate::{Emitted, emit};
 use fragments::{
     class_a, class_b, class_e, class_f, class_h, class_j, class_v, entry_twice, first_users, items,
     known_role, nested, of_all_users, other_order, quoted, roles_labelled, two_conjuncts,
@@ -17,6 +15,7 @@ use kernel_lang::{Candidate, KFragment, Parts, Update};
 use qbs_base::{Items, NoMemory, NumberLists, Scalar, Text, Ty};
 use schema::{Schema, parse_schema};
 use sql_ast::{Queries, SqlOpnd, print_query};
+use sql_emit::{Emitted, emit, emit_exactly};
 use std::alloc::Global;
 use std::process::Abort;
 use tor_terms::{Elem, Way};

@@ -1,8 +1,8 @@
 use Rattle.std.proofs.Common.{sym, subst}
 use Rattle.kernel_lang.specs.Plain.{Fragment}
 use Rattle.sql_emit.specs.Given.{IsOutermost}
-use Rattle.sql_emit.proofs.Outside.{class_A_outside}
-use Rattle.sql_emit.proofs.tests.emitted_for.Goals as goal
+use Rattle.term_tests.proofs.Outside.{class_A_outside}
+use Rattle.term_tests.proofs.emitted.emitted_for.Goals as goal
 
 pub emit-requires-clause-outermost : goal.emit-requires-clause-outermost
 emit-requires-clause-outermost c = subst (λ (f : Fragment). IsOutermost f 0) (sym c.requires) class_A_outside
