@@ -14,7 +14,8 @@ ghost use Rattle.java_loops.specs.Walks.Examples.{b, i, u, xs, table, first_two,
 /// middle sets, what the last statement reads is needed too.
 pub fn examples_count_and_give_way()
     ensures counts { (at : Span) → IsCountingText table i xs u (Some 2) (first_two at) (adding at) }
-    ensures may { (c : Frame) (at : Span) → MayGiveWay c none_visible (types_past c.schema none_visible (replacement kept_names (starting at) (set_at_once at))) (starting at) (until_set at) kept_names (set_at_once at) }
+    ensures may { (c : Frame) (at : Span)
+        → MayGiveWay c none_visible (types_past c.schema none_visible (replacement kept_names (starting at) (set_at_once at))) (starting at) (until_set at) kept_names (set_at_once at) }
     ensures moved { (at : Span) → needed (bytes_eq b) no_names (moving at) u ≡ true }
     ensures to { (at : Span) → replacement kept_names (starting at) (set_at_once at) ≡ set_before at }
 {}

@@ -12,7 +12,10 @@ pub fn repeated_walks_come_to_the_needed_variables()
     ensures least { (base dropped : Set) (run : Statements) (r : Set) (x : List ℕ) → IsClosed base dropped run r → IsNeeded base dropped run x → r x ≡ true }
     ensures adds_needed { (base dropped : Set) (run : Statements) (r : Set) → AreNeeded base dropped run r → AreNeeded base dropped run (walked dropped run r) }
     ensures covers { (dropped : Set) (run : Statements) (r : Set) (x : List ℕ) → r x ≡ true → walked dropped run r x ≡ true }
-    ensures closed { (base dropped : Set) (run : Statements) (r : Set) → ((x : List ℕ) → base x ≡ true → r x ≡ true) → ((x : List ℕ) → walked dropped run r x ≡ true → r x ≡ true) → IsClosed base dropped run r }
+    ensures closed { (base dropped : Set) (run : Statements) (r : Set)
+        → ((x : List ℕ) → base x ≡ true → r x ≡ true)
+        → ((x : List ℕ) → walked dropped run r x ≡ true → r x ≡ true)
+        → IsClosed base dropped run r }
 {}
 
 /// The set that is defined by so many walks as the run has statements, and one, is closed and holds the needed

@@ -16,7 +16,8 @@ use Rattle.java_loops.specs.Kernel.KernelLoop.{broken_loop}
 use Rattle.loop_text.specs.Statements.Names.{Names, is_among, mentioned_in}
 use Rattle.java_loops.specs.Kernel.Setting.{Setting}
 use Rattle.loop_text.specs.Statements.Setting.{touches, first_touching, is_found, given_by}
-use Rattle.java_loops.proofs.Kept.KeptRuns.{mentions_are, stands_here, simple_in, base_of, dropped_of, kept_set}
+use Rattle.java_loops.specs.Meant.KeptNumbers.{base_of, dropped_of, kept_set}
+use Rattle.java_loops.proofs.Kept.KeptRuns.{mentions_are, stands_here, simple_in}
 use Rattle.java_loops.proofs.Nested.NestCounter.{Kind, each, counts, loop_kind, counted_name}
 use Rattle.java_loops.proofs.Nested.NestRules.{Unbroken}
 use Rattle.java_loops.proofs.Nested.NestStarts.{Starts, here, later, accumulator_starts, counter_starts}

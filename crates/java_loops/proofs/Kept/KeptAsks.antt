@@ -34,7 +34,8 @@ use Rattle.loop_text.specs.Sites.Sites.{is_some}
 use Rattle.java_loops.proofs.Typing.BoundTyping.{TypedDeclare, typed_declare, TypedAssign, typed_assign}
 use Rattle.java_loops.proofs.Kept.KeptAlone.{given_sets, untouched_parts, dropped_started, kept_read, live_uncounted}
 use Rattle.java_loops.proofs.Kept.KeptMeant.{meant_there}
-use Rattle.java_loops.proofs.Kept.KeptRuns.{dropped_of, kept_set, IsKeptSet, is_kept_set}
+use Rattle.java_loops.specs.Meant.KeptNumbers.{dropped_of, kept_set}
+use Rattle.java_loops.proofs.Kept.KeptRuns.{IsKeptSet, is_kept_set}
 use Rattle.java_loops.proofs.Known.KnownNumbers.{IsGoodEntry, entries_good}
 use Rattle.java_loops.proofs.Listed.ListedRows.{fragment_seen}
 use Rattle.java_loops.proofs.Meant.MeanChains.{IsNeeded, all_needed}

@@ -25,7 +25,8 @@ use Rattle.java_loops.specs.Meant.Means.{GoesOnAsItsFragment, MeansItsLoop, Mean
 use Rattle.loop_text.specs.Statements.Names.{Names, is_among}
 use Rattle.java_loops.specs.Kernel.Setting.{Setting, setting_of}
 use Rattle.java_loops.proofs.Kept.KeptAlone.{kept_read, live_uncounted}
-use Rattle.java_loops.proofs.Kept.KeptRuns.{kept_set, IsKeptSet, is_kept_set, numbers_keep}
+use Rattle.java_loops.specs.Meant.KeptNumbers.{kept_set}
+use Rattle.java_loops.proofs.Kept.KeptRuns.{IsKeptSet, is_kept_set, numbers_keep}
 use Rattle.java_loops.proofs.Lowering.LowerChains.{fragment_chains, at_setting}
 use Rattle.java_loops.proofs.Meant.MeanWhole.{fragment_means}
 use Rattle.java_loops.proofs.Nested.NestRules.{Unbroken}

@@ -3,7 +3,7 @@ use Rattle.std.proofs.Common.{◌≡◌, ℕ, zero, suc, ◌+◌, ◌≤◌, Boo
 use Rattle.qbs_base.specs.Values.{Schema}
 use Rattle.sql_ast.specs.Tree.{PlainQuery}
 use Rattle.java_ast.specs.Path as paths
-use Rattle.java_ast.specs.Path.{found_in, and_then, numbered, branch_of, behind_of, last_of, replaced_in, replaced_at}
+use Rattle.java_ast.specs.Path.{found_in, and_then, numbered, branch_of, behind_of, last_of, statement_in, statement_at, replaced_in, replaced_at}
 use Rattle.java_ast.specs.Tree.{Statement, Statements, Nothing, Then, PlainMethod, PlainProgram}
 use Rattle.java_mean.specs.Keeps.{Keeps, with_body, with_methods}
 use Rattle.java_mean.specs.Numbers.{NumbersFit}
@@ -26,11 +26,13 @@ use Rattle.java_loops.specs.Lowering.Lowered.{names_read}
 use Rattle.loop_text.specs.Statements.Names.{Names, with_names, declared_among, walking, names_of_params}
 use Rattle.java_loops.specs.Kernel.Setting.{Setting, setting_of}
 use Rattle.java_loops.proofs.Kept.KeptAsks.{asks_stand}
-use Rattle.java_loops.proofs.Kept.KeptRuns.{kept_set, is_kept_set, numbers_keep}
+use Rattle.java_loops.specs.Meant.KeptNumbers.{kept_set}
+use Rattle.java_loops.proofs.Kept.KeptRuns.{is_kept_set, numbers_keep}
 use Rattle.java_loops.proofs.Lowering.LowerChains.{at_setting}
 use Rattle.java_loops.proofs.Lowering.LowerKeeps.{fragment_text_keeps}
 use Rattle.java_loops.proofs.Meant.MeanReplaced.{with_statements}
-use Rattle.java_loops.proofs.Placing.Place.{and_then_is, run_followed}
+use Rattle.java_loops.specs.Meant.LoopStands.{LoopStands}
+use Rattle.java_loops.proofs.Placing.Place.{IsPlacedIn, placed_at, and_then_is, run_followed}
 use Rattle.java_loops.proofs.Placing.PlaceTyped.{FragmentThere}
 
 -- ---- The number of the first statement
@@ -159,3 +161,22 @@ loops_give_way schema reader p path w first kept ks well fits is rules begins nu
     at_setting (λ (v : Setting). fragment_at path p ≡ Some v.fragment → AreKept v.fragment (names_read (lowering v).entries) first v.fragment.run kept → AskForLoop schema reader.read p path v ks → IsWellTyped schema reader.read (rewritten_at path first kept v ks p) → NumbersFit (rewritten_at path first kept v ks p) → Keeps p (rewritten_at path first kept v ks p) schema) schema reader.read p path w well fits
     (λ f g there unbroken leads k a t n. rewritten_keeps schema reader p path f g well fits there unbroken leads first begins kept k ks a t n) is rules
     (setting_fragment schema reader.read p path w (kernel.types_at schema path p) (fragment_at path p) refl is) numbers asks well' fits'
+
+-- ---- Where the loop stands
+
+fragment_stands : (p : PlainProgram) (path : List ℕ) (f : Fragment) (first : ℕ) → IsPlacedIn p path f → fragment_at path p ≡ Some f → first_at path p ≡ Some first → LoopStands p path f.loop first
+fragment_stands p path f first k leads begins =
+    let there : fragment_in (names_of_params k.method.params) k.down k.first k.method.body ≡ Some f =
+    sym (ap (λ z. fragment_at z p) k.is ∙ ap (found_in (λ (z : PlainMethod). fragment_in (names_of_params z.params) k.down k.first z.body)) k.found) ∙ leads in
+    let number : first_in k.down k.first k.method.body ≡ Some first =
+    sym (ap (λ z. first_at z p) k.is ∙ ap (found_in (λ (z : PlainMethod). first_in k.down k.first z.body)) k.found) ∙ begins in
+    let same : first ≡ k.placed.number = number_is k.down (names_of_params k.method.params) k.first k.method.body f first k.placed.number there number k.placed.before_loop k.placed.run_there in
+    record {
+      there = ap (λ z. statement_at z p) k.is ∙ ap (found_in (λ (z : PlainMethod). statement_in k.down k.first z.body)) k.found ∙ k.placed.loop_there;
+      before = subst (λ z. first ≤ last_of z) (sym k.is) (subst (λ j. j ≤ last_of (k.first ∷ k.down)) (sym same) k.placed.before_loop);
+    }
+
+pub setting_stands : (schema : Schema) (read : List ℕ → Option PlainQuery) (p : PlainProgram) (path : List ℕ) (w : Setting) (first : ℕ) → setting_at schema read path p ≡ Some w → first_at path p ≡ Some first → LoopStands p path w.fragment.loop first
+setting_stands schema read p path w first is begins =
+    let leads = setting_fragment schema read p path w (kernel.types_at schema path p) (fragment_at path p) refl is in
+    fragment_stands p path w.fragment first (placed_at path p w.fragment leads) leads begins

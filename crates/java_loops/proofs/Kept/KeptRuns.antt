@@ -7,6 +7,7 @@ use Rattle.java_ast.specs.Tree.{Expression, Expressions, NoMore, And, Statement,
 use Rattle.java_loops.specs.Walks.Needed as needs
 use Rattle.java_loops.specs.Walks.Needed.{needed, keeping}
 use Rattle.java_loops.specs.Walks.Reads.{Set}
+use Rattle.java_loops.specs.Meant.KeptNumbers.{base_of, dropped_of, kept_set, numbers_setting, kept_numbers}
 use Rattle.java_loops.specs.Walks.Runs as runs
 use Rattle.java_loops.proofs.Walks.EnoughWalks.{all_needed, needed_found}
 use Rattle.loop_text.specs.Statements.Fragment.{Fragment, is_simple, are_simple, accumulators, counter, is_name, is_live, set_by, StandsIn, first, after, IsWanted, live, read, mentioned, IsKept}
@@ -78,18 +79,6 @@ simple_in _ _ (first s ss) h = (and_parts (is_simple s) (are_simple ss) h).0
 simple_in _ _ (after s a ss i) h = simple_in s ss i (and_parts (is_simple a) (are_simple ss) h).1
 
 -- ---- The needed variables of a fragment
-
--- the variables that are live, and further ones
-abbrev pub base_of : Fragment → Names → Set
-base_of f further = λ x. is_live f x || is_among further x
-
--- the variables whose statements are dropped
-abbrev pub dropped_of : Fragment → Set
-dropped_of f = λ x. is_among (accumulators f) x || is_name (counter f.loop) x
-
--- the needed variables whose statements aren't dropped
-abbrev pub kept_set : Fragment → Names → Set
-kept_set f further = keeping (needed (base_of f further) (dropped_of f) f.run) (dropped_of f)
 
 wanted_needed : (f : Fragment) (further : Names) → are_simple f.run ≡ true → (x : List ℕ) → IsWanted f further x → needs.IsNeeded (base_of f further) (dropped_of f) f.run x
 wanted_needed f further simple _ (live x h) = needs.based x (or_left (is_live f x) (is_among further x) h)
@@ -182,3 +171,28 @@ module _ (f : Fragment) (further : Names) (r : Set) (set : IsKeptSet f further r
       ap (λ b. cond b (Then s (with_numbers numbers (suc n) ss)) (with_numbers numbers (suc n) ss)) (none_there n numbers (numbers_from f further (suc n) ss numbers h))
       ∙ numbers_keep (suc n) ss numbers h
       ∙ sym (ap (λ b. cond b (Then s (runs.kept r ss)) (runs.kept r ss)) (dropped_there s k))
+
+  -- the kept numbers are those of the statements that set a variable of the set
+  pub numbers_are : (n : ℕ) (p : Statements) (numbers : List ℕ) → AreKept f further n p numbers → numbers ≡ numbers_setting r n p
+  numbers_are _ _ _ (none n) = refl
+  numbers_are _ _ _ (keeps n s ss numbers k h) =
+      ap (λ (ms : List ℕ). n ∷ ms) (numbers_are (suc n) ss numbers h)
+      ∙ sym (ap (λ b. cond b (n ∷ numbers_setting r (suc n) ss) (numbers_setting r (suc n) ss)) (set.holds (set_by s) k.not_dropped k.wanted))
+  numbers_are _ _ _ (drops n s ss numbers k h) =
+      numbers_are (suc n) ss numbers h
+      ∙ sym (ap (λ b. cond b (n ∷ numbers_setting r (suc n) ss) (numbers_setting r (suc n) ss)) (false_from_ne_true (r (set_by s)) (λ e. k (record { not_dropped = set.not_dropped (set_by s) e; wanted = set.wanted (set_by s) e }))))
+
+  -- a statement that sets a variable of the set, or none, behind which the numbers are those of kept statements
+  kept_or_not : (n : ℕ) (s : Statement) (ss : Statements) (numbers : List ℕ) (b : Bool) → r (set_by s) ≡ b → AreKept f further (suc n) ss numbers → AreKept f further n (Then s ss) (cond b (n ∷ numbers) numbers)
+  kept_or_not n s ss numbers true e h = keeps n s ss numbers (record { not_dropped = set.not_dropped (set_by s) e; wanted = set.wanted (set_by s) e }) h
+  kept_or_not n s ss numbers false e h = drops n s ss numbers (λ k. let there = set.holds (set_by s) k.not_dropped k.wanted in absurd cc) h
+
+  pub set_numbers_are_kept : (n : ℕ) (p : Statements) → AreKept f further n p (numbers_setting r n p)
+  set_numbers_are_kept n Nothing = none n
+  set_numbers_are_kept n (Then s ss) = kept_or_not n s ss (numbers_setting r (suc n) ss) (r (set_by s)) refl (set_numbers_are_kept (suc n) ss)
+
+pub kept_numbers_only : (f : Fragment) (further : Names) (n : ℕ) (run : Statements) (numbers : List ℕ) → are_simple f.run ≡ true → AreKept f further n run numbers → numbers ≡ kept_numbers f further n run
+kept_numbers_only f further n run numbers simple h = numbers_are f further (kept_set f further) (is_kept_set f further simple) n run numbers h
+
+pub kept_numbers_kept : (f : Fragment) (further : Names) (n : ℕ) (run : Statements) → are_simple f.run ≡ true → AreKept f further n run (kept_numbers f further n run)
+kept_numbers_kept f further n run simple = set_numbers_are_kept f further (kept_set f further) (is_kept_set f further simple) n run
