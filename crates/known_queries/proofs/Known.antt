@@ -1,0 +1,6 @@
+pub mod KnownArguments
+pub mod KnownColumn
+pub mod KnownList
+pub mod KnownLoop
+pub mod KnownTests
+pub mod KnownWorked

@@ -1,0 +1,4 @@
+//! The known queries of lowered loops are those that emission asks for.
+#![tactic(auto)]
+
+pub mod laws;
