@@ -106,7 +106,9 @@ fn accepted_with(
     holds: bool,
     d: &Derivation,
 ) -> Result<bool, NoMemory>
-    ensures { IfOk result (λ answer. answer ≡ spec.accepted vc.now.atoms (with_fact_of vc.now.atoms facts.now (literal atom holds)) (spec.proof_of d.now) (tree_of vc.now.left) (tree_of vc.now.right)) }
+    ensures { IfOk result (λ answer.
+        answer
+        ≡ spec.accepted vc.now.atoms (with_fact_of vc.now.atoms facts.now (literal atom holds)) (spec.proof_of d.now) (tree_of vc.now.left) (tree_of vc.now.right)) }
 {
     match with_fact(alloc, &vc.atoms, facts, atom, holds)? {
         None => Ok(true),

@@ -79,7 +79,8 @@ fn lower_sited(
 ) -> Result<Lowered, Fail<Outside>>
     requires may { MayBeLowered (setting_of schema.now (read_by schema.now) (type_at there.now.types) (fragment_located there.now)) }
     requires sites { map site_of sites.now ≡ specs.sites_of (statement there.now.looped.now) }
-    ensures lowered { IfOk result (λ l. IsLoweredFrom (setting_of schema.now (read_by schema.now) (type_at there.now.types) (fragment_located there.now)) there.now.first (lowering_in_code l) l.first l.kept) }
+    ensures lowered { IfOk result (λ l.
+        IsLoweredFrom (setting_of schema.now (read_by schema.now) (type_at there.now.types) (fragment_located there.now)) there.now.first (lowering_in_code l) l.first l.kept) }
     ensures outside { IfErr result (BreaksFirst (setting_of schema.now (read_by schema.now) (type_at there.now.types) (fragment_located there.now))) }
 {
     let w = setting_there(&*schema, &*there, &*sites);
@@ -93,7 +94,8 @@ pub fn lower_located(
     there: &Located,
 ) -> Result<Lowered, Fail<Outside>>
     requires { MayBeLowered (setting_of schema.now (read_by schema.now) (type_at there.now.types) (fragment_located there.now)) }
-    ensures lowered { IfOk result (λ l. IsLoweredFrom (setting_of schema.now (read_by schema.now) (type_at there.now.types) (fragment_located there.now)) there.now.first (lowering_in_code l) l.first l.kept) }
+    ensures lowered { IfOk result (λ l.
+        IsLoweredFrom (setting_of schema.now (read_by schema.now) (type_at there.now.types) (fragment_located there.now)) there.now.first (lowering_in_code l) l.first l.kept) }
     ensures outside { IfErr result (BreaksFirst (setting_of schema.now (read_by schema.now) (type_at there.now.types) (fragment_located there.now))) }
 {
     let sites = sites_of(alloc, there.looped, kernel_body(there.looped))?;

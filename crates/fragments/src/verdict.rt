@@ -34,7 +34,10 @@ pub fn lower(
     ensures lowered { IfOk result (λ l. IsLowered schema.now (read_by schema.now) (plain_program typed.now.program) path.now (lowering_in_code l) l.first l.kept) }
     ensures outside { IfErr result (IsOutside schema.now (read_by schema.now) (plain_program typed.now.program) path.now) }
     ensures fits { IfOk result (λ l. is_typed schema.now (fragment_of l.frag) ≡ true) }
-    ensures means { IfOk result (λ l. (w : Setting) → setting_at schema.now (read_by schema.now) path.now (plain_program typed.now.program) ≡ Some w → IsMeant schema.now (read_by schema.now) (plain_program typed.now.program) path.now w (with_numbers l.kept l.first w.fragment.run)) }
+    ensures means { IfOk result (λ l.
+        (w : Setting)
+        → setting_at schema.now (read_by schema.now) path.now (plain_program typed.now.program) ≡ Some w
+        → IsMeant schema.now (read_by schema.now) (plain_program typed.now.program) path.now w (with_numbers l.kept l.first w.fragment.run)) }
 {
     match located(alloc, Some(schema), typed.program(), path)? {
         None => unreachable!(),

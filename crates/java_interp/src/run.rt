@@ -164,7 +164,9 @@ pub fn run_method<'a>(
     requires tables { IsDatabaseOf schema.now db.now }
     requires number { method < length (program typed.now.program).methods }
     requires arguments { IfSome (slice_get (program typed.now.program).methods method) (λ m. AreArguments schema.now m.params args.now) }
-    ensures exact { IfOk result (λ o. IfSome (slice_get (program typed.now.program).methods method) (λ m. outcome_in o ≡ outcome (world_with schema.now (read_by schema.now) db.now) m args.now turns)) }
+    ensures exact { IfOk result (λ o.
+        IfSome (slice_get (program typed.now.program).methods method) (λ m.
+        outcome_in o ≡ outcome (world_with schema.now (read_by schema.now) db.now) m args.now turns)) }
 {
     let m = method_at(typed, method);
     match call(alloc, schema, m, db, args, turns)? {

@@ -93,7 +93,8 @@ fn step_run<'a>(
     stack: &mut Vec<Frame<'a>>,
     m: &mut Machine<'a>,
 ) -> Result<Went<'a>, Stop>
-    ensures leads { Leads (world source.now) result (state m.new) stack.new.items (after (world source.now) stack.old.items (meanings (statements p.now) (world source.now) (state m.old))) }
+    ensures leads { Leads (world source.now) result (state m.new) stack.new.items (
+        after (world source.now) stack.old.items (meanings (statements p.now) (world source.now) (state m.old))) }
     ensures falls { OnOk result (weight_all stack.new.items < count_all (statements p.now) + weight_all stack.old.items) }
     ensures turns { OnOk result (m.new.turns ≡ m.old.turns) }
     ensures turned { IfOk result (λ way. IfTurned way ⊥) }
@@ -119,7 +120,9 @@ fn step_each<'a>(
     stack: &mut Vec<Frame<'a>>,
     m: &mut Machine<'a>,
 ) -> Result<bool, Stop>
-    ensures leads { LeadsOn (world source.now) result (state m.new) stack.new.items (after (world source.now) stack.old.items (into (world source.now) (Frame.Each x.entry list.entry i body.entry) (Ok (GoesOn (state m.old))))) }
+    ensures leads { LeadsOn (world source.now) result (state m.new) stack.new.items (
+        after (world source.now) stack.old.items (
+        into (world source.now) (Frame.Each x.entry list.entry i body.entry) (Ok (GoesOn (state m.old))))) }
     ensures turn { IfOk result (λ turned. IsTrue turned → m.new.turns < m.old.turns) }
     ensures none { IfOk result (λ turned. IsFalse turned → (m.new.turns ≡ m.old.turns) × (stack.new.items ≡ stack.old.items)) }
 {
@@ -151,7 +154,8 @@ fn step_loop<'a>(
     stack: &mut Vec<Frame<'a>>,
     m: &mut Machine<'a>,
 ) -> Result<bool, Stop>
-    ensures leads { LeadsOn (world source.now) result (state m.new) stack.new.items (after (world source.now) stack.old.items (into (world source.now) (Frame.Loop cond.entry body.entry) (Ok (GoesOn (state m.old))))) }
+    ensures leads { LeadsOn (world source.now) result (state m.new) stack.new.items (
+        after (world source.now) stack.old.items (into (world source.now) (Frame.Loop cond.entry body.entry) (Ok (GoesOn (state m.old))))) }
     ensures turn { IfOk result (λ turned. IsTrue turned → m.new.turns < m.old.turns) }
     ensures none { IfOk result (λ turned. IsFalse turned → (m.new.turns ≡ m.old.turns) × (stack.new.items ≡ stack.old.items)) }
 {
@@ -172,7 +176,8 @@ fn step<'a>(
     stack: &mut Vec<Frame<'a>>,
     m: &mut Machine<'a>,
 ) -> Result<Went<'a>, Stop>
-    ensures leads { Leads (world source.now) result (state m.new) stack.new.items (after (world source.now) stack.old.items (into (world source.now) top.entry (Ok (GoesOn (state m.old))))) }
+    ensures leads { Leads (world source.now) result (state m.new) stack.new.items (
+        after (world source.now) stack.old.items (into (world source.now) top.entry (Ok (GoesOn (state m.old))))) }
     ensures turned { IfOk result (λ way. IfTurned way (m.new.turns < m.old.turns)) }
     ensures still { IfOk result (λ way. IfStill way (m.new.turns ≡ m.old.turns)) }
     ensures falls { IfOk result (λ way. IfStill way (weight_all stack.new.items < weight top.entry + weight_all stack.old.items)) }

@@ -88,7 +88,9 @@ fn put_close(out: &mut String) -> Result<(), AllocError>
 
 /// A query up to its arguments.
 fn put_query(out: &mut String, element: &JTy, text: &Text) -> Result<(), AllocError>
-    ensures { OnOk result (string_bytes out.new ≡ string_bytes out.old ++ (codes "db.query(" ++ canonical_type (spelled element.now) ++ codes ".class, " ++ text_literal text.now)) }
+    ensures { OnOk result (
+        string_bytes out.new
+        ≡ string_bytes out.old ++ (codes "db.query(" ++ canonical_type (spelled element.now) ++ codes ".class, " ++ text_literal text.now)) }
 {
     out.push_str("db.query(")?;
     put_type(out, element)?;

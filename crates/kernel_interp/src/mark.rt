@@ -79,7 +79,8 @@ fn marks(setting: Setting, acc: &Acc, level: usize, place: &Place) -> bool
 /// Whether the loops inside a flag's declaration come to its update, at the rows that the loops
 /// round it have at a place.
 pub fn set_at(setting: Setting, acc: &Acc, loops: &[u32], place: &Place, own: &Place) -> bool
-    ensures { result ≡ any_mark (world_of setting.entry) (plain_of setting.entry).atoms (running.inside (accumulator acc.now)) (bound loops.now (rows_in place.now) (rows_in own.now)) }
+    ensures { result
+        ≡ any_mark (world_of setting.entry) (plain_of setting.entry).atoms (running.inside (accumulator acc.now)) (bound loops.now (rows_in place.now) (rows_in own.now)) }
 {
     match loops.split_last() {
         None => marks(setting, acc, acc.base as usize, &*own),

@@ -23,7 +23,8 @@ fn run(
     place: &Place,
 ) -> Result<Running, Stop>
     requires { NumbersFit (world_of setting).lists (update_of running) (drop level (kernel.layers_of (accumulator acc.now))) (rows_in place.now) }
-    ensures { Gives result (update_of running) (kernel.run (flagged setting.entry) (plain_of setting.entry).atoms (update_of running) (drop level (kernel.layers_of (accumulator acc.now))) (rows_in place.now) (data_of running)) }
+    ensures { Gives result (update_of running) (
+        kernel.run (flagged setting.entry) (plain_of setting.entry).atoms (update_of running) (drop level (kernel.layers_of (accumulator acc.now))) (rows_in place.now) (data_of running)) }
 {
     let over = match acc.chain.as_slice().get(level) {
         Some(over) => *over,

@@ -17,11 +17,22 @@ ghost use Rattle.kernel_lang.specs.Running.{ends_as, fragment_end};
 /// A fragment that ends on a database of a schema ends with numbers of 64 bits alone, where it
 /// starts with such: its counts, sums and best numbers, and those in the rows that it collects.
 pub fn fragments_end_with_64_bits()
-    ensures all { (schema : Schema) (f : Fragment) (db : Database) (entry : PlainEntry) (ends : List PlainValue) → IsDatabaseOf schema db → StartsFit f → fragment_end f db entry ≡ Some ends → AllByRecursion ValueFits ends }
-    ensures each { (schema : Schema) (f : Fragment) (db : Database) (entry : PlainEntry) (a : Accumulator) (end : PlainValue) → IsDatabaseOf schema db → StartFits a.start → ends_as f (world_given f db entry) a ≡ Some end → ValueFits end }
+    ensures all { (schema : Schema) (f : Fragment) (db : Database) (entry : PlainEntry) (ends : List PlainValue)
+        → IsDatabaseOf schema db
+        → StartsFit f
+        → fragment_end f db entry ≡ Some ends
+        → AllByRecursion ValueFits ends }
+    ensures each { (schema : Schema) (f : Fragment) (db : Database) (entry : PlainEntry) (a : Accumulator) (end : PlainValue)
+        → IsDatabaseOf schema db
+        → StartFits a.start
+        → ends_as f (world_given f db entry) a ≡ Some end
+        → ValueFits end }
 {}
 
 /// The members of a set that collects a column are distinct, in whatever world it is filled.
 pub fn sets_have_distinct_members()
-    ensures { (f : Fragment) (w : World) (a : Accumulator) (j c : ℕ) (rows : List PlainRow) → a.update ≡ updates.PushNew (elems.Field j c) → ends_as f w a ≡ Some (values.Many rows) → AreDistinct rows }
+    ensures { (f : Fragment) (w : World) (a : Accumulator) (j c : ℕ) (rows : List PlainRow)
+        → a.update ≡ updates.PushNew (elems.Field j c)
+        → ends_as f w a ≡ Some (values.Many rows)
+        → AreDistinct rows }
 {}

@@ -75,7 +75,10 @@ fn enter_conjunct(
     f: &Formula,
     pool: Formulas,
 ) -> Result<Formulas, NoMemory>
-    ensures { IfOk result (λ all. forms_of all ≡ spec.all_entered (forms_of pool) (filter (spec.may_enter scope.entry.atoms.now scope.entry.chain.now scope.entry.base) (form_of f.now ∷ []))) }
+    ensures { IfOk result (λ all.
+        forms_of all
+        ≡ spec.all_entered (forms_of pool) (
+        filter (spec.may_enter scope.entry.atoms.now scope.entry.chain.now scope.entry.base) (form_of f.now ∷ []))) }
 {
     if !may_enter(scope, f) {
         return Ok(pool);
@@ -91,7 +94,10 @@ fn enter_conjuncts(
     f: &Formula,
     pool: Formulas,
 ) -> Result<Formulas, NoMemory>
-    ensures { IfOk result (λ all. forms_of all ≡ spec.all_entered (forms_of pool) (filter (spec.may_enter scope.entry.atoms.now scope.entry.chain.now scope.entry.base) (spec.conjuncts (form_of f.now)))) }
+    ensures { IfOk result (λ all.
+        forms_of all
+        ≡ spec.all_entered (forms_of pool) (
+        filter (spec.may_enter scope.entry.atoms.now scope.entry.chain.now scope.entry.base) (spec.conjuncts (form_of f.now)))) }
 {
     match f {
         Formula::Is(_, _) => enter_conjunct(alloc, scope, f, pool),

@@ -14,5 +14,10 @@ ghost use Rattle.qbs.specs.Program.{long_column};
 /// A source of the first form with a Long column of the schema keeps what it does, on every database
 /// of the schema, where the query stands in place of the loop.
 pub fn first_form_is_kept()
-    ensures { (schema source : List ℕ) (tables : List Table) (tokens : Tokens) (f : FirstForm) (table column : ℕ) (at : Span) → schema_of schema ≡ Ok tables → lexed source ≡ Ok tokens → HasFirstForm (nodes_of tokens.list) f → long_column tables f ≡ Some (table, column) → Keeps (first_program f at) (rewritten f at table column) tables }
+    ensures { (schema source : List ℕ) (tables : List Table) (tokens : Tokens) (f : FirstForm) (table column : ℕ) (at : Span)
+        → schema_of schema ≡ Ok tables
+        → lexed source ≡ Ok tokens
+        → HasFirstForm (nodes_of tokens.list) f
+        → long_column tables f ≡ Some (table, column)
+        → Keeps (first_program f at) (rewritten f at table column) tables }
 {}

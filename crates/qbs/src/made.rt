@@ -66,7 +66,9 @@ fn by_position(alloc: Global) -> Result<SqlKeys, NoMemory>
 
 // t1.F = D
 fn compared(form: &FirstForm, column: u32) -> Result<Cond, NoMemory>
-    ensures { IfOk result (λ c. condition c ≡ Compare Cmp.Eq (SqlOpnd.Column (record { item = 1; column = SqlColumn.Named form.now.column column })) (SqlOpnd.Lit (Scalar.Long form.now.number))) }
+    ensures { IfOk result (λ c.
+        condition c
+        ≡ Compare Cmp.Eq (SqlOpnd.Column (record { item = 1; column = SqlColumn.Named form.now.column column })) (SqlOpnd.Lit (Scalar.Long form.now.number))) }
 {
     let column = SqlOpnd::Column(column_of(form, column)?);
     Ok(Cond::Compare(Cmp::Eq, column, SqlOpnd::Lit(Scalar::Long(form.number))))

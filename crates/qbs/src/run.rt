@@ -141,7 +141,9 @@ fn plan_program(
     call: &Asked,
 ) -> Result<Plan, Stop>
     requires { length texts.now ≡ length schema.now }
-    ensures { OrMemory result (λ plan. plan ≡ with_types schema.now texts.now (call_in call.now) tokens.now (program_of program.now) (fault_of schema.now (program_of program.now))) }
+    ensures { OrMemory result (λ plan.
+        plan
+        ≡ with_types schema.now texts.now (call_in call.now) tokens.now (program_of program.now) (fault_of schema.now (program_of program.now))) }
 {
     match check(alloc, schema, program) {
         Ok(typed) => plan_chosen(alloc, schema, tokens, &typed, texts, call),
@@ -160,7 +162,9 @@ fn plan_chosen(
 ) -> Result<Plan, Stop>
     requires tables { length texts.now ≡ length schema.now }
     requires typed { IsWellTyped schema.now (read_by schema.now) (program_of typed.now.program) }
-    ensures { OrMemory result (λ plan. plan ≡ with_chosen schema.now texts.now (call_in call.now) (chosen call.now.rewritten schema.now tokens.now (program_of typed.now.program))) }
+    ensures { OrMemory result (λ plan.
+        plan
+        ≡ with_chosen schema.now texts.now (call_in call.now) (chosen call.now.rewritten schema.now tokens.now (program_of typed.now.program))) }
 {
     if !call.rewritten {
         return plan_call(alloc, schema, typed, texts, call);

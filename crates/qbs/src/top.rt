@@ -140,7 +140,9 @@ fn plan_run_if_built<F: Files>(
     folder: &Text,
     call: &Asked,
 ) -> Result<Plan, Stop>
-    ensures { OrMemory result (Due (given F.told F.faults files.old files.new) (run_or_not_yet (options_ask_more options.now) schema.now source.now folder.now (call_in call.now))) }
+    ensures { OrMemory result (
+        Due (given F.told F.faults files.old files.new) (
+        run_or_not_yet (options_ask_more options.now) schema.now source.now folder.now (call_in call.now))) }
 {
     if asks_more(options) {
         return Err(refused(alloc, Status::NotYet, "qbs: not yet", ""));

@@ -95,7 +95,9 @@ fn derive_with(
     atom: u32,
     holds: bool,
 ) -> Result<Option<Derivation>, NoMemory>
-    ensures { IfOk result (λ o. option_map proof_of o ≡ spec.derived vc.now.atoms depth (with_fact_of vc.now.atoms facts.now (literal atom holds)) (tree_of vc.now.left) (tree_of vc.now.right)) }
+    ensures { IfOk result (λ o.
+        option_map proof_of o
+        ≡ spec.derived vc.now.atoms depth (with_fact_of vc.now.atoms facts.now (literal atom holds)) (tree_of vc.now.left) (tree_of vc.now.right)) }
 {
     match with_fact(alloc, &vc.atoms, facts, atom, holds)? {
         None => Ok(Some(Derivation::Absurd)),

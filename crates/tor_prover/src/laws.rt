@@ -25,7 +25,9 @@ pub fn no_rule_applies_to_normal_forms()
 /// The selection of one tuple meets an open atom, unless some formula is decided to be false or all
 /// are decided to be true.
 pub fn open_selections_meet_an_atom()
-    ensures { (atoms : List PlainAtom) (facts : List PlainLiteral) (fs : List Form) (loops : List ℕ) → met atoms facts (PlainSel fs (PlainOne loops)) ≡ None → (some_no atoms facts fs || all_yes atoms facts fs) ≡ true }
+    ensures { (atoms : List PlainAtom) (facts : List PlainLiteral) (fs : List Form) (loops : List ℕ)
+        → met atoms facts (PlainSel fs (PlainOne loops)) ≡ None
+        → (some_no atoms facts fs || all_yes atoms facts fs) ≡ true }
 {}
 
 /// What is derived for a condition is accepted, of plain conditions too.

@@ -68,7 +68,9 @@ fn add_all(
 ) -> Result<(), NoMemory>
     requires short { AllShort accs.now }
     requires small { first + length (pools.pooled (map accumulator accs.now)) < 2 ^ 32 }
-    ensures { IfOk result (λ _. spec.claims_of all.new ≡ spec.claims_of all.old ++ spec.all_conditions atoms.now (pools.members_from cand.now first (map accumulator accs.now))) }
+    ensures { IfOk result (λ _.
+        spec.claims_of all.new
+        ≡ spec.claims_of all.old ++ spec.all_conditions atoms.now (pools.members_from cand.now first (map accumulator accs.now))) }
 {
     match accs.split_first() {
         None => Ok(()),

@@ -95,7 +95,9 @@ fn turns(
     ys: &[Level],
     index: Index,
 ) -> Result<Term, NoMemory>
-    ensures { IfOk result (λ t. tree_of t ≡ post.part chosen.now.update (forms_of chosen.now.formulas) place.now.outer (tree_of place.now.entry) (layer_seen y.now) (layers_seen ys.now) index) }
+    ensures { IfOk result (λ t.
+        tree_of t
+        ≡ post.part chosen.now.update (forms_of chosen.now.formulas) place.now.outer (tree_of place.now.entry) (layer_seen y.now) (layers_seen ys.now) index) }
 {
     let fs = chosen.formulas.as_slice();
     let outer = place.outer.as_slice();
@@ -111,7 +113,10 @@ fn add_entry(
     way: &[(u32, bool)],
     all: &mut Vcs,
 ) -> Result<(), NoMemory>
-    ensures { IfOk result (λ _. spec.claims_of all.new ≡ spec.claims_of all.old ++ spec.entry chosen.now.atoms chosen.now.update (forms_of chosen.now.formulas) place.now.outer (tree_of place.now.entry) (layer_seen y.now) (layers_seen ys.now) way.now ∷ []) }
+    ensures { IfOk result (λ _.
+        spec.claims_of all.new
+        ≡ spec.claims_of all.old
+        ++ spec.entry chosen.now.atoms chosen.now.update (forms_of chosen.now.formulas) place.now.outer (tree_of place.now.entry) (layer_seen y.now) (layers_seen ys.now) way.now ∷ []) }
 {
     let none = turns(alloc, chosen, place, y, ys, Index::Zero)?;
     let entry = copy_term(alloc, &place.entry)?;
@@ -127,7 +132,10 @@ fn add_true_steps(
     way: &[(u32, bool)],
     all: &mut Vcs,
 ) -> Result<(), NoMemory>
-    ensures { IfOk result (λ _. spec.claims_of all.new ≡ spec.claims_of all.old ++ spec.true_steps chosen.now.atoms chosen.now.update (forms_of chosen.now.formulas) place.now.outer (tree_of place.now.entry) (layer_seen y.now) (layers_seen ys.now) way.now) }
+    ensures { IfOk result (λ _.
+        spec.claims_of all.new
+        ≡ spec.claims_of all.old
+        ++ spec.true_steps chosen.now.atoms chosen.now.update (forms_of chosen.now.formulas) place.now.outer (tree_of place.now.entry) (layer_seen y.now) (layers_seen ys.now) way.now) }
 {
     let fs = chosen.formulas.as_slice();
     let outer = place.outer.as_slice();
@@ -156,7 +164,10 @@ fn add_false_steps(
     way: &[(u32, bool)],
     all: &mut Vcs,
 ) -> Result<(), NoMemory>
-    ensures { IfOk result (λ _. spec.claims_of all.new ≡ spec.claims_of all.old ++ spec.false_steps chosen.now.atoms chosen.now.update (forms_of chosen.now.formulas) place.now.outer (tree_of place.now.entry) (layer_seen y.now) (layers_seen ys.now) way.now) }
+    ensures { IfOk result (λ _.
+        spec.claims_of all.new
+        ≡ spec.claims_of all.old
+        ++ spec.false_steps chosen.now.atoms chosen.now.update (forms_of chosen.now.formulas) place.now.outer (tree_of place.now.entry) (layer_seen y.now) (layers_seen ys.now) way.now) }
 {
     let fails = guard_paths(alloc, &y.guard, false)?;
     let before = turns(alloc, chosen, place, y, ys, Index::At(y.over))?;
@@ -181,7 +192,10 @@ fn add_exit(
     way: &[(u32, bool)],
     all: &mut Vcs,
 ) -> Result<(), NoMemory>
-    ensures { IfOk result (λ _. spec.claims_of all.new ≡ spec.claims_of all.old ++ spec.exit chosen.now.atoms chosen.now.update (forms_of chosen.now.formulas) place.now.outer (tree_of place.now.entry) (layer_seen y.now) (layers_seen ys.now) way.now ∷ []) }
+    ensures { IfOk result (λ _.
+        spec.claims_of all.new
+        ≡ spec.claims_of all.old
+        ++ spec.exit chosen.now.atoms chosen.now.update (forms_of chosen.now.formulas) place.now.outer (tree_of place.now.entry) (layer_seen y.now) (layers_seen ys.now) way.now ∷ []) }
 {
     let fs = chosen.formulas.as_slice();
     let outer = place.outer.as_slice();
@@ -200,7 +214,10 @@ fn add_at_level(
     way: &[(u32, bool)],
     all: &mut Vcs,
 ) -> Result<(), NoMemory>
-    ensures { IfOk result (λ _. spec.claims_of all.new ≡ spec.claims_of all.old ++ spec.at_level chosen.now.atoms chosen.now.update (forms_of chosen.now.formulas) place.now.outer (tree_of place.now.entry) (layer_seen y.now) (layers_seen ys.now) way.now) }
+    ensures { IfOk result (λ _.
+        spec.claims_of all.new
+        ≡ spec.claims_of all.old
+        ++ spec.at_level chosen.now.atoms chosen.now.update (forms_of chosen.now.formulas) place.now.outer (tree_of place.now.entry) (layer_seen y.now) (layers_seen ys.now) way.now) }
 {
     add_entry(alloc, chosen, place, y, ys, way, all)?;
     add_true_steps(alloc, chosen, place, y, ys, way, all)?;
@@ -217,7 +234,10 @@ fn add_level(
     ways: &[Path],
     all: &mut Vcs,
 ) -> Result<(), NoMemory>
-    ensures { IfOk result (λ _. spec.claims_of all.new ≡ spec.claims_of all.old ++ spec.level chosen.now.atoms chosen.now.update (forms_of chosen.now.formulas) place.now.outer ways.now (tree_of place.now.entry) (layer_seen y.now) (layers_seen ys.now)) }
+    ensures { IfOk result (λ _.
+        spec.claims_of all.new
+        ≡ spec.claims_of all.old
+        ++ spec.level chosen.now.atoms chosen.now.update (forms_of chosen.now.formulas) place.now.outer ways.now (tree_of place.now.entry) (layer_seen y.now) (layers_seen ys.now)) }
 {
     for way in ways {
         add_at_level(alloc, chosen, place, y, ys, way.as_slice(), all)?;
@@ -281,7 +301,10 @@ fn add_inside(
     all: &mut Vcs,
 ) -> Result<(), NoMemory>
     requires { length place.now.outer + length ys.now ≤ 3 }
-    ensures { IfOk result (λ _. spec.claims_of all.new ≡ spec.claims_of all.old ++ spec.conditions_in chosen.now.atoms chosen.now.update (forms_of chosen.now.formulas) place.now.outer ways.now (tree_of place.now.entry) (layers_seen ys.now)) }
+    ensures { IfOk result (λ _.
+        spec.claims_of all.new
+        ≡ spec.claims_of all.old
+        ++ spec.conditions_in chosen.now.atoms chosen.now.update (forms_of chosen.now.formulas) place.now.outer ways.now (tree_of place.now.entry) (layers_seen ys.now)) }
 {
     match ys.split_first() {
         None => Ok(()),
@@ -315,7 +338,10 @@ fn add_in_place(
     all: &mut Vcs,
 ) -> Result<(), NoMemory>
     requires { length outside.now + length inside.now ≤ 3 }
-    ensures { IfOk result (λ _. spec.claims_of all.new ≡ spec.claims_of all.old ++ spec.conditions_in chosen.now.atoms chosen.now.update (forms_of chosen.now.formulas) (loops_of (layers_seen outside.now)) (spec.ways_through ([] ∷ []) (layers_seen outside.now)) (post.start_term start.now) (layers_seen inside.now)) }
+    ensures { IfOk result (λ _.
+        spec.claims_of all.new
+        ≡ spec.claims_of all.old
+        ++ spec.conditions_in chosen.now.atoms chosen.now.update (forms_of chosen.now.formulas) (loops_of (layers_seen outside.now)) (spec.ways_through ([] ∷ []) (layers_seen outside.now)) (post.start_term start.now) (layers_seen inside.now)) }
 {
     let ways = ways_through(alloc, outside)?;
     let place = first_place(alloc, start, outside)?;

@@ -39,7 +39,8 @@ fn is_declared(f: &Fragment, x: &Name) -> bool
 
 /// Whether a variable is declared outside of the loop and isn't its counter.
 pub fn is_outer(f: &Fragment, x: &Name) -> bool
-    ensures { result ≡ fragment.is_outer (names_seen f.now.visible.now) (fragment.declared_in_run (fragment_in_code f.now)) (fragment.counter (fragment_in_code f.now).loop) x.now }
+    ensures { result
+        ≡ fragment.is_outer (names_seen f.now.visible.now) (fragment.declared_in_run (fragment_in_code f.now)) (fragment.counter (fragment_in_code f.now).loop) x.now }
 {
     is_declared(f, x) && !is_name(counter(f.looped), x)
 }
@@ -100,7 +101,8 @@ fn put_all_updated<'a>(
     list: &mut NameList<'a>,
 ) -> Result<(), NoMemory>
     requires { IsListed list.old }
-    ensures names { OnOk result (names_lent list.new.names ≡ outer_with (fragment_in_code f.now) (names_lent list.old.names) (specs.updated_among (statements block.now))) }
+    ensures names { OnOk result (
+        names_lent list.new.names ≡ outer_with (fragment_in_code f.now) (names_lent list.old.names) (specs.updated_among (statements block.now))) }
     ensures listed { OnOk result (IsListed list.new) }
 {
     for s in block {

@@ -100,7 +100,10 @@ fn put_all_following<'a>(
     requires accumulators { names_lent accumulators.now.names ≡ fragment.accumulators (fragment_in_code f.now) }
     requires setters { (y : List ℕ) → specs.under setters.now y ≡ specs.setting y (statements f.now.run.now) }
     requires listed { IsListed list.old }
-    ensures wanted { OnOk result ((further : Names) → specs.AreWanted (fragment_in_code f.now) further (names_lent list.old.names) → specs.AreWanted (fragment_in_code f.now) further (names_lent list.new.names)) }
+    ensures wanted { OnOk result (
+        (further : Names)
+        → specs.AreWanted (fragment_in_code f.now) further (names_lent list.old.names)
+        → specs.AreWanted (fragment_in_code f.now) further (names_lent list.new.names)) }
     ensures all { OnOk result (specs.HasAll (names_lent list.new.names) (names_lent list.old.names)) }
     ensures following { OnOk result (specs.HasFollowing (fragment_in_code f.now) (names_lent list.new.names) (names_lent list.new.names)) }
     ensures listed { OnOk result (IsListed list.new) }
@@ -140,7 +143,9 @@ fn put_where_visible<'a>(
     requires accumulators_listed { IsListed accumulators.now }
     requires accumulators { names_lent accumulators.now.names ≡ fragment.accumulators (fragment_in_code f.now) }
     requires listed { IsListed list.old }
-    ensures names { OnOk result (names_lent list.new.names ≡ with_names (names_lent list.old.names) (specs.mentioned_where (specs.keeps_visible (fragment_in_code f.now) x.now) (statement s.now))) }
+    ensures names { OnOk result (
+        names_lent list.new.names
+        ≡ with_names (names_lent list.old.names) (specs.mentioned_where (specs.keeps_visible (fragment_in_code f.now) x.now) (statement s.now))) }
     ensures listed { OnOk result (IsListed list.new) }
 {
     if f.visible.has(x) && !drops(f, accumulators, x) {
@@ -162,7 +167,9 @@ fn put_all_visible<'a>(
     requires accumulators_listed { IsListed accumulators.now }
     requires accumulators { names_lent accumulators.now.names ≡ fragment.accumulators (fragment_in_code f.now) }
     requires listed { IsListed list.old }
-    ensures names { OnOk result (names_lent list.new.names ≡ with_names (names_lent list.old.names) (specs.mentioned_by_visible (fragment_in_code f.now) (statements f.now.run.now))) }
+    ensures names { OnOk result (
+        names_lent list.new.names
+        ≡ with_names (names_lent list.old.names) (specs.mentioned_by_visible (fragment_in_code f.now) (statements f.now.run.now))) }
     ensures listed { OnOk result (IsListed list.new) }
 {
     for s in f.run {

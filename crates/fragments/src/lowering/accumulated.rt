@@ -232,7 +232,9 @@ fn accumulator_with(
     form: Form,
 ) -> Result<Acc, NoMemory>
     requires { IsNumbered context.now }
-    ensures { IfOk result (λ a. accumulator a ≡ specs.accumulator_with (setting_given context.now) (numbers_given context.now) (forms_of conditions.now) x.now base (round_of r.now) (form_in_code form.entry)) }
+    ensures { IfOk result (λ a.
+        accumulator a
+        ≡ specs.accumulator_with (setting_given context.now) (numbers_given context.now) (forms_of conditions.now) x.now base (round_of r.now) (form_in_code form.entry)) }
 {
     let atoms = context.numbers.atoms.as_slice();
     let update = update_with(alloc, context, x, r, form)?;
@@ -263,7 +265,10 @@ fn push_accumulator(
     accs: &mut Accs,
 ) -> Result<(), NoMemory>
     requires { IsNumbered context.now }
-    ensures { OnOk result (map accumulator accs.new ≡ map accumulator accs.old ++ specs.accumulator_of (setting_given context.now) (numbers_given context.now) (forms_of conditions.now) x.now base (option_map update_in_code update.entry)) }
+    ensures { OnOk result (
+        map accumulator accs.new
+        ≡ map accumulator accs.old
+        ++ specs.accumulator_of (setting_given context.now) (numbers_given context.now) (forms_of conditions.now) x.now base (option_map update_in_code update.entry)) }
 {
     match update {
         None => Ok(()),
@@ -284,7 +289,10 @@ fn push_outer(
     accs: &mut Accs,
 ) -> Result<(), NoMemory>
     requires { IsNumbered context.now }
-    ensures { OnOk result (map accumulator accs.new ≡ map accumulator accs.old ++ specs.outer_accumulators (setting_given context.now) (numbers_given context.now) (forms_of conditions.now) (names_lent names.now)) }
+    ensures { OnOk result (
+        map accumulator accs.new
+        ≡ map accumulator accs.old
+        ++ specs.outer_accumulators (setting_given context.now) (numbers_given context.now) (forms_of conditions.now) (names_lent names.now)) }
 {
     for x in names {
         let update = update_of(context.setting.sites, x);
@@ -303,7 +311,10 @@ fn push_flag(
     accs: &mut Accs,
 ) -> Result<(), NoMemory>
     requires { IsNumbered context.now }
-    ensures { OnOk result (map accumulator accs.new ≡ map accumulator accs.old ++ specs.flag_here (setting_given context.now) (numbers_given context.now) (forms_of conditions.now) d (site_of s.now).round (sites.declared_name (site_of s.now).statement)) }
+    ensures { OnOk result (
+        map accumulator accs.new
+        ≡ map accumulator accs.old
+        ++ specs.flag_here (setting_given context.now) (numbers_given context.now) (forms_of conditions.now) d (site_of s.now).round (sites.declared_name (site_of s.now).statement)) }
 {
     match declared_name(s.statement) {
         None => Ok(()),
@@ -323,7 +334,10 @@ fn push_flags(
     accs: &mut Accs,
 ) -> Result<(), NoMemory>
     requires { IsNumbered context.now }
-    ensures { OnOk result (map accumulator accs.new ≡ map accumulator accs.old ++ specs.flags_from (setting_given context.now) (numbers_given context.now) (forms_of conditions.now) 0 (map site_of context.now.setting.now.sites.now)) }
+    ensures { OnOk result (
+        map accumulator accs.new
+        ≡ map accumulator accs.old
+        ++ specs.flags_from (setting_given context.now) (numbers_given context.now) (forms_of conditions.now) 0 (map site_of context.now.setting.now.sites.now)) }
 {
     for (d, s) in context.setting.sites.as_slice().iter().enumerate() {
         push_flag(alloc, context, conditions, d, s, accs)?;
@@ -340,7 +354,9 @@ pub fn accumulators_of(
     names: &[&Name],
 ) -> Result<Accs, NoMemory>
     requires { IsNumbered context.now }
-    ensures { IfOk result (λ accs. map accumulator accs ≡ specs.accumulators_of (setting_given context.now) (numbers_given context.now) (forms_of conditions.now) (names_lent names.now)) }
+    ensures { IfOk result (λ accs.
+        map accumulator accs
+        ≡ specs.accumulators_of (setting_given context.now) (numbers_given context.now) (forms_of conditions.now) (names_lent names.now)) }
 {
     let mut accs = Accs::new(alloc);
     push_outer(alloc, context, conditions, names, &mut accs)?;

@@ -163,7 +163,9 @@ fn query_asked(alloc: Global, w: &Setting, x: &Name) -> Result<Query, NoMemory>
 #[tactic(auto, using(crate::proofs::LoweredBeside::beside))]
 fn queries_asked(alloc: Global, w: &Setting, known: &[&Name]) -> Result<Queries, NoMemory>
     requires { list_all (has_query (setting_in_code w.now)) (names_lent known.now) ≡ true }
-    ensures { IfOk result (λ qs. map (λ q. Some (query q)) qs ≡ map (λ x. specs.query_asked (setting_in_code w.now).read (conditions.asked_for (setting_in_code w.now).fragment.run x)) (names_lent known.now)) }
+    ensures { IfOk result (λ qs.
+        map (λ q. Some (query q)) qs
+        ≡ map (λ x. specs.query_asked (setting_in_code w.now).read (conditions.asked_for (setting_in_code w.now).fragment.run x)) (names_lent known.now)) }
 {
     let mut queries = Queries::new(alloc);
     for x in known {
@@ -211,7 +213,9 @@ fn arguments_of(
     known: &[&Name],
 ) -> Result<NumberLists, NoMemory>
     requires { length entries.now ≤ 9 }
-    ensures { IfOk result (λ all. all ≡ map (λ x. specs.numbers_of_arguments (exprs_lent entries.now) (numbering.arguments_asked (conditions.asked_for (setting_in_code w.now).fragment.run x))) (names_lent known.now)) }
+    ensures { IfOk result (λ all.
+        all
+        ≡ map (λ x. specs.numbers_of_arguments (exprs_lent entries.now) (numbering.arguments_asked (conditions.asked_for (setting_in_code w.now).fragment.run x))) (names_lent known.now)) }
 {
     let mut all = NumberLists::new(alloc);
     for x in known {

@@ -66,7 +66,8 @@ fn guard_at(
 #[tactic(auto, using(java_loops::proofs::Lowering::LoweredGuards::guards))]
 pub fn guards_of(alloc: Global, context: &Context, r: &Round) -> Result<Guards, NoMemory>
     requires { IsNumbered context.now }
-    ensures { IfOk result (λ guards. map guard_of guards ≡ specs.guards_from (setting_given context.now) (numbers_given context.now) (round_of r.now) 1 (round_of r.now).loops) }
+    ensures { IfOk result (λ guards.
+        map guard_of guards ≡ specs.guards_from (setting_given context.now) (numbers_given context.now) (round_of r.now) 1 (round_of r.now).loops) }
 {
     let mut guards = Guards::new(alloc);
     for level in 0..r.loops.len() {
@@ -83,7 +84,9 @@ fn form_written(
     c: Option<&Expr>,
 ) -> Result<Option<Formula>, NoMemory>
     requires { IsNumbered context.now }
-    ensures { IfOk result (λ o. specs.found_form (option_map form_of o) ≡ specs.form_written (setting_given context.now) (numbers_given context.now) n (option_map expression (option_copied c.entry))) }
+    ensures { IfOk result (λ o.
+        specs.found_form (option_map form_of o)
+        ≡ specs.form_written (setting_given context.now) (numbers_given context.now) n (option_map expression (option_copied c.entry))) }
 {
     match c {
         None => Ok(None),

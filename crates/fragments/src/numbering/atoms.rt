@@ -279,7 +279,9 @@ fn put_atoms(
     requires counted { AreCountsOf (setting_in_code w.now) c.now }
     requires few { length entries.now ≤ 9 }
     requires known { length known.now ≤ 24 }
-    ensures { OnOk result (IsUpTo 24 atoms.new (specs.atoms_among (setting_in_code w.now) (exprs_lent entries.now) (names_lent known.now) atoms.old (map leaf_in_code leaves.now))) }
+    ensures { OnOk result (
+        IsUpTo 24 atoms.new (
+        specs.atoms_among (setting_in_code w.now) (exprs_lent entries.now) (names_lent known.now) atoms.old (map leaf_in_code leaves.now))) }
 {
     for leaf in leaves {
         if atoms.len() > MOST_ATOMS {
@@ -303,7 +305,8 @@ pub fn atoms_among(
     requires counted { AreCountsOf (setting_in_code w.now) c.now }
     requires few { length entries.now ≤ 9 }
     requires known { length known.now ≤ 24 }
-    ensures { IfOk result (λ o. AreFew 24 (specs.atoms_among (setting_in_code w.now) (exprs_lent entries.now) (names_lent known.now) [] (map leaf_in_code leaves.now)) o) }
+    ensures { IfOk result (λ o.
+        AreFew 24 (specs.atoms_among (setting_in_code w.now) (exprs_lent entries.now) (names_lent known.now) [] (map leaf_in_code leaves.now)) o) }
 {
     let mut atoms = Items::new(alloc);
     put_atoms(alloc, w, c, entries, known, leaves, &mut atoms)?;

@@ -50,7 +50,10 @@ fn push_leaves_of<'a>(
     condition: Option<&'a Expr>,
     found: &mut LeafList<'a>,
 ) -> Result<(), NoMemory>
-    ensures { OnOk result (map leaf_in_code found.new ≡ map leaf_in_code found.old ++ specs.leaves_of (setting_in_code w.now).sites number (option_map expression (option_copied condition.entry))) }
+    ensures { OnOk result (
+        map leaf_in_code found.new
+        ≡ map leaf_in_code found.old
+        ++ specs.leaves_of (setting_in_code w.now).sites number (option_map expression (option_copied condition.entry))) }
 {
     match condition {
         None => Ok(()),

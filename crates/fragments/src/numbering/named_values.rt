@@ -105,7 +105,9 @@ fn put_operand<'a>(
     e: &'a Expr,
     entries: &mut Entries<'a>,
 ) -> Result<(), NoMemory>
-    ensures { OnOk result (exprs_lent entries.new ≡ specs.with_all_new specs.same_entry (exprs_lent entries.old) (specs.entry_operand (setting_in_code w.now).sites n (expression e.now))) }
+    ensures { OnOk result (
+        exprs_lent entries.new
+        ≡ specs.with_all_new specs.same_entry (exprs_lent entries.old) (specs.entry_operand (setting_in_code w.now).sites n (expression e.now))) }
 {
     if is_row_column(w.sites, n, e) || is_literal(e) {
         return Ok(());
@@ -120,7 +122,9 @@ fn put_operands<'a>(
     e: &'a Expr,
     entries: &mut Entries<'a>,
 ) -> Result<(), NoMemory>
-    ensures { OnOk result (exprs_lent entries.new ≡ specs.with_all_new specs.same_entry (exprs_lent entries.old) (specs.entries_in (setting_in_code w.now).sites n (expression e.now))) }
+    ensures { OnOk result (
+        exprs_lent entries.new
+        ≡ specs.with_all_new specs.same_entry (exprs_lent entries.old) (specs.entries_in (setting_in_code w.now).sites n (expression e.now))) }
 {
     match &e.node {
         ExprNode::Binary(_, a, b) => {
@@ -166,7 +170,9 @@ fn put_arguments<'a>(es: &'a [Expr], entries: &mut Entries<'a>) -> Result<(), No
 }
 
 fn put_asked<'a>(run: &'a [Stmt], ids: &Name, entries: &mut Entries<'a>) -> Result<(), NoMemory>
-    ensures { OnOk result (IsUpTo 9 (exprs_lent entries.new) (specs.with_all_new specs.same_entry (exprs_lent entries.old) (specs.arguments_asked (asked_for (statements run.now) ids.now)))) }
+    ensures { OnOk result (
+        IsUpTo 9 (exprs_lent entries.new) (
+        specs.with_all_new specs.same_entry (exprs_lent entries.old) (specs.arguments_asked (asked_for (statements run.now) ids.now)))) }
 {
     match asked_for(run, ids) {
         None => Ok(()),
@@ -198,7 +204,8 @@ pub fn entries_among<'a>(
     leaves: &[Leaf<'a>],
     known: &[&Name],
 ) -> Result<Option<Entries<'a>>, NoMemory>
-    ensures { IfOk result (λ o. AreFew 9 (specs.with_arguments (setting_in_code w.now).fragment.run (specs.entries_among (setting_in_code w.now).sites [] (map leaf_in_code leaves.now)) (names_lent known.now)) (option_map exprs_lent o)) }
+    ensures { IfOk result (λ o.
+        AreFew 9 (specs.with_arguments (setting_in_code w.now).fragment.run (specs.entries_among (setting_in_code w.now).sites [] (map leaf_in_code leaves.now)) (names_lent known.now)) (option_map exprs_lent o)) }
 {
     let mut entries = Items::new(alloc);
     put_leaves(w, leaves, &mut entries)?;

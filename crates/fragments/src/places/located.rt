@@ -106,7 +106,8 @@ fn located_in_method<'a>(
     number: u64,
     path: &[u64],
 ) -> Result<Option<Located<'a>>, NoMemory>
-    ensures { IfOk result (IsFoundIn (option_copied schema.entry) (scope_of_params (option_copied schema.entry) [] (plain_method m.now).params) path.now number (plain_method m.now).body) }
+    ensures { IfOk result (
+        IsFoundIn (option_copied schema.entry) (scope_of_params (option_copied schema.entry) [] (plain_method m.now).params) path.now number (plain_method m.now).body) }
 {
     let mut visible = Scope::new(alloc);
     let mut types = Scope::new(alloc);

@@ -73,7 +73,9 @@ fn enter_all(alloc: Global, forms: &[Formula], pool: &mut Formulas) -> Result<()
 #[tactic(auto, using(crate::proofs::CappedPools::capped))]
 fn pair_of(alloc: Global, scope: Scope, f: &Formula) -> Result<Formulas, NoMemory>
     requires { specs.conjuncts (form_of f.now) ≡ form_of f.now ∷ [] }
-    ensures { IfOk result (λ own. forms_of own ≡ specs.all_entered [] (filter (specs.may_enter scope.entry.atoms.now scope.entry.chain.now scope.entry.base) (form_of f.now ∷ []))) }
+    ensures { IfOk result (λ own.
+        forms_of own
+        ≡ specs.all_entered [] (filter (specs.may_enter scope.entry.atoms.now scope.entry.chain.now scope.entry.base) (form_of f.now ∷ []))) }
 {
     let mut one = Formulas::new(alloc);
     one.push(copy_formula(alloc, f)?)?;
@@ -89,7 +91,10 @@ fn enter_conjunct(
     pool: &mut Formulas,
 ) -> Result<(), NoMemory>
     requires { specs.conjuncts (form_of f.now) ≡ form_of f.now ∷ [] }
-    ensures { OnOk result (IsCapped (forms_of pool.new) (specs.all_entered (forms_of pool.old) (filter (specs.may_enter scope.entry.atoms.now scope.entry.chain.now scope.entry.base) (specs.conjuncts (form_of f.now))))) }
+    ensures { OnOk result (
+        IsCapped (forms_of pool.new) (
+        specs.all_entered (forms_of pool.old) (
+        filter (specs.may_enter scope.entry.atoms.now scope.entry.chain.now scope.entry.base) (specs.conjuncts (form_of f.now))))) }
 {
     if pool.len() > 16 {
         return Ok(());
@@ -105,7 +110,10 @@ fn enter_conjuncts(
     f: &Formula,
     pool: &mut Formulas,
 ) -> Result<(), NoMemory>
-    ensures { OnOk result (IsCapped (forms_of pool.new) (specs.all_entered (forms_of pool.old) (filter (specs.may_enter scope.entry.atoms.now scope.entry.chain.now scope.entry.base) (specs.conjuncts (form_of f.now))))) }
+    ensures { OnOk result (
+        IsCapped (forms_of pool.new) (
+        specs.all_entered (forms_of pool.old) (
+        filter (specs.may_enter scope.entry.atoms.now scope.entry.chain.now scope.entry.base) (specs.conjuncts (form_of f.now))))) }
 {
     match f {
         Formula::Is(_, _) => enter_conjunct(alloc, scope, f, pool),

@@ -210,7 +210,8 @@ fn count_flags(all: &Sites) -> usize
 // Whether there are at most 256 loops, and 8 accumulators and flags.
 #[tactic(auto, using(crate::proofs::LoweredCounts::counting))]
 fn parts_are_few(w: &Setting, accs: &[&Name]) -> bool
-    ensures { result ≡ (nat_le (lists.count_loops (setting_in_code w.now).sites) 256 && nat_le (length (names_lent accs.now) + numbering.count_flags (setting_in_code w.now).sites) 8) }
+    ensures { result
+        ≡ (nat_le (lists.count_loops (setting_in_code w.now).sites) 256 && nat_le (length (names_lent accs.now) + numbering.count_flags (setting_in_code w.now).sites) 8) }
 {
     count_loops(w.sites.as_slice()) <= 256
         && (accs.len() <= 8 && accs.len() + count_flags(w.sites) <= 8)
@@ -226,7 +227,10 @@ fn fragment_is_small(
     requires few { HasFewLoops (setting_in_code w.now) }
     requires needed { names_lent needed.now ≡ fragment.needed_of (fragment_in_code w.now.fragment) }
     requires numbers { AreNumbersOf (setting_in_code w.now) (numbers_in_code t.now) }
-    ensures { IfOk result (λ small. small ≡ is_small (length (fragment.accumulators (setting_in_code w.now).fragment) + numbering.count_flags (setting_in_code w.now).sites) (fragment_with (setting_in_code w.now) (numbers_in_code t.now) (names_lent needed.now))) }
+    ensures { IfOk result (λ small.
+        small
+        ≡ is_small (length (fragment.accumulators (setting_in_code w.now).fragment) + numbering.count_flags (setting_in_code w.now).sites) (
+        fragment_with (setting_in_code w.now) (numbers_in_code t.now) (names_lent needed.now))) }
 {
     let counts = counts_of(alloc, w, needed.len())?;
     let context = Context {

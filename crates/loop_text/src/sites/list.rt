@@ -192,7 +192,9 @@ fn push_site<'a>(
     s: &'a Stmt,
     met: &mut Items<Site<'a>>,
 ) -> Result<(), NoMemory>
-    ensures { OnOk result (map site_of met.new ≡ specs.with_site (map site_of met.old) (round_of r.now) (option_map (λ p. statement p.now) previous.entry) (statement s.now)) }
+    ensures { OnOk result (
+        map site_of met.new
+        ≡ specs.with_site (map site_of met.old) (round_of r.now) (option_map (λ p. statement p.now) previous.entry) (statement s.now)) }
 {
     let round = copy_round(alloc, r)?;
     met.push(Site {

@@ -155,7 +155,10 @@ fn push_last(alloc: Global, key: usize, n: usize, found: &mut ByNumber) -> Resul
 }
 
 fn push_tests(alloc: Global, tests: &[Test], n: usize, found: &mut ByNumber) -> Result<(), NoMemory>
-    ensures { OnOk result ((i : ℕ) → under_number found.new i ≡ specs.last_where (list_any (λ (t : sites.Test). nat_eq i t.number) (map test_of tests.now)) n (under_number found.old i)) }
+    ensures { OnOk result (
+        (i : ℕ)
+        → under_number found.new i
+        ≡ specs.last_where (list_any (λ (t : sites.Test). nat_eq i t.number) (map test_of tests.now)) n (under_number found.old i)) }
 {
     for t in tests {
         push_last(alloc, t.number, n, found)?;
@@ -185,7 +188,10 @@ pub fn unders_of(alloc: Global, all: &[Site]) -> Result<ByNumber, NoMemory>
 }
 
 fn put_tests(tests: &[Test], found: &mut NumberSet) -> Result<(), NoMemory>
-    ensures { OnOk result ((i : ℕ) → sites.has_number found.new i ≡ (sites.has_number found.old i || list_any (λ (t : sites.Test). nat_eq i t.number) (map test_of tests.now))) }
+    ensures { OnOk result (
+        (i : ℕ)
+        → sites.has_number found.new i
+        ≡ (sites.has_number found.old i || list_any (λ (t : sites.Test). nat_eq i t.number) (map test_of tests.now))) }
 {
     for t in tests {
         found.put(t.number)?;

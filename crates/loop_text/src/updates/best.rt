@@ -51,7 +51,9 @@ fn push_claim<'a>(
     e: &'a Expr,
     found: &mut Items<Found<'a>>,
 ) -> Result<(), NoMemory>
-    ensures { OnOk result (map found_in_code found.new ≡ map found_in_code found.old ++ specs.found_at number (filter (specs.mentions m.now) (specs.claim (expression e.now) holds ∷ []))) }
+    ensures { OnOk result (
+        map found_in_code found.new
+        ≡ map found_in_code found.old ++ specs.found_at number (filter (specs.mentions m.now) (specs.claim (expression e.now) holds ∷ []))) }
 {
     if !mentions(e, m) {
         return Ok(());
@@ -72,7 +74,9 @@ fn push_claims<'a>(
     e: &'a Expr,
     found: &mut Items<Found<'a>>,
 ) -> Result<(), NoMemory>
-    ensures { OnOk result (map found_in_code found.new ≡ map found_in_code found.old ++ specs.found_at number (filter (specs.mentions m.now) (specs.claims holds (expression e.now)))) }
+    ensures { OnOk result (
+        map found_in_code found.new
+        ≡ map found_in_code found.old ++ specs.found_at number (filter (specs.mentions m.now) (specs.claims holds (expression e.now)))) }
 {
     match &e.node {
         ExprNode::Binary(op, a, b) => {

@@ -79,7 +79,8 @@ fn literal_form<'a>(value: &Scalar) -> Form<'a>
 
 // What is added to a variable: 1, or a column.
 fn added_form<'a>(all: &Sites, n: usize, e: &'a Expr) -> Form<'a>
-    ensures { form_in_code result ≡ (if setting.is_literal_number 1 (expression e.now) then specs.counts else specs.sums_column (sites.row_column_at (map site_of all.now) n (expression e.now))) }
+    ensures { form_in_code result
+        ≡ (if setting.is_literal_number 1 (expression e.now) then specs.counts else specs.sums_column (sites.row_column_at (map site_of all.now) n (expression e.now))) }
 {
     if is_literal_one(e) {
         Form::Counts

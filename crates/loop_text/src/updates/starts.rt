@@ -142,7 +142,8 @@ fn starts(all: &Sites, s: &Stmt, behind: &[Stmt], x: &Name) -> bool
 
 // A statement mentions one of these accumulators and doesn't start it.
 fn spoils_one(all: &Sites, s: &Stmt, behind: &[Stmt], xs: &[&Name]) -> bool
-    ensures { result ≡ list_any (λ x. setting.touches x (statement s.now) && not (specs.starts (map site_of all.now) (statement s.now) (statements behind.now) x)) (names_lent xs.now) }
+    ensures { result
+        ≡ list_any (λ x. setting.touches x (statement s.now) && not (specs.starts (map site_of all.now) (statement s.now) (statements behind.now) x)) (names_lent xs.now) }
 {
     for x in xs {
         if touches(s, x) && !starts(all, s, behind, x) {
