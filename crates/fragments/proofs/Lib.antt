@@ -1,6 +1,7 @@
 pub mod CappedPools
 pub mod Gathered
 pub mod Judged
+pub mod Known
 pub mod KnownQueries
 pub mod Locations
 pub mod LoweredBeside

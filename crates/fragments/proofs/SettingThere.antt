@@ -1,5 +1,5 @@
 -- The setting of the loop to which a path leads in a well-typed program, and what is lowered there.
-use Rattle.std.proofs.Common.{◌≡◌, ℕ, true, List, Option, Some, None, sym, ap, ◌∙◌}
+use Rattle.std.proofs.Common.{◌≡◌, ℕ, true, List, Option, Some, None, sym, ap, ◌∙◌, subst}
 use Rattle.qbs_base.specs.declared.memory.Fail.{Fail}
 use Rattle.qbs_base.specs.declared.memory.Fail.TheVariants.{Fault, NoMemory}
 use Rattle.qbs_base.specs.Values.{Schema}
@@ -12,6 +12,7 @@ use Rattle.java_types.specs.Texts.{read_by}
 use Rattle.kernel_lang.specs.Typed.{is_typed}
 use Rattle.loop_text.specs.Statements.Fragment.{Fragment, fragment_at}
 use Rattle.java_loops.specs.Kernel.Kernel.{broken, setting_at}
+use Rattle.fragments.specs.Asked.{HasQueriesOf, HasKnownQueries}
 use Rattle.fragments.specs.Locating.{fragment_located, IsLocatedAt}
 use Rattle.java_loops.specs.Lowering.Lowered.{Lowering}
 use Rattle.java_loops.specs.Meant.Lowers.{IsLowered}
@@ -23,6 +24,7 @@ use Rattle.fragments.specs.Verdicts.{BreaksFirst, MayBeLowered, IsLoweredFrom}
 use Rattle.loop_text.specs.Statements.Walking.{IsLoopOf}
 use Rattle.fragments.specs.declared.lowering.lowered.Outside.{Outside}
 use Rattle.fragments.specs.declared.places.position.Located.{Located}
+use Rattle.fragments.proofs.Known.KnownLoop.{known_to}
 use Rattle.fragments.proofs.KnownQueries.{may_be_lowered}
 use Rattle.java_loops.proofs.Kept.NeededOnce.{once_is}
 use Rattle.java_loops.proofs.Placing.PathsLead.{loop_has_fragment}
@@ -76,6 +78,12 @@ module _ (schema : Schema) (path : List ℕ) (p : PlainProgram) (q : Located) (w
   located_fits fits l first kept k =
       ap (λ (z : Lowering). is_typed schema z.fragment) (sym k.lowered)
       ∙ fragment_fits schema (read_by schema) p path (setting_located schema q) well fits is_setting k.unbroken
+
+  -- its known queries are those that emission asks for
+  pub located_known : NumbersFit p → (l : Lowering) (first : ℕ) (kept : List ℕ) → IsLoweredFrom (setting_located schema q) q.first l first kept → HasKnownQueries schema l
+  located_known fits l first kept k =
+      subst (HasKnownQueries schema) k.lowered
+      (known_to schema (read_by schema) p path (setting_located schema q) (record { typed = well; numbers = fits; there = is_setting; unbroken = k.unbroken }) (subst (HasQueriesOf schema) (sym k.lowered) k.queries))
 
   -- the rule that it breaks first is that of the loop in its program
   pub located_breaks : (e : Fail Outside) → BreaksFirst (setting_located schema q) e → IsOutside schema (read_by schema) p path e

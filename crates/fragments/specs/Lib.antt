@@ -1,3 +1,5 @@
+pub mod Asked
+pub mod AskedWorked
 pub mod Capped
 pub mod Contexts
 pub mod Counted

@@ -16,6 +16,7 @@ use Rattle.java_loops.specs.Kernel.KernelStarts.{broken_starts}
 use Rattle.java_loops.specs.Kernel.KernelStatements.{broken_statements, broken_updates}
 use Rattle.loop_text.specs.Statements.KeptStatements.{AreKept}
 use Rattle.java_loops.specs.Lowering.Lowered.{Lowering, names_read}
+use Rattle.fragments.specs.Asked.{HasQueriesOf}
 use Rattle.fragments.specs.LoweredInCode.{has_query}
 use Rattle.fragments.specs.Lowers.{broken_in_code}
 use Rattle.java_loops.specs.Lowering.Numbering.{Numbers, numbers_of}
@@ -55,9 +56,11 @@ pub record MayBeLowered (w : Setting) : Type 0 where
   pub valid : broken w ≡ None → validity.broken (lowering w).fragment ≡ None
   pub known : broken w ≡ None → list_all (has_query w) (numbers_of w).known ≡ true
 
--- the lowered fragment of a loop that breaks no rule, the number of its run's first statement, and those of the kept ones
+-- the lowered fragment of a loop that breaks no rule, whose known queries are queries of the schema, the number of its run's
+-- first statement, and those of the kept ones
 pub record IsLoweredFrom (w : Setting) (number : ℕ) (l : Lowering) (first : ℕ) (kept : List ℕ) : Type 0 where
   pub unbroken : broken w ≡ None
   pub lowered : lowering w ≡ l
+  pub queries : HasQueriesOf w.schema l
   pub begins : first ≡ number
   pub keeps : AreKept w.fragment (names_read l.entries) first w.fragment.run kept

@@ -2,6 +2,7 @@
 #![tactic(auto)]
 
 mod kept;
+pub mod laws;
 mod lowered_there;
 mod lowering;
 mod numbering;

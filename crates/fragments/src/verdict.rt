@@ -1,5 +1,6 @@
 // Loops, lowered.
-ghost use Rattle.std.specs.Prelude.{◌≡◌, IfOk, IfErr, true};
+ghost use Rattle.std.specs.Prelude.{◌≡◌, IfOk, IfErr, true, map};
+ghost use Rattle.sql_ast.specs.Reading.{query};
 ghost use Rattle.java_ast.specs.Reading.{program as plain_program};
 ghost use Rattle.java_types.specs.Texts.{read_by};
 ghost use Rattle.java_mean.specs.WellTyped.{IsWellTyped};
@@ -11,6 +12,7 @@ ghost use Rattle.fragments.specs.Lowers.{lowering_in_code, IsOutside};
 ghost use Rattle.java_loops.specs.Meant.Lowers.{IsLowered, IsMeant};
 ghost use Rattle.java_loops.specs.Kernel.Setting.{Setting};
 ghost use Rattle.loop_text.specs.Statements.Walking.{IsLoopOf};
+ghost use Rattle.sql_emit.specs.Given.{AreKnownTo};
 
 use crate::lowered_there::lower_located;
 use crate::lowering::lowered::{Lowered, Outside};
@@ -34,6 +36,7 @@ pub fn lower(
     ensures lowered { IfOk result (λ l. IsLowered schema.now (read_by schema.now) (plain_program typed.now.program) path.now (lowering_in_code l) l.first l.kept) }
     ensures outside { IfErr result (IsOutside schema.now (read_by schema.now) (plain_program typed.now.program) path.now) }
     ensures fits { IfOk result (λ l. is_typed schema.now (fragment_of l.frag) ≡ true) }
+    ensures known { IfOk result (λ l. AreKnownTo schema.now (fragment_of l.frag) (map query l.known) l.known_args) }
     ensures means { IfOk result (λ l.
         (w : Setting)
         → setting_at schema.now (read_by schema.now) path.now (plain_program typed.now.program) ≡ Some w

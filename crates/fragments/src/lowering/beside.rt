@@ -1,12 +1,14 @@
 // What stands beside a lowered fragment.
-ghost use Rattle.std.specs.Prelude.{◌≡◌, ◌≤◌, ◌++◌, ◌∷◌, [], true, IfOk, OnOk, Some, None, length, option_copied, map};
-ghost use Rattle.std.specs.List.{list_all};
+ghost use Rattle.std.specs.Prelude.{◌≡◌, ◌<◌, ◌≤◌, ◌^◌, ◌++◌, ◌∷◌, [], true, IfOk, OnOk, Some, None, length, option_copied, map};
+ghost use Rattle.std.specs.List.{AllByRecursion, list_all};
 ghost use Rattle.std.specs.Option.{option_map};
 ghost use Rattle.sql_ast.specs.Reading.{query};
+ghost use Rattle.sql_ast.specs.Valid.{IsQueryOf};
 ghost use Rattle.java_ast.specs.Reading.{expression, expressions, statement, statements};
 ghost use Rattle.kernel_lang.specs.Parts.{parts_of};
 ghost use Rattle.kernel_lang.specs.Validity as validity;
 ghost use Rattle.kernel_lang.specs.Whole.{fragment_of};
+ghost use Rattle.fragments.specs.Asked.{HasQueriesOf};
 ghost use Rattle.fragments.specs.Counted.{numbers_in_code, HasFewLoops, AreNumbersOf};
 ghost use Rattle.loop_text.specs.Statements.Fragment as fragment;
 ghost use Rattle.loop_text.specs.Kernel.KernelConditions as conditions;
@@ -30,7 +32,7 @@ use kernel_lang::{KFragment, Parts};
 use loop_text::conditions::asked::Asked;
 use loop_text::sites::bindings::declared_name;
 use loop_text::statements::names::sets;
-use qbs_base::{Items, Name, Names, NoMemory, NumberLists};
+use qbs_base::{Items, Name, Names, NoMemory, NumberLists, Text};
 use sql_ast::{Queries, Query};
 use std::alloc::Global;
 
@@ -146,24 +148,36 @@ fn copy_entries(alloc: Global, entries: &[&Expr]) -> Result<Exprs, NoMemory>
 
 // ---- Known lists
 
+// Reads the length of a text: that of any that is held has 64 bits. It changes nothing.
+fn read_length(text: &Text)
+    ensures { length text.now < 2 ^ 64 }
+{
+    let _length = text.as_str().len();
+}
+
 // The query that the run gives to a variable.
 fn query_asked(alloc: Global, w: &Setting, x: &Name) -> Result<Query, NoMemory>
     requires { has_query (setting_in_code w.now) x.now ≡ true }
-    ensures { IfOk result (λ q. Some (query q) ≡ specs.query_asked (setting_in_code w.now).read (conditions.asked_for (setting_in_code w.now).fragment.run x.now)) }
+    ensures asked { IfOk result (λ q. Some (query q) ≡ specs.query_asked (setting_in_code w.now).read (conditions.asked_for (setting_in_code w.now).fragment.run x.now)) }
+    ensures valid { IfOk result (λ q. IsQueryOf (setting_in_code w.now).schema (query q)) }
 {
     match asked_for(w.fragment.run, x) {
         None => unreachable!(),
-        Some(a) => match read_query(alloc, w.schema, a.text)? {
-            None => unreachable!(),
-            Some(q) => Ok(q),
-        },
+        Some(a) => {
+            read_length(a.text);
+            match read_query(alloc, w.schema, a.text)? {
+                None => unreachable!(),
+                Some(q) => Ok(q),
+            }
+        }
     }
 }
 
-#[tactic(auto, using(crate::proofs::LoweredBeside::beside))]
+#[tactic(auto, using(crate::proofs::LoweredBeside::beside, crate::proofs::Known::KnownHeld::valid_added))]
 fn queries_asked(alloc: Global, w: &Setting, known: &[&Name]) -> Result<Queries, NoMemory>
     requires { list_all (has_query (setting_in_code w.now)) (names_lent known.now) ≡ true }
-    ensures { IfOk result (λ qs.
+    ensures valid { IfOk result (AllByRecursion (λ q. IsQueryOf (setting_in_code w.now).schema (query q))) }
+    ensures asked { IfOk result (λ qs.
         map (λ q. Some (query q)) qs
         ≡ map (λ x. specs.query_asked (setting_in_code w.now).read (conditions.asked_for (setting_in_code w.now).fragment.run x)) (names_lent known.now)) }
 {
@@ -253,6 +267,7 @@ pub fn lowering_with(
     requires valid { validity.broken (specs.fragment_with (setting_in_code w.now) (numbers_in_code t.now) (names_lent names.now)) ≡ None }
     requires known { list_all (has_query (setting_in_code w.now)) (numbers_in_code t.now).known ≡ true }
     ensures lowered { IfOk result (λ l. lowering_in_code l ≡ specs.lowering_with (setting_in_code w.now) (numbers_in_code t.now) (names_lent names.now)) }
+    ensures queries { IfOk result (λ l. HasQueriesOf (setting_in_code w.now).schema (lowering_in_code l)) }
     ensures first { IfOk result (λ l. l.first ≡ first) }
     ensures kept { IfOk result (λ l. l.kept ≡ kept) }
 {

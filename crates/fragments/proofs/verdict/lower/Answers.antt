@@ -1,6 +1,7 @@
-use Rattle.std.proofs.Common.{◌≡◌, ℕ, List, Option, Some, None, true, subst}
+use Rattle.std.proofs.Common.{◌≡◌, ℕ, List, Option, Some, None, true, map, subst}
 use Rattle.std.proofs.lemmas.Result.{IfOk-weaker, IfErr-weaker}
 use Rattle.qbs_base.specs.Values.{Schema}
+use Rattle.sql_ast.specs.Reading.{query}
 use Rattle.java_ast.specs.declared.tree.Program.{Program}
 use Rattle.java_ast.specs.Reading.{program}
 use Rattle.java_types.specs.Texts.{read_by}
@@ -15,8 +16,10 @@ use Rattle.java_loops.specs.Lowering.Placing.{fragment_once_at}
 use Rattle.java_loops.specs.Kernel.Setting.{Setting}
 use Rattle.fragments.specs.Verdicts.{BreaksFirst, IsLoweredFrom}
 use Rattle.fragments.specs.declared.places.position.Located.{Located}
+use Rattle.sql_emit.specs.Given.{AreKnownTo}
 use Rattle.java_loops.proofs.Kept.KeptMeant.{lowered_is_meant}
-use Rattle.fragments.proofs.SettingThere.{setting_located, loop_is_found, located_may, located_lowered, located_fits, located_breaks}
+use Rattle.fragments.proofs.Known.KnownHeld.{known_held}
+use Rattle.fragments.proofs.SettingThere.{setting_located, loop_is_found, located_may, located_lowered, located_fits, located_known, located_breaks}
 use Rattle.fragments.proofs.verdict.lower.Goals as goal
 
 pub unreachable-requires : goal.unreachable-requires
@@ -55,6 +58,15 @@ returns-clause-fits c =
     (λ l. located_fits c.args.schema.now c.args.path.now (program c.args.typed.now.program) c.in-Some.there c.requires.typed
     (found_there c.args.schema.now c.args.path.now c.program.result.now c.args.typed.now.program c.in_ok-located.field-0 c.in-Some.there c.program.ensures c.in-Some.is c.in_ok-located.ensures)
     c.args.typed.now.numbers (lowering_in_code l) l.first l.kept)
+    c.lower_located.ensures.lowered
+
+pub returns-clause-known : goal.returns-clause-known
+returns-clause-known c =
+    IfOk-weaker c.lower_located.result (λ l. IsLoweredFrom (setting_located c.args.schema.now c.in-Some.there) c.in-Some.there.first (lowering_in_code l) l.first l.kept) (λ l. AreKnownTo c.args.schema.now (fragment_of l.frag) (map query l.known) l.known_args)
+    (λ l k. known_held c.args.schema.now (fragment_of l.frag) l.known l.known_args
+    (located_known c.args.schema.now c.args.path.now (program c.args.typed.now.program) c.in-Some.there c.requires.typed
+    (found_there c.args.schema.now c.args.path.now c.program.result.now c.args.typed.now.program c.in_ok-located.field-0 c.in-Some.there c.program.ensures c.in-Some.is c.in_ok-located.ensures)
+    c.args.typed.now.numbers (lowering_in_code l) l.first l.kept k))
     c.lower_located.ensures.lowered
 
 pub returns-clause-means : goal.returns-clause-means

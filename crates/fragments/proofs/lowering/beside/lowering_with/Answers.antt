@@ -7,6 +7,7 @@ use Rattle.java_loops.specs.Lowering.Numbering.{arguments_asked}
 use Rattle.loop_text.specs.Sites.Reading.{exprs_lent}
 use Rattle.loop_text.specs.Statements.Seen.{names_lent}
 use Rattle.fragments.specs.Reading.{setting_in_code}
+use Rattle.fragments.proofs.Known.KnownHeld.{queries_held}
 use Rattle.fragments.proofs.LoweredBeside.{same_lowering}
 use Rattle.fragments.proofs.lowering.beside.lowering_with.Goals as goal
 
@@ -16,7 +17,10 @@ returns-clause-lowered c =
     (c.valid_fragment.ensures ∙ c.in_ok-parts.ensures)
     c.in_ok-names_of.ensures
     (c.in_ok-copy_entries.ensures ∙ ap (λ (l : List (Bor Expr)). exprs_lent l) c.as_slice-entries.ensures)
-    (c.in_ok-queries_asked.ensures ∙ ap (λ (l : List (Bor (List ℕ))). map (λ x. query_asked (setting_in_code c.args.w.now).read (asked_for (setting_in_code c.args.w.now).fragment.run x)) (names_lent l)) c.as_slice-known.ensures)
+    (c.in_ok-queries_asked.ensures.asked ∙ ap (λ (l : List (Bor (List ℕ))). map (λ x. query_asked (setting_in_code c.args.w.now).read (asked_for (setting_in_code c.args.w.now).fragment.run x)) (names_lent l)) c.as_slice-known.ensures)
     (c.in_ok-arguments_of.ensures
     ∙ ap (λ (l : List (Bor Expr)). map (λ x. numbers_of_arguments (exprs_lent l) (arguments_asked (asked_for (setting_in_code c.args.w.now).fragment.run x))) (names_lent c.as_slice-known.result.now)) c.as_slice-entries.ensures
     ∙ ap (λ (l : List (Bor (List ℕ))). map (λ x. numbers_of_arguments (exprs_lent c.args.t.now.entries) (arguments_asked (asked_for (setting_in_code c.args.w.now).fragment.run x))) (names_lent l)) c.as_slice-known.ensures)
+
+pub returns-clause-queries : goal.returns-clause-queries
+returns-clause-queries c = queries_held (setting_in_code c.args.w.now).schema c.in_ok-queries_asked.field-0 c.in_ok-queries_asked.ensures.valid

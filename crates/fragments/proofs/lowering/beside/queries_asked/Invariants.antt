@@ -1,7 +1,8 @@
 use Rattle.std.specs.Prelude.{Some}
-use Rattle.std.specs.List.{list_all}
+use Rattle.std.specs.List.{AllByRecursion, list_all}
 use Rattle.std.proofs.Common.{◌≡◌, ◌++◌, true, drop, map}
 use Rattle.sql_ast.specs.Reading.{query}
+use Rattle.sql_ast.specs.Valid.{IsQueryOf}
 use Rattle.loop_text.specs.Kernel.KernelConditions.{asked_for}
 use Rattle.java_loops.specs.Lowering.Lowered.{query_asked}
 use Rattle.fragments.specs.LoweredInCode.{has_query}
@@ -13,3 +14,4 @@ abbrev pub invariant-loop-x : goal.invariant-loop-x
 invariant-loop-x l =
     (list_all (has_query (setting_in_code l.w)) (names_lent (drop l.x-index l.known)) ≡ true)
     × (map (λ q. Some (query q)) l.queries ++ map (λ x. query_asked (setting_in_code l.w).read (asked_for (setting_in_code l.w).fragment.run x)) (names_lent (drop l.x-index l.known)) ≡ map (λ x. query_asked (setting_in_code l.w).read (asked_for (setting_in_code l.w).fragment.run x)) (names_lent l.known))
+    × AllByRecursion (λ q. IsQueryOf (setting_in_code l.w).schema (query q)) l.queries

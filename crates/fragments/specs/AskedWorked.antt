@@ -15,7 +15,7 @@ use Rattle.java_types.specs.Texts.{read_by}
 use Rattle.java_loops.specs.Kernel.Kernel.{lowering}
 use Rattle.java_loops.specs.Kernel.Setting.{Setting}
 use Rattle.java_loops.specs.Kernel.Worked.{program_of}
-use Rattle.known_queries.specs.Asked.{queries_in, IsKernelLoop, HasQueriesOf}
+use Rattle.fragments.specs.Asked.{queries_in, IsKernelLoop, HasQueriesOf}
 
 abbrev ids : List ℕ
 ids = codes "ids"

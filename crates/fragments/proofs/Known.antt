@@ -1,5 +1,6 @@
 pub mod KnownArguments
 pub mod KnownColumn
+pub mod KnownHeld
 pub mod KnownList
 pub mod KnownLoop
 pub mod KnownTests

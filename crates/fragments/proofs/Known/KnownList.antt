@@ -27,8 +27,8 @@ use Rattle.java_loops.proofs.Known.KnownLists.{AsksBy, as_list, as_set, IsAskedF
 use Rattle.java_loops.proofs.Known.KnownNumbers.{IsGoodKnown}
 use Rattle.java_loops.proofs.Numbers.Numberings.{type_of_members}
 use Rattle.java_loops.proofs.Valid.ValidThere.{IsEntered}
-use Rattle.known_queries.proofs.Known.KnownArguments.{entry_types, arguments_typed}
-use Rattle.known_queries.proofs.Known.KnownColumn.{IsColumnQuery, column_query}
+use Rattle.fragments.proofs.Known.KnownArguments.{entry_types, arguments_typed}
+use Rattle.fragments.proofs.Known.KnownColumn.{IsColumnQuery, column_query}
 
 -- ---- The type of what asks
 

@@ -6,8 +6,8 @@ ghost use Rattle.sql_ast.specs.Tree.{PlainQuery};
 ghost use Rattle.java_ast.specs.Tree.{PlainProgram};
 ghost use Rattle.java_loops.specs.Kernel.Kernel.{lowering};
 ghost use Rattle.java_loops.specs.Kernel.Setting.{Setting};
-ghost use Rattle.known_queries.specs.Asked.{IsKernelLoop, HasQueriesOf, HasKnownQueries};
-ghost use Rattle.known_queries.specs.AskedWorked.{AsksForRoles};
+ghost use Rattle.fragments.specs.Asked.{IsKernelLoop, HasQueriesOf, HasKnownQueries};
+ghost use Rattle.fragments.specs.AskedWorked.{AsksForRoles};
 
 /// In a well-typed program whose literals have 64 bits, the known queries of a loop that breaks no rule of the kernel form,
 /// where they are queries of the schema, are those that emission asks for.

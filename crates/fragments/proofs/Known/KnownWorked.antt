@@ -14,8 +14,8 @@ use Rattle.java_types.proofs.Found.{found_exactly}
 use Rattle.loop_text.specs.Statements.Setting.{is_found}
 use Rattle.java_loops.specs.Kernel.Kernel.{broken, lowering, setting_at}
 use Rattle.java_loops.specs.Kernel.Setting.{Setting}
-use Rattle.known_queries.specs.Asked.{queries_in}
-use Rattle.known_queries.specs.AskedWorked.{asked_text, asked_query, asking, AsksForRoles}
+use Rattle.fragments.specs.Asked.{queries_in}
+use Rattle.fragments.specs.AskedWorked.{asked_text, asked_query, asking, AsksForRoles}
 
 abbrev there : Option Setting
 there = setting_at staff_schema (read_by staff_schema) (0 ∷ 2 ∷ []) asking

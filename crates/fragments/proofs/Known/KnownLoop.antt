@@ -32,10 +32,10 @@ use Rattle.java_loops.proofs.Placing.PlaceTyped.{FragmentThere}
 use Rattle.java_loops.proofs.Typing.TypedFragment.{fragment_fits}
 use Rattle.java_loops.proofs.Valid.ValidThere.{IsEntered}
 use Rattle.sql_emit.specs.Given.{AreKnown}
-use Rattle.known_queries.specs.Asked.{queries_in, IsKernelLoop, HasQueriesOf, HasKnownQueries}
-use Rattle.known_queries.proofs.Known.KnownArguments.{entry_types, arguments_entered}
-use Rattle.known_queries.proofs.Known.KnownList.{query_for, arguments_for, IsKnownHere, known_here}
-use Rattle.known_queries.proofs.Known.KnownTests.{tests_fit}
+use Rattle.fragments.specs.Asked.{queries_in, IsKernelLoop, HasQueriesOf, HasKnownQueries}
+use Rattle.fragments.proofs.Known.KnownArguments.{entry_types, arguments_entered}
+use Rattle.fragments.proofs.Known.KnownList.{query_for, arguments_for, IsKnownHere, known_here}
+use Rattle.fragments.proofs.Known.KnownTests.{tests_fit}
 
 -- ---- The premise on queries, for each known list
 

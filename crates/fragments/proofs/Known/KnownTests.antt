@@ -28,8 +28,8 @@ use Rattle.java_loops.proofs.Valid.ValidThere.{zip_all}
 use Rattle.java_loops.proofs.Valid.ValidVisits.{all_weaker}
 use Rattle.sql_emit.specs.Emitted.{item_col}
 use Rattle.sql_emit.specs.Given.{known_type, MemberFits}
-use Rattle.known_queries.specs.Asked.{queries_in}
-use Rattle.known_queries.proofs.Known.KnownList.{query_for, IsKnownHere}
+use Rattle.fragments.specs.Asked.{queries_in}
+use Rattle.fragments.proofs.Known.KnownList.{query_for, IsKnownHere}
 
 -- ---- A test of a known list
 
