@@ -1,5 +1,8 @@
-// A loop of two statements, found, replaced and copied.
-use java_ast::{Path, Program, Stmt, StmtNode, Stmts, at_path, copy_program, replace_at};
+// A loop of two statements, found, replaced and copied, and its condition with another place.
+use java_ast::{
+    Expr, ExprNode, Path, Program, Stmt, StmtNode, Stmts, at_path, copy_placed, copy_program,
+    put_at, replace_at,
+};
 use java_lex::{Tokens, lex};
 use java_parser::parse;
 use java_text::print_program;
@@ -7,7 +10,7 @@ use qbs_base::{NoMemory, Span, Text};
 use std::alloc::Global;
 use std::test::Fail;
 
-static SOURCE: &str = "class Walk { void run() { while (true) { break; return; } } }";
+static SOURCE: &str = "class Walk { void run() { while (!true) { break; return; } } }";
 
 const NOWHERE: Span = Span {
     line: 1,
@@ -21,6 +24,7 @@ const NOWHERE: Span = Span {
 enum Change {
     Copied,
     Replaced,
+    Put,
 }
 
 /// The path of the `return`: in the method 0, the statement 0, its body, the statement 1.
@@ -39,6 +43,28 @@ fn one_break(alloc: Global) -> Result<Stmts, NoMemory> {
         node: StmtNode::Break,
     })?;
     Ok(with)
+}
+
+/// Whether a copy of the loop's condition has one place at both of its nodes.
+fn is_placed(alloc: Global, cond: &Expr) -> Result<bool, NoMemory> {
+    let copy = copy_placed(alloc, NOWHERE, cond)?;
+    match &copy.node {
+        ExprNode::Not(inner) => Ok(copy.span == NOWHERE && inner.span == NOWHERE),
+        _ => Ok(false),
+    }
+}
+
+fn has_placed_condition(alloc: Global, program: &Program) -> Result<bool, NoMemory> {
+    let mut path = Path::new(alloc);
+    path.push(0)?;
+    path.push(0)?;
+    match at_path(program, &path) {
+        Some(loop_statement) => match &loop_statement.node {
+            StmtNode::While { cond, .. } => is_placed(alloc, cond),
+            _ => Ok(false),
+        },
+        None => Ok(false),
+    }
 }
 
 fn printed(alloc: Global, program: &Program) -> Result<Option<Text>, NoMemory> {
@@ -61,6 +87,14 @@ fn replaced_text(
     }
 }
 
+/// The same, with the program itself.
+fn put_text(alloc: Global, program: Program) -> Result<Option<Text>, NoMemory> {
+    let path = return_path(alloc)?;
+    let with = one_break(alloc)?.into_vec();
+    let changed = put_at(alloc, program, &path, 0, with)?;
+    printed(alloc, &changed)
+}
+
 fn copied_text(alloc: Global, program: &Program) -> Result<Option<Text>, NoMemory> {
     match copy_program(alloc, program) {
         Ok(copy) => printed(alloc, &copy),
@@ -78,6 +112,10 @@ fn changed_text(
         Change::Replaced => {
             replaced_text(alloc, program, &return_path(alloc)?, &one_break(alloc)?)
         }
+        Change::Put => match copy_program(alloc, program) {
+            Ok(copy) => put_text(alloc, copy),
+            Err(NoMemory) => Err(NoMemory),
+        },
     }
 }
 
@@ -104,9 +142,37 @@ fn the_statements_of_a_loop_are_replaced(rt: HostRuntime) -> Result<(), Fail> {
         is_printed(
             rt.alloc(),
             Change::Replaced,
-            "class Walk {\n    void run() {\n        while (true) {\n            break;\n        }\n    }\n}\n",
+            "class Walk {\n    void run() {\n        while (!true) {\n            break;\n        }\n    }\n}\n",
         )?
     );
+    Ok(())
+}
+
+#[test]
+fn the_statements_of_a_loop_are_replaced_in_place(rt: HostRuntime) -> Result<(), Fail> {
+    assert!(rt;
+        is_printed(
+            rt.alloc(),
+            Change::Put,
+            "class Walk {\n    void run() {\n        while (!true) {\n            break;\n        }\n    }\n}\n",
+        )?
+    );
+    Ok(())
+}
+
+fn is_source_placed(alloc: Global) -> Result<bool, NoMemory> {
+    let Ok(tokens) = lex(alloc, SOURCE.as_bytes()) else {
+        return Ok(false);
+    };
+    match parse(alloc, &tokens) {
+        Ok(program) => has_placed_condition(alloc, &program),
+        Err(_) => Ok(false),
+    }
+}
+
+#[test]
+fn a_copy_has_one_place(rt: HostRuntime) -> Result<(), Fail> {
+    assert!(rt; is_source_placed(rt.alloc())?);
     Ok(())
 }
 
@@ -116,7 +182,7 @@ fn a_copy_has_the_same_text(rt: HostRuntime) -> Result<(), Fail> {
         is_printed(
             rt.alloc(),
             Change::Copied,
-            "class Walk {\n    void run() {\n        while (true) {\n            break;\n            return;\n        }\n    }\n}\n",
+            "class Walk {\n    void run() {\n        while (!true) {\n            break;\n            return;\n        }\n    }\n}\n",
         )?
     );
     Ok(())
