@@ -8,7 +8,7 @@ use Rattle.qbs_base.specs.declared.scalar.Scalar.{Scalar}
 use Rattle.qbs_base.specs.declared.scalar.Value.{Value}
 use Rattle.qbs_base.specs.declared.span.Span.{Span}
 use Rattle.sql_ast.specs.Grouped.{firsts}
-use Rattle.sql_exec.proofs.FirstOnes.{firsts_more}
+use Rattle.sql_ast.proofs.FirstOnes.{firsts_more}
 use Rattle.java_ast.specs.declared.tree.Expr.{Expr, out-Expr}
 use Rattle.java_ast.specs.declared.tree.ExprNode.{Query, QueryLong, QueryBoolean}
 use Rattle.java_ast.specs.declared.tree.JTy.{JTy}

@@ -14,7 +14,7 @@ use Rattle.qbs_base.specs.declared.scalar.Scalar.TheVariants as scalars
 use Rattle.qbs_base.specs.Scalar.{scalar_same, same_cells}
 use Rattle.sql_ast.specs.Grouped.{firsts}
 use Rattle.sql_exec.proofs.Finding.{any_append}
-use Rattle.sql_exec.proofs.FirstOnes.{firsts_more}
+use Rattle.sql_ast.proofs.FirstOnes.{firsts_more}
 use Rattle.java_mean.specs.Expression.{same_member, is_among}
 use Rattle.java_mean.specs.Statement.{added}
 use Rattle.java_interp.specs.declared.met.Atom.{Atom}

@@ -1,3 +1,4 @@
+pub mod ColumnNumbers
 pub mod Escapes
 pub mod Lawful
 pub mod Mapped

@@ -1,3 +1,5 @@
+pub mod Bytes
+pub mod Columns
 pub mod Folded
 pub mod Held
 pub mod Laws
@@ -5,6 +7,7 @@ pub mod Literal
 pub mod Memory
 pub mod Named
 pub mod Outside
+pub mod Places
 pub mod Printed
 pub mod Room
 pub mod Scalar

@@ -1,4 +1,7 @@
 // The schema as plain tables and columns.
+ghost use Rattle.std.specs.Prelude.{◌≡◌};
+ghost use Rattle.qbs_base.specs.Columns as specs;
+
 use crate::{Items, Name, Ty};
 
 /// A column of a table.
@@ -18,3 +21,25 @@ pub struct Table {
 }
 
 pub type Tables = Items<Table>;
+
+/// The columns of the table with this number, none where there is no such table.
+pub fn columns_at(tables: &[Table], number: u32) -> &[Column]
+    ensures { result.now ≡ specs.columns_at tables.now number }
+{
+    match tables.get(number as usize) {
+        Some(table) => table.columns.as_slice(),
+        None => &[],
+    }
+}
+
+/// Whether two types are one.
+pub fn same_ty(a: Ty, b: Ty) -> bool
+    ensures { result ≡ specs.same_ty a b }
+{
+    match (a, b) {
+        (Ty::Long, Ty::Long) => true,
+        (Ty::Bool, Ty::Bool) => true,
+        (Ty::Text, Ty::Text) => true,
+        _ => false,
+    }
+}

@@ -1,7 +1,9 @@
 //! The plain values of the product: texts, scalars, rows, tables, and the outside as traits.
 #![tactic(auto)]
 
+mod bytes;
 mod columns;
+mod copying;
 mod db;
 mod files;
 mod items;
@@ -9,6 +11,7 @@ pub mod laws;
 mod literal;
 mod memory;
 mod named;
+mod place;
 mod print;
 mod scalar;
 mod sinks;
@@ -16,12 +19,15 @@ mod span;
 mod status;
 mod texts;
 
-pub use columns::{Column, Columns, Table, Tables};
+pub use bytes::{is_digit, is_name_part, is_name_start, is_white};
+pub use columns::{Column, Columns, Table, Tables, columns_at, same_ty};
+pub use copying::{copy_cells, copy_names, copy_row, copy_rows, copy_scalar, copy_text};
 pub use db::Db;
 pub use files::{CleanFiles, Files, MemFiles, ReadAnswer, RealFiles};
 pub use items::Items;
 pub use literal::{push_scalar, push_text_literal};
 pub use memory::{Fail, NoMemory};
+pub use place::Place;
 pub use print::print_value;
 pub use scalar::{
     Bools, Cells, Kind, NumberLists, Numbers, Row, RowLists, Rows, Scalar, ScalarLists, Scalars,

@@ -5,6 +5,7 @@ pub mod Computed
 pub mod Conditions
 pub mod Depths
 pub mod Doubled
+pub mod FirstOnes
 pub mod Inverted
 pub mod InvertedQuery
 pub mod Judged

@@ -24,7 +24,6 @@ pub mod Claims
 pub mod Numbering
 pub mod Meaning
 pub mod Suited
-pub mod FirstOnes
 pub mod Sets
 pub mod Totals
 pub mod Wheres

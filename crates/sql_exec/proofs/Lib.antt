@@ -1,7 +1,6 @@
 pub mod Coming
 pub mod Computed
 pub mod Finding
-pub mod FirstOnes
 pub mod Groups
 pub mod Inner
 pub mod Judged
