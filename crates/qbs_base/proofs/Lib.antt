@@ -4,5 +4,6 @@ pub mod Lawful
 pub mod Mapped
 pub mod Moves
 pub mod Order
+pub mod Rooms
 pub mod Scalars
 pub mod Then
