@@ -2,10 +2,10 @@
 use Rattle.std.proofs.Common.{◌≡◌, ◌⊎◌, ℕ, zero, suc, ◌+◌, ◌≤◌, ◌<◌, Bool, true, false, cond, eqb, List, [], ◌∷◌, length, take, Some, Ok, refl, sym, ◌∙◌, subst, arith, inl, inr}
 use Rattle.std.specs.Prelude.{slice_get}
 use Rattle.qbs_base.specs.declared.span.Span.{Span}
-use Rattle.java_lex.specs.declared.place.Place.{Place}
+use Rattle.qbs_base.specs.declared.place.Place.{Place}
 use Rattle.java_lex.specs.declared.token.Token.{Token}
 use Rattle.java_lex.specs.declared.token.Tokens.{Tokens}
-use Rattle.java_lex.specs.Places.{next_place, place_after, first_place}
+use Rattle.qbs_base.specs.Places.{next_place, place_after, first_place}
 use Rattle.java_lex.specs.Lexing.{lexed}
 use Rattle.java_lex.specs.Spans.{StandsIn, StandInOrder, SamePlace, IsToken}
 use Rattle.java_lex.proofs.Spanned.{spans, line_of, column_of}

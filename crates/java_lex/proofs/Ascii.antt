@@ -4,7 +4,8 @@ use Rattle.std.specs.List.{prefix_len}
 use Rattle.std.specs.Str.{IsAscii}
 use Rattle.std.proofs.lemmas.Bool.Decides.{nat_tests}
 use Rattle.std.proofs.lemmas.Str.{IsUtf8-from_ascii}
-use Rattle.java_lex.specs.Bytes.{is_digit, is_name_part, is_sign, is_long_sign}
+use Rattle.java_lex.specs.Bytes.{is_sign, is_long_sign}
+use Rattle.qbs_base.specs.Bytes.{is_digit, is_name_part}
 use Rattle.java_lex.specs.Pieces.{sign_len}
 
 pub one_more : (n : ℕ) → 1 + n ≡ suc n

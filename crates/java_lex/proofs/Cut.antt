@@ -2,14 +2,14 @@
 use Rattle.std.proofs.Common.{◌≡◌, ℕ, zero, suc, ◌+◌, ◌≤◌, ◌<◌, Bool, true, false, cond, eqb, add-zero, List, [], ◌∷◌, ◌++◌, length, take, drop, Result, Ok, Err, Option, Some, None, refl, sym, ap, ◌∙◌, append_assoc, arith, length-append}
 use Rattle.std.specs.Prelude.{pred}
 use Rattle.std.proofs.lemmas.List.{length-take, length-drop}
-use Rattle.java_lex.specs.declared.place.Place.{Place}
+use Rattle.qbs_base.specs.declared.place.Place.{Place}
 use Rattle.java_lex.specs.declared.piece.Piece.{Piece}
 use Rattle.java_lex.specs.declared.piece.Piece.TheVariants.{Gap, Token as Lexeme, Fault}
 use Rattle.java_lex.specs.declared.token.LexFault.{LexFault}
 use Rattle.java_lex.specs.declared.token.Token.{Token}
 use Rattle.java_lex.specs.declared.token.TokenNode.{TokenNode}
 use Rattle.java_lex.specs.declared.token.Tokens.{Tokens}
-use Rattle.java_lex.specs.Places.{next_place, place_after, first_place, between}
+use Rattle.qbs_base.specs.Places.{next_place, place_after, first_place, between}
 use Rattle.java_lex.specs.Pieces.{piece_of}
 use Rattle.java_lex.specs.Fits.{FitsIn, piece_len}
 use Rattle.java_lex.specs.Lexing.{token_at, with_token, tokens_by, tokens_from, ended}

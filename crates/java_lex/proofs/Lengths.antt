@@ -9,7 +9,8 @@ use Rattle.std.proofs.lemmas.List.Sums.{prefix_len-le-length}
 use Rattle.java_lex.specs.declared.piece.Piece.{Piece}
 use Rattle.java_lex.specs.declared.piece.Piece.TheVariants.{Gap, Fault}
 use Rattle.java_lex.specs.declared.token.LexRule.TheVariants.{BadByte, OpenComment}
-use Rattle.java_lex.specs.Bytes.{quote, backslash, slash, star, zero_digit, long_mark, is_white, is_digit, is_name_start, is_name_part, is_in_line, ends_line, is_plain, escape_of, is_sign, is_long_sign, begins_with}
+use Rattle.java_lex.specs.Bytes.{quote, backslash, slash, star, zero_digit, long_mark, is_in_line, ends_line, is_plain, escape_of, is_sign, is_long_sign, begins_with}
+use Rattle.qbs_base.specs.Bytes.{is_white, is_digit, is_name_start, is_name_part}
 use Rattle.java_lex.specs.Pieces.{checked, line_comment, comment_len, comment_up_to, block_comment, Part, close, line_end, escape, plain, wrong, plain_part, escape_part, escaped, part_of, Body, closed, unclosed, bad, behind, body_by, body_from, literal_of, literal_behind, name_at, digits_len, number_of, integer_of, integer_at, sign_len, sign_of, piece_of}
 use Rattle.java_lex.specs.Fits.{FitsIn, PartFits}
 

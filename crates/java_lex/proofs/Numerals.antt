@@ -9,7 +9,8 @@ use Rattle.std.proofs.lemmas.Bool.{ltb-true, lt-ltb}
 use Rattle.std.proofs.lemmas.Bool.{eqb-true}
 use Rattle.std.proofs.lemmas.List.Sums.{prefix_len-le-length}
 use Rattle.std.proofs.lemmas.Str.Parse.{IsNumeralModel, numerals_by_value, parse_signed_digits}
-use Rattle.java_lex.specs.Bytes.{is_digit, begins_with, zero_digit}
+use Rattle.java_lex.specs.Bytes.{begins_with, zero_digit}
+use Rattle.qbs_base.specs.Bytes.{is_digit}
 use Rattle.java_lex.specs.Pieces.{digits_len, number_of}
 use Rattle.java_lex.proofs.Ascii.{one_more, nil_is_ascii, cons_is_ascii, digits_are_ascii}
 use Rattle.java_lex.proofs.Lengths.{on_cond}

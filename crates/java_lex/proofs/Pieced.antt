@@ -7,7 +7,8 @@ use Rattle.java_lex.specs.declared.piece.Piece.{Piece}
 use Rattle.java_lex.specs.declared.piece.Piece.TheVariants.{Gap, Token, Fault}
 use Rattle.java_lex.specs.declared.token.TokenNode.TheVariants.{Word, Sign}
 use Rattle.java_lex.specs.declared.token.LexRule.TheVariants.{BadByte, OpenComment}
-use Rattle.java_lex.specs.Bytes.{quote, slash, star, zero_digit, long_mark, is_white, is_digit, is_name_start, is_name_part, is_in_line, is_sign, is_long_sign, begins_with}
+use Rattle.java_lex.specs.Bytes.{quote, slash, star, zero_digit, long_mark, is_in_line, is_sign, is_long_sign, begins_with}
+use Rattle.qbs_base.specs.Bytes.{is_white, is_digit, is_name_start, is_name_part}
 use Rattle.java_lex.specs.Pieces.{checked, line_comment, comment_len, comment_up_to, block_comment, Body, closed, unclosed, bad, behind, body_from, literal_of, literal_behind, name_at, digits_len, number_of, integer_of, integer_at, sign_len, sign_of, sign_at, slashed, piece_of}
 use Rattle.java_lex.proofs.Local.{prefix_within, take_same, begins_same, comment_len_inside, body_inside}
 

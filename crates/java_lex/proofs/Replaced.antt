@@ -1,7 +1,7 @@
 -- Bytes of a text are replaced from token to token.
 use Rattle.std.proofs.Common.{◌≡◌, ℕ, zero, suc, ◌+◌, ◌≤◌, ◌<◌, true, List, [], ◌∷◌, ◌++◌, length, take, drop, Result, Ok, Err, Some, refl, sym, ap, ◌∙◌, subst, append_assoc, arith, length-append, add-zero, zero-add}
 use Rattle.std.proofs.lemmas.List.{append-nil, length-take, length-drop}
-use Rattle.java_lex.specs.declared.place.Place.{Place}
+use Rattle.qbs_base.specs.declared.place.Place.{Place}
 use Rattle.java_lex.specs.declared.piece.Piece.{Piece}
 use Rattle.java_lex.specs.declared.piece.Piece.TheVariants.{Gap, Token as Lexeme, Fault}
 use Rattle.java_lex.specs.declared.token.LexFault.{LexFault}
@@ -9,7 +9,7 @@ use Rattle.java_lex.specs.declared.token.Token.{Token}
 use Rattle.java_lex.specs.declared.token.TokenNode.{TokenNode}
 use Rattle.java_lex.specs.declared.token.TokenNode.TheVariants.{Sign}
 use Rattle.java_lex.specs.Bytes.{is_in_line}
-use Rattle.java_lex.specs.Places.{place_after, first_place, between}
+use Rattle.qbs_base.specs.Places.{place_after, first_place, between}
 use Rattle.java_lex.specs.Pieces.{piece_of}
 use Rattle.java_lex.specs.Fits.{FitsIn, piece_len}
 use Rattle.java_lex.specs.Lexing.{tokens_from}

@@ -6,14 +6,15 @@ use Rattle.std.specs.List.{prefix_len}
 use Rattle.std.proofs.lemmas.List.{append-nil, length-take, length-drop}
 use Rattle.std.proofs.lemmas.List.Sums.{sum_by-cons}
 use Rattle.qbs_base.specs.declared.span.Span.{Span}
-use Rattle.java_lex.specs.declared.place.Place.{Place}
+use Rattle.qbs_base.specs.declared.place.Place.{Place}
 use Rattle.java_lex.specs.declared.piece.Piece.{Piece}
 use Rattle.java_lex.specs.declared.piece.Piece.TheVariants.{Gap, Token as Lexeme, Fault}
 use Rattle.java_lex.specs.declared.token.LexFault.{LexFault}
 use Rattle.java_lex.specs.declared.token.Token.{Token}
 use Rattle.java_lex.specs.declared.token.Tokens.{Tokens}
-use Rattle.java_lex.specs.Bytes.{line_feed, is_in_line}
-use Rattle.java_lex.specs.Places.{next_place, place_after, first_place, between, byte_at}
+use Rattle.java_lex.specs.Bytes.{is_in_line}
+use Rattle.qbs_base.specs.Bytes.{line_feed}
+use Rattle.qbs_base.specs.Places.{next_place, place_after, first_place, between, byte_at}
 use Rattle.java_lex.specs.Pieces.{piece_of}
 use Rattle.java_lex.specs.Fits.{FitsIn, piece_len}
 use Rattle.java_lex.specs.Lexing.{tokens_from, ended, lexed}

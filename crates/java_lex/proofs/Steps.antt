@@ -1,43 +1,22 @@
 -- One piece of the text after the other.
-use Rattle.std.proofs.Common.{◌≡◌, ℕ, zero, suc, ◌+◌, ◌≤◌, ◌<◌, Bool, true, false, cond, eqb, List, [], ◌∷◌, ◌++◌, length, take, drop, Result, Ok, Err, refl, sym, ap, ◌∙◌, append_assoc, arith}
+use Rattle.std.proofs.Common.{◌≡◌, ℕ, zero, suc, ◌+◌, ◌≤◌, ◌<◌, List, [], ◌∷◌, ◌++◌, length, take, drop, Result, Ok, Err, refl, sym, ap, ◌∙◌, append_assoc, arith}
 use Rattle.std.specs.Prelude.{pred}
-use Rattle.std.proofs.lemmas.List.{append-nil, length-take, length-drop}
+use Rattle.std.proofs.lemmas.List.{append-nil, length-take}
 use Rattle.qbs_base.specs.declared.memory.Fail.{Fail}
 use Rattle.qbs_base.specs.declared.memory.Fail.TheVariants as fails
-use Rattle.java_lex.specs.declared.place.Place.{Place}
+use Rattle.qbs_base.specs.declared.place.Place.{Place}
 use Rattle.java_lex.specs.declared.piece.Piece.{Piece}
 use Rattle.java_lex.specs.declared.piece.Piece.TheVariants.{Gap, Token as Lexeme, Fault}
 use Rattle.java_lex.specs.declared.token.LexFault.{LexFault}
 use Rattle.java_lex.specs.declared.token.Token.{Token}
-use Rattle.java_lex.specs.Places.{HasRoom, next_place, place_after, first_place, between}
+use Rattle.qbs_base.proofs.Rooms.{room_after, less_room}
+use Rattle.qbs_base.specs.Places.{HasRoom, next_place, place_after, first_place, between}
 use Rattle.java_lex.specs.Pieces.{piece_of}
 use Rattle.java_lex.specs.Fits.{FitsIn, piece_len}
-use Rattle.java_lex.specs.Lexing.{token_at, with_token, tokens_by, tokens_from, ended, lexed, FailsBy}
+use Rattle.java_lex.specs.Lexing.{token_at, with_token, tokens_by, tokens_from, ended, lexed}
+use Rattle.qbs_base.specs.Memory.{FailsBy}
 use Rattle.java_lex.specs.Kept.{kept, Adds}
 use Rattle.java_lex.proofs.Lengths.{piece_fits}
-
--- ---- places
-
-next_room : (p : Place) (b n : ℕ) → HasRoom p (suc n) → HasRoom (next_place p b) n
-next_room p b n h = by_line (eqb b 10) p n h
-  where
-    by_line : (c : Bool) (p : Place) (n : ℕ) → HasRoom p (suc n) → HasRoom (cond c (record { line = p.line + 1; column = 1; index = p.index + 1 }) (record { line = p.line; column = p.column + 1; index = p.index + 1 })) n
-    by_line true p n h = record { index = omega (arith, h.index); line = omega (arith, h.line); column = omega arith }
-    by_line false p n h = record { index = omega (arith, h.index); line = omega (arith, h.line); column = omega (arith, h.column) }
-
-pub room_after : (p : Place) (bs : List ℕ) (n : ℕ) → HasRoom p (length bs + n) → HasRoom (place_after p bs) n
-room_after p [] n h = record { index = omega (arith, h.index); line = h.line; column = h.column }
-room_after p (b ∷ bs) n h = room_after (next_place p b) bs n (next_room p b (length bs + n) (record { index = omega (arith, h.index); line = h.line; column = h.column }))
-
-pub less_room : (p : Place) (m n : ℕ) → m ≤ n → HasRoom p n → HasRoom p m
-less_room p m n le h = record { index = omega (arith, h.index); line = h.line; column = h.column }
-
-pub place_after_part : (p : Place) (n : ℕ) (bs : List ℕ) → place_after (place_after p (take n bs)) (drop n bs) ≡ place_after p bs
-place_after_part p zero bs = refl
-place_after_part p (suc n) [] = refl
-place_after_part p (suc n) (b ∷ bs) = place_after_part (next_place p b) n bs
-
--- ---- tokens
 
 -- the bytes of a piece are passed over
 pub skipped : (p : Place) (k : ℕ) (bs : List ℕ) → tokens_from p k bs ≡ tokens_from (place_after p (take k bs)) 0 (drop k bs)
@@ -118,10 +97,6 @@ module _ (front : List Token) (total : Result (List Token) LexFault) where
   ends p [] none so_far = sym so_far ∙ ap (λ (ts : List Token). Ok ts) (append-nil front)
   ends p (b ∷ bs) none so_far = absurd (omega arith)
 
-pub stays_room : (p end : Place) (bs here rest : List ℕ) (n : ℕ) → n ≤ length bs → here ≡ take n bs → rest ≡ drop n bs → end ≡ place_after p here → HasRoom p (length bs) → HasRoom end (length rest)
-stays_room p end bs here rest n le is_here is_rest is_end h =
-    rw (is_end, is_here, is_rest) (room_after p (take n bs) (length (drop n bs)) (less_room p (length (take n bs) + length (drop n bs)) (length bs) (omega (arith, length-take n bs, length-drop n bs)) h))
-
 pub no_room : (p end : Place) (bs here : List ℕ) (n : ℕ) → n ≤ length bs → here ≡ take n bs → end ≡ place_after p here → HasRoom p (length bs) → HasRoom end 0
 no_room p end bs here n le is_here is_end h =
     rw (is_end, is_here) (room_after p (take n bs) 0 (less_room p (length (take n bs) + 0) (length bs) (omega (arith, length-take n bs)) h))
@@ -140,6 +115,3 @@ pub answers_ok : (p : Place) (ts : List Token) (text rest : List ℕ) → length
     → lexed text ≡ Ok (record { list = ts; end = between p p })
 answers_ok p ts text [] none stands h = rw stands (ap (ended text) h)
 answers_ok p ts text (b ∷ bs) none stands h = absurd (omega arith)
-
-pub passes_over : (p end : Place) (bs here rest : List ℕ) (n : ℕ) → here ≡ take n bs → rest ≡ drop n bs → end ≡ place_after p here → place_after end rest ≡ place_after p bs
-passes_over p end bs here rest n is_here is_rest is_end = rw (is_end, is_here, is_rest) (place_after_part p n bs)

@@ -4,7 +4,7 @@ use Rattle.java_lex.specs.declared.token.Token.{Token}
 use Rattle.java_lex.specs.declared.token.TokenNode.{TokenNode}
 use Rattle.java_lex.specs.declared.token.TokenNode.TheVariants.{Sign}
 use Rattle.java_lex.specs.declared.token.Tokens.{Tokens}
-use Rattle.java_lex.specs.Places.{place_after, first_place}
+use Rattle.qbs_base.specs.Places.{place_after, first_place}
 use Rattle.java_lex.specs.Lexing.{tokens_from, lexed}
 
 -- tokens without their spans

@@ -1,11 +1,11 @@
 -- What one piece adds to the tokens so far.
 use Rattle.std.specs.Prelude.{◌≡◌, List, [], ◌∷◌, ◌++◌, Result, Ok, Err}
-use Rattle.java_lex.specs.declared.place.Place.{Place}
+use Rattle.qbs_base.specs.declared.place.Place.{Place}
 use Rattle.java_lex.specs.declared.piece.Piece.{Piece}
 use Rattle.java_lex.specs.declared.piece.Piece.TheVariants as pieces
 use Rattle.java_lex.specs.declared.token.LexFault.{LexFault}
 use Rattle.java_lex.specs.declared.token.Token.{Token}
-use Rattle.java_lex.specs.Places.{between}
+use Rattle.qbs_base.specs.Places.{between}
 use Rattle.java_lex.specs.Lexing.{fault_at}
 
 -- the tokens of a piece that goes from one place to another, or its fault, which stands at its end

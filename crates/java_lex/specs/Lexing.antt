@@ -1,8 +1,6 @@
 -- The tokens of a text, with their places, or its first fault.
-use Rattle.std.specs.Prelude.{◌≡◌, ℕ, zero, suc, pred, List, [], ◌∷◌, take, Result, Ok, Err}
-use Rattle.qbs_base.specs.declared.memory.Fail.{Fail}
-use Rattle.qbs_base.specs.declared.memory.Fail.TheVariants as fails
-use Rattle.java_lex.specs.declared.place.Place.{Place}
+use Rattle.std.specs.Prelude.{ℕ, zero, suc, pred, List, [], ◌∷◌, take, Result, Ok, Err}
+use Rattle.qbs_base.specs.declared.place.Place.{Place}
 use Rattle.java_lex.specs.declared.piece.Piece.{Piece}
 use Rattle.java_lex.specs.declared.piece.Piece.TheVariants as pieces
 use Rattle.java_lex.specs.declared.token.LexFault.{LexFault}
@@ -10,7 +8,7 @@ use Rattle.java_lex.specs.declared.token.LexRule.{LexRule}
 use Rattle.java_lex.specs.declared.token.Token.{Token}
 use Rattle.java_lex.specs.declared.token.TokenNode.{TokenNode}
 use Rattle.java_lex.specs.declared.token.Tokens.{Tokens}
-use Rattle.java_lex.specs.Places.{next_place, place_after, first_place, between, byte_at}
+use Rattle.qbs_base.specs.Places.{next_place, place_after, first_place, between, byte_at}
 use Rattle.java_lex.specs.Pieces.{piece_of}
 
 -- a fault stands at one byte
@@ -46,13 +44,3 @@ ended text (Err e) = Err e
 -- the tokens that the bytes of a text have, or the first fault of a text that has none
 abbrev pub lexed : List ℕ → Result Tokens LexFault
 lexed text = ended text (tokens_from first_place 0 text)
-
--- it failed for this reason, or memory ran out
-abbrev pub FailsBy : {A F : Type 0} → Fail F → Result A F → Type 0
-FailsBy (fails.Fault f) due = due ≡ Err f
-FailsBy fails.NoMemory due = Unit {0}
-
--- what a call answered is what is due, or memory ran out
-abbrev pub Answers : {A F : Type 0} → Result A (Fail F) → Result A F → Type 0
-Answers (Ok x) due = due ≡ Ok x
-Answers (Err e) due = FailsBy e due

@@ -1,5 +1,4 @@
 pub mod Bytes
-pub mod Places
 pub mod Pieces
 pub mod Fits
 pub mod Seen

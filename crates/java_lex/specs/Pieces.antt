@@ -7,7 +7,8 @@ use Rattle.java_lex.specs.declared.piece.Piece.{Piece}
 use Rattle.java_lex.specs.declared.piece.Piece.TheVariants.{Gap, Token, Fault}
 use Rattle.java_lex.specs.declared.token.LexRule.TheVariants.{BadByte, OpenText, OpenComment, LongTooLarge}
 use Rattle.java_lex.specs.declared.token.TokenNode.TheVariants.{Word, Integer, Text, Sign}
-use Rattle.java_lex.specs.Bytes.{quote, backslash, slash, star, zero_digit, long_mark, is_white, is_digit, is_name_start, is_name_part, is_in_line, ends_line, is_plain, escape_of, is_sign, is_long_sign, begins_with}
+use Rattle.java_lex.specs.Bytes.{quote, backslash, slash, star, zero_digit, long_mark, is_in_line, ends_line, is_plain, escape_of, is_sign, is_long_sign, begins_with}
+use Rattle.qbs_base.specs.Bytes.{is_white, is_digit, is_name_start, is_name_part}
 
 -- ---- comments
 

@@ -4,7 +4,8 @@ use Rattle.std.specs.List.{suffix_len}
 use Rattle.qbs_base.specs.declared.span.Span.{Span}
 use Rattle.java_lex.specs.declared.token.Token.{Token}
 use Rattle.java_lex.specs.declared.token.Tokens.{Tokens}
-use Rattle.java_lex.specs.Bytes.{line_feed, is_in_line}
+use Rattle.java_lex.specs.Bytes.{is_in_line}
+use Rattle.qbs_base.specs.Bytes.{line_feed}
 
 -- a stretch of the text, with its line and its column, counted from 1: how many lines are before it, and how many bytes of
 -- its line

@@ -5,11 +5,11 @@ ghost use Rattle.java_lex.specs.Fits.{FitsIn};
 
 use crate::comments::{block_comment, line_comment};
 use crate::integers::{ascii, integer};
-use crate::kinds::{is_digit, is_name_start, is_white, name_len, sign_len};
+use crate::kinds::{name_len, sign_len};
 use crate::literals::literal;
 use crate::piece::Piece;
 use crate::token::{LexRule, TokenNode};
-use qbs_base::{NoMemory, Text};
+use qbs_base::{NoMemory, Text, is_digit, is_name_start, is_white};
 use std::alloc::Global;
 
 /// A name or a reserved word.

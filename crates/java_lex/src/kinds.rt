@@ -2,32 +2,11 @@
 ghost use Rattle.std.specs.Prelude.{◌≡◌, ◌≤◌, length, take, true};
 ghost use Rattle.std.specs.List.{prefix_len};
 ghost use Rattle.std.specs.Str.{IsAscii, all_ascii_digits};
-ghost use Rattle.java_lex.specs.Bytes.{is_white as is_white_byte, is_digit as is_digit_byte, is_name_start as is_name_start_byte, is_name_part as is_name_part_byte, is_in_line as is_in_line_byte, ends_line as ends_line_byte, is_plain as is_plain_byte, is_sign as is_sign_byte, is_long_sign as is_long_sign_byte, escape_of as escape_of_byte, begins_with as begins_with_byte};
+ghost use Rattle.java_lex.specs.Bytes.{is_in_line as is_in_line_byte, ends_line as ends_line_byte, is_plain as is_plain_byte, is_sign as is_sign_byte, is_long_sign as is_long_sign_byte, escape_of as escape_of_byte, begins_with as begins_with_byte};
+ghost use Rattle.qbs_base.specs.Bytes.{is_digit as is_digit_byte, is_name_part as is_name_part_byte};
 ghost use Rattle.java_lex.specs.Pieces.{digits_len as digits_len_of, sign_len as sign_len_of};
 
-pub fn is_white(byte: u8) -> bool
-    ensures { result ≡ is_white_byte byte }
-{
-    byte == b' ' || byte == b'\t' || byte == b'\r' || byte == b'\n'
-}
-
-pub fn is_digit(byte: u8) -> bool
-    ensures { result ≡ is_digit_byte byte }
-{
-    b'0' <= byte && byte <= b'9'
-}
-
-pub fn is_name_start(byte: u8) -> bool
-    ensures { result ≡ is_name_start_byte byte }
-{
-    (b'A' <= byte && byte <= b'Z') || (b'a' <= byte && byte <= b'z') || byte == b'_'
-}
-
-fn is_name_part(byte: u8) -> bool
-    ensures { result ≡ is_name_part_byte byte }
-{
-    is_name_start(byte) || is_digit(byte)
-}
+use qbs_base::{is_digit, is_name_part};
 
 fn is_in_line(byte: u8) -> bool
     ensures { result ≡ is_in_line_byte byte }

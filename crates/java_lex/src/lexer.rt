@@ -1,14 +1,14 @@
 // The tokens of a text.
 ghost use Rattle.std.specs.Prelude.{◌≡◌, ◌+◌, ◌<◌, ◌^◌, OnOk, IfErr, length};
 ghost use Rattle.java_lex.specs.Kept.{kept, Adds};
-ghost use Rattle.java_lex.specs.Lexing.{Answers, FailsBy, lexed};
-ghost use Rattle.java_lex.specs.Places.{HasRoom};
+ghost use Rattle.java_lex.specs.Lexing.{lexed};
+ghost use Rattle.qbs_base.specs.Memory.{Answers, FailsBy};
+ghost use Rattle.qbs_base.specs.Places.{HasRoom};
 
 use crate::front::first_piece;
 use crate::piece::Piece;
-use crate::place::{Place, after, span, span_of_byte};
 use crate::token::{LexFault, Token, TokenList, Tokens};
-use qbs_base::Fail;
+use qbs_base::{Fail, Place};
 use std::alloc::Global;
 
 /// Adds the token of a piece, if it is one. A fault stands at the end of the piece.
@@ -20,12 +20,12 @@ fn keep(list: &mut TokenList, start: Place, end: Place, piece: Piece) -> Result<
     match piece {
         Piece::Gap(_) => Ok(()),
         Piece::Token(node, _) => {
-            let span = span(start, end);
+            let span = start.span_to(end);
             list.push(Token { span, node })?;
             Ok(())
         }
         Piece::Fault(rule, _) => {
-            let at = span_of_byte(end);
+            let at = end.span_of_byte();
             Err(Fail::Fault(LexFault { rule, at }))
         }
     }
@@ -45,11 +45,11 @@ pub fn lex(alloc: Global, bytes: &[u8]) -> Result<Tokens, Fail<LexFault>>
     while !rest.is_empty() {
         let piece = first_piece(alloc, rest)?;
         let (here, behind) = rest.split_at(piece.len());
-        let end = after(place, here);
+        let end = place.after(here);
         keep(&mut list, place, end, piece)?;
         place = end;
         rest = behind;
     }
-    let end = span(place, place);
+    let end = place.span_to(place);
     Ok(Tokens { list, end })
 }

@@ -9,7 +9,6 @@ pub mod laws;
 mod lexer;
 mod literals;
 mod piece;
-mod place;
 mod token;
 
 pub use lexer::lex;

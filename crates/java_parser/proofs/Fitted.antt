@@ -10,7 +10,7 @@ use Rattle.java_text.specs.Canonical.{canonical}
 use Rattle.java_lex.specs.declared.token.Token.{Token}
 use Rattle.java_lex.specs.declared.token.Tokens.{Tokens}
 use Rattle.java_lex.specs.Lexing.{lexed}
-use Rattle.java_lex.specs.Bytes.{is_name_start, is_name_part}
+use Rattle.qbs_base.specs.Bytes.{is_name_start, is_name_part}
 use Rattle.java_lex.proofs.Lengths.{on_cond}
 use Rattle.java_parser.specs.Marks.{Tok, all_free, extent}
 use Rattle.java_parser.specs.Rules.{Rule, Many}

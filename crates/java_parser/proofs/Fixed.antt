@@ -7,7 +7,8 @@ use Rattle.std.proofs.lemmas.List.{append-nil}
 use Rattle.java_lex.specs.declared.piece.Piece.TheVariants.{Gap, Token as Lexeme}
 use Rattle.java_lex.specs.declared.token.TokenNode.{TokenNode}
 use Rattle.java_lex.specs.declared.token.TokenNode.TheVariants.{Word, Sign}
-use Rattle.java_lex.specs.Bytes.{quote, slash, is_white, is_digit, is_name_start, is_name_part, is_sign, is_long_sign}
+use Rattle.java_lex.specs.Bytes.{quote, slash, is_sign, is_long_sign}
+use Rattle.qbs_base.specs.Bytes.{is_white, is_digit, is_name_start, is_name_part}
 use Rattle.java_lex.specs.Pieces.{begins_long_sign, piece_of}
 use Rattle.java_lex.proofs.Cut.{Whole, none, gap, token, take_front}
 use Rattle.java_parser.specs.Written.{are_name_parts, is_word}

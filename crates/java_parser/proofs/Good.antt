@@ -9,15 +9,16 @@ use Rattle.std.proofs.lemmas.Bool.{ltb-true, eqb-true}
 use Rattle.std.proofs.lemmas.Str.{IsUtf8-nil, IsUtf8-append, IsUtf8-from_is_utf8, IsUtf8-from_ascii}
 use Rattle.java_lex.specs.declared.piece.Piece.{Piece}
 use Rattle.java_lex.specs.declared.piece.Piece.TheVariants.{Gap, Token as Lexeme, Fault}
-use Rattle.java_lex.specs.declared.place.Place.{Place}
+use Rattle.qbs_base.specs.declared.place.Place.{Place}
 use Rattle.java_lex.specs.declared.token.LexRule.TheVariants.{BadByte, OpenComment}
 use Rattle.java_lex.specs.declared.token.LexFault.{LexFault}
 use Rattle.java_lex.specs.declared.token.Token.{Token}
 use Rattle.java_lex.specs.declared.token.Tokens.{Tokens}
 use Rattle.java_lex.specs.declared.token.TokenNode.{TokenNode}
 use Rattle.java_lex.specs.declared.token.TokenNode.TheVariants.{Word, Integer, Text, Sign}
-use Rattle.java_lex.specs.Bytes.{quote, backslash, slash, star, is_white, is_digit, is_name_start, is_name_part, is_in_line, is_plain, ends_line, escape_of, begins_with}
-use Rattle.java_lex.specs.Places.{next_place, first_place}
+use Rattle.java_lex.specs.Bytes.{quote, backslash, slash, star, is_in_line, is_plain, ends_line, escape_of, begins_with}
+use Rattle.qbs_base.specs.Bytes.{is_white, is_digit, is_name_start, is_name_part}
+use Rattle.qbs_base.specs.Places.{next_place, first_place}
 use Rattle.java_lex.specs.Pieces.{checked, line_comment, comment_len, comment_up_to, block_comment, Part, close, line_end, escape, plain, wrong, plain_part, escape_part, escaped, part_of, Body, closed, unclosed, bad, behind, body_by, body_from, literal_of, literal_behind, name_at, digits_len, number_of, integer_of, integer_at, sign_len, sign_of, piece_of}
 use Rattle.java_lex.specs.Fits.{PartFits}
 use Rattle.java_lex.specs.Lexing.{token_at, with_token, tokens_by, tokens_from, lexed}

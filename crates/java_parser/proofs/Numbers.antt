@@ -11,7 +11,8 @@ use Rattle.std.proofs.lemmas.Str.Parse.{IsNumeralModel, numerals_by_value}
 use Rattle.std.proofs.lemmas.List.{append-nil}
 use Rattle.java_lex.specs.declared.piece.Piece.TheVariants.{Token as Lexeme}
 use Rattle.java_lex.specs.declared.token.TokenNode.TheVariants.{Integer}
-use Rattle.java_lex.specs.Bytes.{is_white, is_digit, is_name_start, is_name_part, begins_with}
+use Rattle.java_lex.specs.Bytes.{begins_with}
+use Rattle.qbs_base.specs.Bytes.{is_white, is_digit, is_name_start, is_name_part}
 use Rattle.java_lex.specs.Pieces.{digits_len, number_of, integer_of, piece_of}
 use Rattle.java_lex.proofs.Cut.{Whole, none, token, take_front, drop_front}
 use Rattle.java_parser.proofs.Wholes.{Stops, Reads}

@@ -13,12 +13,12 @@ use Rattle.java_text.specs.Canonical.{line_end, indent, separated, canonical_typ
 use Rattle.java_lex.specs.declared.token.TokenNode.{TokenNode}
 use Rattle.java_lex.specs.Cutting.{HasNodes}
 use Rattle.java_lex.specs.Lexing.{tokens_from}
-use Rattle.java_lex.specs.Places.{place_after, first_place}
-use Rattle.java_lex.specs.declared.place.Place.{Place}
+use Rattle.qbs_base.specs.Places.{place_after, first_place}
+use Rattle.qbs_base.specs.declared.place.Place.{Place}
 use Rattle.java_lex.specs.declared.token.Token.{Token}
 use Rattle.java_lex.proofs.Steps.{with_tokens}
 use Rattle.java_lex.proofs.Cut.{leads, as_a_text, Leads}
-use Rattle.java_lex.specs.Bytes.{is_name_start}
+use Rattle.qbs_base.specs.Bytes.{is_name_start}
 use Rattle.java_parser.specs.Written.{is_word, IsWord, onto_first, parts_of, AreWords, is_star, AreWordsOrStar, WrittenType, WrittenExpression, WrittenKeys, WrittenReturn, WrittenStatement, WrittenStatements, WrittenParams, WrittenResult, WrittenMethods, WrittenPackage, WrittenImports, IsWritten}
 use Rattle.java_parser.specs.Printed.{word, sign, parted, type_tokens, call, expression_tokens, reversed_tokens, comparing_tokens, key_tokens, keys_tokens, braced_tokens, returned_tokens, declared_tokens, walked_tokens, tested_tokens, print_head, statement_tokens, statements_tokens, access_tokens, word_tokens_if, result_tokens, param_tokens, head_tokens, method_tokens, part_tokens, parts_tokens, dotted_tokens, package_tokens, import_tokens, class_tokens, tokens_of}
 use Rattle.java_parser.proofs.Wholes.{Stops, Shut, Reads, nothing_read, as_reads, shut_shut, shut_reads, reads_shut, reads_reads, reads_gap, shut_gap, reads_follow}

@@ -15,7 +15,7 @@ use Rattle.java_ast.specs.Tree.{Spelled, Expression, Expressions}
 use Rattle.java_text.specs.Canonical.{canonical_type, literal_text, rank_of, operator_text, opening, closing, canonical_expression, canonical_arguments}
 use Rattle.java_lex.specs.declared.token.TokenNode.{TokenNode}
 use Rattle.java_lex.specs.declared.token.TokenNode.TheVariants.{Integer, Text, Sign}
-use Rattle.java_lex.specs.Bytes.{is_name_start, is_name_part, is_digit}
+use Rattle.qbs_base.specs.Bytes.{is_name_start, is_name_part, is_digit}
 use Rattle.java_lex.specs.Pieces.{begins_long_sign}
 use Rattle.java_lex.proofs.Cut.{none, token}
 use Rattle.java_parser.specs.Written.{is_word, are_name_parts, WrittenType, WrittenScalar, WrittenExpression, WrittenExpressions}

@@ -4,7 +4,7 @@ use Rattle.std.specs.Prelude.{not, ◌&&◌, ◌==◌}
 use Rattle.std.proofs.lemmas.List.{append-nil}
 use Rattle.java_lex.specs.declared.piece.Piece.TheVariants.{Gap, Token as Lexeme}
 use Rattle.java_lex.specs.declared.token.TokenNode.{TokenNode}
-use Rattle.java_lex.specs.Bytes.{is_name_part}
+use Rattle.qbs_base.specs.Bytes.{is_name_part}
 use Rattle.java_lex.specs.Pieces.{piece_of}
 use Rattle.java_lex.proofs.Cut.{Whole, none, gap, token}
 

@@ -6,7 +6,7 @@ use Rattle.std.specs.Str.{IsUtf8}
 use Rattle.qbs_base.specs.declared.scalar.Scalar.{Scalar}
 use Rattle.qbs_base.specs.declared.scalar.Scalar.TheVariants as scalars
 use Rattle.java_ast.specs.Tree.{Spelled, Table, ListOf, SetOf, Expression, Lit, Var, Field, Binary, Not, Equals, Size, Get, Contains, Fetch, Query, QueryLong, QueryBoolean, NewList, NewSet, NewSetOf, Expressions, NoMore, And, Statement, Declare, Assign, Add, Sort, If, IfElse, ForEach, While, Print, Return, Break, Statements, Nothing, Then, PlainParam, PlainMethod, PlainProgram}
-use Rattle.java_lex.specs.Bytes.{is_name_start, is_name_part}
+use Rattle.qbs_base.specs.Bytes.{is_name_start, is_name_part}
 
 abbrev pub are_name_parts : List ℕ → Bool
 are_name_parts [] = true

@@ -5,7 +5,7 @@ use Rattle.std.specs.List.{prefix_len, list_all, AllByRecursion}
 use Rattle.std.specs.Str.Lossy.{utf8_valid_len}
 use Rattle.std.specs.Str.Parse.{digits_value}
 use Rattle.qbs_base.specs.Values.{fits_long}
-use Rattle.java_lex.specs.declared.place.Place.{Place}
+use Rattle.qbs_base.specs.declared.place.Place.{Place}
 use Rattle.java_lex.specs.declared.piece.Piece.{Piece}
 use Rattle.java_lex.specs.declared.piece.Piece.TheVariants as pieces
 use Rattle.java_lex.specs.declared.token.LexFault.{LexFault}
@@ -14,8 +14,9 @@ use Rattle.java_lex.specs.declared.token.Token.{Token}
 use Rattle.java_lex.specs.declared.token.Tokens.{Tokens}
 use Rattle.java_lex.specs.declared.token.TokenNode.{TokenNode}
 use Rattle.java_lex.specs.declared.token.TokenNode.TheVariants as nodes
-use Rattle.java_lex.specs.Bytes.{quote, slash, star, long_mark, is_white, is_digit, is_name_start, is_name_part, begins_with}
-use Rattle.java_lex.specs.Places.{first_place, next_place, place_after, between}
+use Rattle.java_lex.specs.Bytes.{quote, slash, star, long_mark, begins_with}
+use Rattle.qbs_base.specs.Bytes.{is_white, is_digit, is_name_start, is_name_part}
+use Rattle.qbs_base.specs.Places.{first_place, next_place, place_after, between}
 use Rattle.java_lex.specs.Pieces.{checked, line_comment, comment_len, comment_up_to, block_comment, Body, closed, unclosed, bad, behind, body_from, literal_of, literal_behind, name_at, digits_len, integer_of, integer_at, sign_len, sign_of, sign_at, slashed, piece_of}
 use Rattle.java_lex.specs.Lexing.{token_at, with_token, tokens_by, tokens_from, ended, lexed}
 use Rattle.sql_ast.specs.Tokens.{is_name}

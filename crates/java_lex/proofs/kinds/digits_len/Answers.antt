@@ -1,5 +1,5 @@
 use Rattle.std.proofs.lemmas.List.Sums.{prefix_len-le-length}
-use Rattle.java_lex.specs.Bytes.{is_digit}
+use Rattle.qbs_base.specs.Bytes.{is_digit}
 use Rattle.java_lex.proofs.Ascii.{digits_are_ascii}
 use Rattle.java_lex.proofs.Numerals.{front_digits}
 use Rattle.java_lex.proofs.kinds.digits_len.Goals as goal

@@ -1,9 +1,10 @@
 use Rattle.std.proofs.Common.{◌≡◌, ◌<◌, ◌≤◌, length, sym, ◌∙◌, arith, false-eqb}
 use Rattle.std.proofs.lemmas.Bool.{eqb-true}
 use Rattle.std.proofs.lemmas.Result.{err_from_is_err_and}
-use Rattle.java_lex.specs.Places.{first_place}
+use Rattle.qbs_base.specs.Places.{first_place}
 use Rattle.java_lex.specs.Lexing.{tokens_from}
-use Rattle.java_lex.proofs.Steps.{goes_on, stops, ends, stays_room, no_room, fits_len, answers_err, answers_ok, passes_over}
+use Rattle.qbs_base.proofs.Rooms.{stays_room, passes_over}
+use Rattle.java_lex.proofs.Steps.{goes_on, stops, ends, no_room, fits_len, answers_err, answers_ok}
 use Rattle.java_lex.proofs.lexer.lex.Goals as goal
 
 pub keep-requires : goal.keep-requires
@@ -33,5 +34,5 @@ loop-rest-preserved c =
 pub returns : goal.returns
 returns c =
     let none : length c.loop-rest.rest.now ≡ 0 = eqb-true _ _ (sym c.loop-rest-test.ensures) in
-    rw c.span-end.ensures (answers_ok c.loop-rest.place c.loop-rest.list c.args.bytes.now c.loop-rest.rest.now none c.loop-rest.invariant.stands
+    rw c.span_to-end.ensures (answers_ok c.loop-rest.place c.loop-rest.list c.args.bytes.now c.loop-rest.rest.now none c.loop-rest.invariant.stands
     (ends c.loop-rest.list (tokens_from first_place 0 c.args.bytes.now) c.loop-rest.place c.loop-rest.rest.now none c.loop-rest.invariant.so_far))

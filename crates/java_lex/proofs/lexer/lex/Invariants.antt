@@ -1,5 +1,5 @@
 use Rattle.std.proofs.Common.{◌≡◌, length}
-use Rattle.java_lex.specs.Places.{HasRoom, place_after, first_place}
+use Rattle.qbs_base.specs.Places.{HasRoom, place_after, first_place}
 use Rattle.java_lex.specs.Lexing.{tokens_from}
 use Rattle.java_lex.proofs.Steps.{with_tokens}
 use Rattle.java_lex.proofs.lexer.lex.Given as goal
