@@ -1,22 +1,20 @@
 -- The names that the tokens of a schema declare are those of its tables and columns.
-use Rattle.std.proofs.Common.{◌≡◌, ℕ, Bool, true, false, ◌&&◌, cond, List, [], ◌∷◌, ◌++◌, length, Option, Some, None, map, refl, sym, ap, subst, ◌∙◌, append_assoc, arith, inl, inr}
+use Rattle.std.proofs.Common.{◌≡◌, ℕ, Bool, true, false, ◌&&◌, cond, List, [], ◌∷◌, ◌++◌, length, Option, Some, None, map, refl, ap, ◌∙◌, append_assoc, arith}
 use Rattle.std.specs.Prelude.{codes, nat_lt}
 use Rattle.std.proofs.lemmas.Bool.Decides.{nat_tests}
-use Rattle.std.proofs.lemmas.List.{append-nil}
-use Rattle.readers.specs.Reading.{option_cases, first_passes}
+use Rattle.readers.specs.Reading.{first_passes}
 use Rattle.qbs_base.specs.declared.span.Span.{Span}
 use Rattle.qbs_base.specs.declared.scalar.Ty.{Ty}
 use Rattle.qbs_base.specs.declared.columns.Column.{Column}
 use Rattle.qbs_base.specs.declared.columns.Table.{Table}
 use Rattle.schema.specs.declared.token.Kind.{Kind}
-use Rattle.schema.specs.declared.token.Kind.TheVariants.{Word, Digits, Sign, Stray}
-use Rattle.schema.specs.declared.token.Sign.TheVariants.{Open, Close, Comma, Semicolon}
+use Rattle.schema.specs.declared.token.Kind.TheVariants.{Word, Sign}
+use Rattle.schema.specs.declared.token.Sign.TheVariants.{Close, Semicolon}
 use Rattle.schema.specs.declared.token.Token.{Token}
 use Rattle.schema.specs.declared.names.Where.{Where}
 use Rattle.schema.specs.declared.names.Where.TheVariants as at
 use Rattle.schema.specs.declared.names.Role.{Role}
 use Rattle.schema.specs.declared.names.Role.TheVariants as role
-use Rattle.schema.specs.declared.names.Seen.{Seen}
 use Rattle.schema.specs.Words.{spells}
 use Rattle.schema.specs.Tokens.{kinds_of}
 use Rattle.schema.specs.Grammar.{HasType, long, truth, text, sized, HasMarks, unmarked, not_null, primary, HasRest, typed, HasNames, one, further, HasColumns, none, key, more, HasTable, table, HasSchema, empty, followed}

@@ -1,5 +1,5 @@
 -- One field after the other.
-use Rattle.std.proofs.Common.{◌≡◌, ℕ, zero, suc, ◌+◌, ◌<◌, ◌≤◌, ◌≢◌, eqb-true, false-eqb, Bool, true, false, ◌&&◌, not, List, [], ◌∷◌, ◌++◌, length, get_or, drop, Option, Some, None, Result, Ok, Err, refl, sym, ap, subst, ◌∙◌, append_assoc, arith, add-one}
+use Rattle.std.proofs.Common.{◌≡◌, ℕ, zero, suc, ◌+◌, ◌<◌, ◌≤◌, ◌≢◌, eqb-true, false-eqb, Bool, true, false, not, List, [], ◌∷◌, ◌++◌, length, get_or, drop, Some, None, Result, Ok, Err, refl, sym, ap, ◌∙◌, arith, add-one}
 use Rattle.std.specs.Prelude.{nat_eq}
 use Rattle.std.proofs.lemmas.List.{append-nil, drop_all}
 use Rattle.std.specs.Str.{bytes_eq}
@@ -10,8 +10,9 @@ use Rattle.qbs_base.specs.declared.scalar.Scalar.{Scalar}
 use Rattle.qbs_base.specs.declared.columns.Column.{Column}
 use Rattle.schema.specs.declared.fault.DataRule.{DataRule}
 use Rattle.schema.specs.declared.fault.DataRule.TheVariants.{Width}
-use Rattle.schema.specs.Answers.{Answers}
-use Rattle.schema.specs.Rows.{◌>>=◌, cell_of, cells_of, is_header}
+use Rattle.qbs_base.specs.Memory.{FailsBy}
+use Rattle.schema.specs.Rows.{cell_of, cells_of, is_header}
+use Rattle.schema.proofs.Front.{with_front, regroup}
 
 -- what stands from a place on
 some_at : (fs : List (List ℕ)) (i : ℕ) (f : List ℕ) → field_at fs i ≡ Some f → drop i fs ≡ f ∷ drop (suc i) fs
@@ -95,17 +96,6 @@ not_false false e = absurd cc
 
 -- ---- cells, behind those that were read before
 
-abbrev pub with_front : List Scalar → Result (List Scalar) DataRule → Result (List Scalar) DataRule
-with_front front read = read >>= λ cells. Ok (front ++ cells)
-
-regroup : (front : List Scalar) (x : Scalar) (read : Result (List Scalar) DataRule) → with_front front (read >>= λ cells. Ok (x ∷ cells)) ≡ with_front (front ++ x ∷ []) read
-regroup front x (Ok cells) = ap (λ (xs : List Scalar). Ok xs) (sym (append_assoc front (x ∷ []) cells))
-regroup front x (Err e) = refl
-
-pub nothing_before : (read : Result (List Scalar) DataRule) → with_front [] read ≡ read
-nothing_before (Ok cells) = refl
-nothing_before (Err e) = refl
-
 module _ (front : List Scalar) (columns cs : List Column) (fields fs : List (List ℕ)) (c : Column) (total : Result (List Scalar) DataRule) (here : columns ≡ c ∷ cs) (so_far : with_front front (cells_of columns fields) ≡ total) where
   pub cell_goes_on : (f : List ℕ) (x : Scalar) → fields ≡ f ∷ fs → cell_of c.ty f ≡ Ok x → with_front (front ++ x ∷ []) (cells_of cs fs) ≡ total
   unfolding cells_of
@@ -113,7 +103,7 @@ module _ (front : List Scalar) (columns cs : List Column) (fields fs : List (Lis
       let one : with_front front (cells_of columns fields) ≡ with_front (front ++ x ∷ []) (cells_of cs fs) = rw (here, field, is) (regroup front x (cells_of cs fs)) in
       sym one ∙ so_far
 
-  pub cell_fails : (f : List ℕ) (e : Fail DataRule) → fields ≡ f ∷ fs → Answers {X = Scalar} (Err e) (cell_of c.ty f) → Answers {X = List Scalar} (Err e) total
+  pub cell_fails : (f : List ℕ) (e : Fail DataRule) → fields ≡ f ∷ fs → FailsBy e (cell_of c.ty f) → FailsBy e total
   unfolding cells_of
   cell_fails f (fails.Fault rule) field is =
       let one : with_front front (cells_of columns fields) ≡ Err rule = rw (here, field, is) refl in

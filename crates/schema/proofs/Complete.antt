@@ -1,27 +1,24 @@
 -- What has tokens by the grammar is read from them.
-use Rattle.std.proofs.Common.{◌≡◌, ℕ, Bool, true, false, ◌||◌, not, cond, List, [], ◌∷◌, ◌++◌, length, Option, Some, None, Result, Ok, Err, refl, sym, ap, subst, ◌∙◌, append_assoc, arith, inl, inr, ◌⊎◌}
-use Rattle.std.specs.Prelude.{codes, map}
+use Rattle.std.proofs.Common.{◌≡◌, ℕ, Bool, true, false, ◌||◌, List, [], ◌∷◌, ◌++◌, Option, Some, None, Ok, refl, sym, ap, subst, ◌∙◌, append_assoc, inl, inr, ◌⊎◌}
+use Rattle.std.specs.Prelude.{codes}
 use Rattle.std.specs.Str.{bytes_eq, str_to_ascii_lowercase}
-use Rattle.std.specs.Bool.{Decides}
 use Rattle.std.proofs.lemmas.Slice.Eq.{bytes_eq-Decides}
-use Rattle.std.proofs.lemmas.List.{append-nil}
-use Rattle.readers.specs.declared.fault.Fault.{Fault}
-use Rattle.readers.specs.Reading.{◌>>=◌, Read, token_at, both, made, either, many, is_over, HasBoth, HasMany}
-use Rattle.readers.proofs.Again.{Leads, Leads-then, Leads-bind, Again, Any, both_again, made_again, many_again}
+use Rattle.readers.specs.Reading.{Read, token_at, both, made, either, many, is_over, HasMany}
+use Rattle.readers.proofs.Again.{Leads, Again, Any, both_again, made_again, many_again}
 use Rattle.qbs_base.specs.declared.scalar.Ty.{Ty}
 use Rattle.qbs_base.specs.declared.scalar.Ty.TheVariants as ty
 use Rattle.qbs_base.specs.declared.columns.Column.{Column}
 use Rattle.qbs_base.specs.declared.columns.Table.{Table}
 use Rattle.schema.specs.declared.token.Kind.{Kind}
-use Rattle.schema.specs.declared.token.Kind.TheVariants.{Word, Digits, Sign, Stray}
+use Rattle.schema.specs.declared.token.Kind.TheVariants.{Word, Digits, Sign}
 use Rattle.schema.specs.declared.token.Sign.TheVariants.{Open, Close, Comma, Semicolon}
 use Rattle.schema.specs.Words.{spells}
-use Rattle.schema.specs.Series.{series, HasSeries}
+use Rattle.schema.specs.Series.{HasSeries}
 use Rattle.schema.specs.Grammar.{HasType, long, truth, text, sized, HasMarks, unmarked, not_null, primary, HasRest, typed, HasNames, one, further, HasColumns, none, key, more, HasTable, table, HasSchema, empty, followed}
-use Rattle.schema.specs.Reading.{is_word, word_in, name_at, word_at, sign_at, digits_at, is_long, type_of, type_in, sized_at, type_at, is_no_mark, mark_at, marks_at, rest_at, is_no_comma, next_name_at, next_names_at, key_at, typed_at, named, column_of, column_at, primary_in, primary_at, item_at, next_item_at, columns_at, head_at, body_at, tail_at, table_from, table_at, never, tables_at}
+use Rattle.schema.specs.Reading.{is_word, name_at, word_at, sign_at, is_long, type_of, sized_at, type_at, is_no_mark, mark_at, marks_at, rest_at, is_no_comma, next_name_at, next_names_at, key_at, typed_at, named, column_of, column_at, primary_in, primary_at, item_at, next_item_at, columns_at, head_at, body_at, tail_at, table_from, table_at, never, tables_at}
 use Rattle.schema.proofs.Serial.{series_again}
-use Rattle.schema.proofs.Single.{IsName, IsKeyword, IsSign, IsDigits, name_again, word_again, sign_again, digits_again}
-use Rattle.schema.proofs.Grammatical.{Two, IsMark, two_words, Marks, NextName, next_name_is, NextNames, Names, Key, Behind, IsColumn, IsItem, IsPrimary, IsNextItem, IsHead, IsBody, IsTail, InTable}
+use Rattle.schema.proofs.Single.{IsName, IsKeyword, IsSign, name_again, word_again, sign_again}
+use Rattle.schema.proofs.Grammatical.{Two, IsMark, two_words, Marks, NextName, next_name_is, NextNames, Key, Behind, IsColumn, IsItem, IsPrimary, IsNextItem, IsHead, IsBody, IsTail, InTable}
 
 -- ---- keywords differ
 

@@ -1,8 +1,7 @@
 -- The names of the tokens, one token after the other.
 use Rattle.std.proofs.Common.{◌≡◌, ℕ, ◌<◌, ◌≤◌, List, [], ◌∷◌, ◌++◌, length, Bool, true, false, cond, Option, Some, None, refl, sym, ap, ◌∙◌, arith}
-use Rattle.std.specs.Prelude.{nat_lt}
 use Rattle.std.specs.Option.{is_some}
-use Rattle.std.proofs.lemmas.Bool.Decides.{nat_tests}
+use Rattle.std.proofs.lemmas.Bool.{le-ltb, lt-ltb}
 use Rattle.readers.specs.Reading.{option_cases}
 use Rattle.qbs_base.specs.declared.span.Span.{Span}
 use Rattle.schema.specs.declared.token.Token.{Token}
@@ -26,12 +25,6 @@ pub breaks : (s : Seen) (o : Option (Role × List ℕ)) (role : Role) (name : Li
 unfolding first_broken
 breaks s o role name span rule ds e is = rw (e, is) refl
 
-lt_false : (m n : ℕ) → n ≤ m → nat_lt m n ≡ false
-lt_false m n h = grind (arith, nat_tests)
-
-lt_true : (m n : ℕ) → m < n → nat_lt m n ≡ true
-lt_true m n h = grind (arith, nat_tests)
-
 -- what the first token leaves to be judged where it isn't among the last n, and where judging it gave a fault or not
 module _ (n : ℕ) (s new : Seen) (w : Where) (t : Token) (ts after : List Token) (fault total : Option SchemaFault) (parts : ts ≡ t ∷ after) (within : n ≤ length after)
     (judged : (ds : List Declared) → first_broken s (declares (role_of w t.kind after) t.at ++ ds) ≡ option_cases fault (first_broken new ds) (λ f. Some f)) (so_far : first_broken s (declared_before n w ts) ≡ total) where
@@ -39,7 +32,7 @@ module _ (n : ℕ) (s new : Seen) (w : Where) (t : Token) (ts after : List Token
   unfolding declared_before
   step =
       sym (judged (declared_before n (next_where w t.kind) after))
-      ∙ ap (λ (b : Bool). first_broken s (cond b [] (declares (role_of w t.kind after) t.at ++ declared_before n (next_where w t.kind) after))) (sym (lt_false (length after) n within))
+      ∙ ap (λ (b : Bool). first_broken s (cond b [] (declares (role_of w t.kind after) t.at ++ declared_before n (next_where w t.kind) after))) (sym (le-ltb (length after) n within))
       ∙ ap (λ (us : List Token). first_broken s (declared_before n w us)) (sym parts)
       ∙ so_far
 
@@ -61,7 +54,7 @@ module _ (n : ℕ) (s new : Seen) (w : Where) (t : Token) (ts after : List Token
 pub is_left : (n : ℕ) (s : Seen) (w : Where) (t : Token) (ts after : List Token) (total : Option SchemaFault) → ts ≡ t ∷ after → length after < n → first_broken s (declared_before n w ts) ≡ total → None ≡ total
 unfolding declared_before first_broken
 is_left n s w t ts after total parts past so_far =
-    ap (λ (b : Bool). first_broken s (cond b [] (declares (role_of w t.kind after) t.at ++ declared_before n (next_where w t.kind) after))) (sym (lt_true (length after) n past))
+    ap (λ (b : Bool). first_broken s (cond b [] (declares (role_of w t.kind after) t.at ++ declared_before n (next_where w t.kind) after))) (sym (lt-ltb (length after) n past))
     ∙ ap (λ (us : List Token). first_broken s (declared_before n w us)) (sym parts)
     ∙ so_far
 

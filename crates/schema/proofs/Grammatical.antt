@@ -1,8 +1,7 @@
 -- The readers of schemas are lawful for the grammar.
-use Rattle.std.proofs.Common.{◌≡◌, ℕ, ◌<◌, Bool, true, false, ◌||◌, cond, List, [], ◌∷◌, ◌++◌, length, Option, Some, None, Ok, Err, refl, sym, ap, subst, ◌∙◌, append_assoc, arith, inl, inr, ◌⊎◌}
+use Rattle.std.proofs.Common.{◌≡◌, ℕ, ◌<◌, Bool, true, false, cond, List, [], ◌∷◌, ◌++◌, length, Option, Some, None, refl, sym, ap, subst, ◌∙◌, append_assoc, arith, inl, inr, ◌⊎◌}
 use Rattle.std.specs.Prelude.{codes}
-use Rattle.std.proofs.lemmas.List.{append-nil, length-append}
-use Rattle.readers.specs.Reading.{Read, token_at, both, made, either, many, IsToken, HasBoth, HasMany}
+use Rattle.readers.specs.Reading.{token_at, both, made, either, many, IsToken, HasBoth, HasMany}
 use Rattle.readers.proofs.Lawful.{Lawful, Inhabited, token_lawful, both_lawful, made_lawful, either_lawful}
 use Rattle.readers.proofs.Many.{many_lawful}
 use Rattle.qbs_base.specs.declared.scalar.Ty.{Ty}
@@ -15,9 +14,9 @@ use Rattle.schema.specs.declared.token.Sign.TheVariants.{Open, Close, Comma, Sem
 use Rattle.schema.specs.Words.{spells}
 use Rattle.schema.specs.Series.{series, HasSeries}
 use Rattle.schema.specs.Grammar.{HasType, long, truth, text, sized, HasMarks, unmarked, not_null, primary, HasRest, typed, HasNames, one, further, HasColumns, none, key, more, HasTable, table, HasSchema, empty, followed}
-use Rattle.schema.specs.Reading.{is_word, word_in, name_at, word_at, sign_at, digits_at, is_long, type_of, type_in, sized_at, type_at, is_no_mark, mark_at, marks_at, rest_at, is_no_comma, next_name_at, next_names_at, key_at, typed_at, named, column_of, column_at, primary_in, primary_at, item_at, next_item_at, columns_at, head_at, body_at, tail_at, table_from, table_at, never, tables_at}
+use Rattle.schema.specs.Reading.{is_word, name_at, word_at, sign_at, digits_at, is_long, type_of, type_in, sized_at, type_at, is_no_mark, mark_at, marks_at, rest_at, is_no_comma, next_name_at, next_names_at, key_at, typed_at, named, column_of, column_at, primary_in, primary_at, item_at, next_item_at, columns_at, head_at, body_at, tail_at, table_from, table_at, never, tables_at}
 use Rattle.schema.proofs.Serial.{series_lawful}
-use Rattle.schema.proofs.Single.{as_lawful, IsName, IsKeyword, IsSign, IsDigits, name_lawful, word_lawful, sign_lawful, digits_lawful, some_name, some_keyword, some_sign, some_digits}
+use Rattle.schema.proofs.Single.{as_lawful, IsName, IsKeyword, IsSign, IsDigits, name_lawful, word_lawful, sign_lawful, digits_lawful, some_name, some_keyword, some_sign}
 
 -- ---- types
 

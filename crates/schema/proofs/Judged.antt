@@ -1,5 +1,5 @@
 -- The answer for a text, by the grammar and the rules.
-use Rattle.std.proofs.Common.{◌≡◌, ℕ, zero, suc, ◌-◌, ◌≤◌, ◌+◌, List, [], ◌∷◌, ◌++◌, length, take, drop, map, Option, Some, None, Result, Ok, Err, refl, sym, ap, subst, ◌∙◌, arith, inl, inr, ◌⊎◌}
+use Rattle.std.proofs.Common.{◌≡◌, ℕ, zero, suc, ◌-◌, ◌≤◌, List, [], ◌∷◌, ◌++◌, length, take, Option, Some, None, Result, Ok, Err, refl, sym, ap, subst, ◌∙◌, arith, inl, inr, ◌⊎◌}
 use Rattle.std.proofs.lemmas.List.{append-nil, length-append, length-map, length-drop, take-append-drop}
 use Rattle.readers.specs.declared.fault.Fault.{Fault}
 use Rattle.readers.specs.declared.fault.Fault.TheVariants.{Unexpected, TooDeep}
@@ -13,7 +13,7 @@ use Rattle.schema.specs.declared.token.Token.{Token}
 use Rattle.schema.specs.declared.names.Where.TheVariants.{Create}
 use Rattle.schema.specs.declared.fault.SchemaRule.TheVariants.{BadToken}
 use Rattle.schema.specs.declared.fault.SchemaFault.{SchemaFault}
-use Rattle.schema.specs.Answers.{Answers}
+use Rattle.qbs_base.specs.Memory.{Answers, FailsBy}
 use Rattle.schema.specs.Tokens.{tokens_of, kinds_of, end_of}
 use Rattle.schema.specs.Grammar.{HasSchema}
 use Rattle.schema.specs.Rules.{IsSchema, AreNamed}
@@ -110,7 +110,7 @@ fault_from text (Err (Unexpected n)) fault is e =
       | inr h ↦ inr (record { front = before n (tokens_of text); rest = last_from n (tokens_of text); parts = sym (take-append-drop (length (tokens_of text) - n) (tokens_of text)); begins = begins_before (tokens_of text) n first; first = ap (λ (k : ℕ). first_broken nothing_seen (declared_before k Create (tokens_of text))) (last_count (tokens_of text) n (read_within (kinds_of (tokens_of text)) (Unexpected n) is)) ∙ h })
     ]
 
-pub right_fault : (e : Fail SchemaFault) (text : List ℕ) → Answers {X = List Table} (Err e) (schema_of text) → IsRightFault text e
+pub right_fault : (e : Fail SchemaFault) (text : List ℕ) → FailsBy e (schema_of text) → IsRightFault text e
 unfolding schema_of
 right_fault (fails.Fault fault) text e = fault_from text (read_of (kinds_of (tokens_of text))) fault refl e
 right_fault fails.NoMemory text e = tt

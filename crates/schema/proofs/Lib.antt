@@ -3,6 +3,7 @@ pub mod Bodies
 pub mod Celled
 pub mod Complete
 pub mod Declaring
+pub mod Front
 pub mod Grammatical
 pub mod Judged
 pub mod Longs

@@ -1,6 +1,6 @@
 -- Whole numbers and texts, as std reads them.
-use Rattle.std.proofs.Common.{◌≡◌, ℕ, zero, suc, ◌+◌, ◌-◌, ◌*◌, ◌^◌, ◌≤◌, ◌<◌, ◌≢◌, Bool, true, false, ◌&&◌, cond, eqb, List, [], ◌∷◌, length, get_or, drop, Option, Some, None, Result, Ok, Err, refl, sym, ap, subst, ◌∙◌, arith, inl, inr, ◌⊎◌, eqb-true, false-eqb, rules, w64}
-use Rattle.std.specs.Prelude.{ℤ, pos, negsuc, neg_ℤ, nat_le, nat_lt, IsUtf8, IfSome, IsSome}
+use Rattle.std.proofs.Common.{◌≡◌, ℕ, zero, suc, ◌^◌, ◌≤◌, ◌<◌, ◌≢◌, Bool, true, false, ◌&&◌, cond, List, [], ◌∷◌, length, get_or, drop, Option, Some, None, Result, Ok, Err, refl, sym, subst, arith, inl, inr, ◌⊎◌, eqb-true, false-eqb, rules, w64}
+use Rattle.std.specs.Prelude.{ℤ, pos, neg_ℤ, nat_le, nat_lt, IsUtf8, IfSome, IsSome}
 use Rattle.std.specs.Result.{OkIff, result_ok}
 use Rattle.std.specs.Str.{is_utf8, IsAscii}
 use Rattle.std.specs.Str.Parse.{ParsesSigned}
@@ -8,7 +8,8 @@ use Rattle.std.proofs.lemmas.Bool.Decides.{nat_tests}
 use Rattle.std.proofs.lemmas.Str.{IsUtf8-from_is_utf8, is_utf8-from_IsUtf8, IsUtf8-from_ascii}
 use Rattle.std.proofs.lemmas.Str.Parse.{IsNumeralModel, numerals_by_fold, parse_signed_minus, parse_signed_plain, parse_signed_plus}
 use Rattle.qbs_base.specs.Values.{fits_long}
-use Rattle.schema.specs.Bytes.{is_digit, begins_with}
+use Rattle.schema.specs.Bytes.{begins_with}
+use Rattle.qbs_base.specs.Bytes.{is_digit}
 use Rattle.schema.specs.Rows.{all_digits, number_from, long_with, long_of, text_of}
 
 own : IsNumeralModel (λ ds. all_digits ds ≡ true) (number_from 0)

@@ -4,13 +4,14 @@ use Rattle.std.specs.List.{AllByRecursion, list_all, prefix_len}
 use Rattle.qbs_base.specs.declared.span.Span.{Span}
 use Rattle.qbs_base.specs.declared.columns.Column.{Column}
 use Rattle.qbs_base.specs.declared.columns.Table.{Table}
-use Rattle.schema.specs.declared.place.Place.{Place}
+use Rattle.qbs_base.specs.declared.place.Place.{Place}
 use Rattle.schema.specs.declared.token.Kind.{Kind}
 use Rattle.schema.specs.declared.token.Kind.TheVariants.{Word, Digits, Sign, Stray}
 use Rattle.schema.specs.declared.token.Sign.TheVariants.{Open, Close, Comma, Semicolon}
 use Rattle.schema.specs.declared.token.Token.{Token}
-use Rattle.schema.specs.Bytes.{is_blank, is_digit, is_word_start, is_word_part, is_in_line, begins_with, is_name}
-use Rattle.schema.specs.Places.{first_place, next_place, place_after, between}
+use Rattle.schema.specs.Bytes.{is_in_line, begins_with, is_name}
+use Rattle.qbs_base.specs.Bytes.{is_white, is_digit, is_name_start, is_name_part}
+use Rattle.qbs_base.specs.Places.{first_place, next_place, place_after, between}
 use Rattle.schema.specs.Tokens.{Piece, sign_of, piece_of, placed, tokens_from, tokens_of, kinds_of}
 use Rattle.schema.specs.Grammar.{HasColumns, none, key, more, HasTable, table, HasSchema, empty, followed}
 use Rattle.schema.specs.Rules.{AreNamed}
@@ -28,21 +29,21 @@ NamedIn (Some k) = Named k
 
 -- ---- words of a text
 
-part_of_start : (b : ℕ) → is_word_start b ≡ true → is_word_part b ≡ true
+part_of_start : (b : ℕ) → is_name_start b ≡ true → is_name_part b ≡ true
 part_of_start b e = ap (λ (s : Bool). s || is_digit b) e
 
-prefix_passes : (bs : List ℕ) → list_all is_word_part (take (prefix_len is_word_part bs) bs) ≡ true
+prefix_passes : (bs : List ℕ) → list_all is_name_part (take (prefix_len is_name_part bs) bs) ≡ true
 prefix_passes [] = refl
-prefix_passes (b ∷ bs) = go (is_word_part b) refl (prefix_passes bs)
+prefix_passes (b ∷ bs) = go (is_name_part b) refl (prefix_passes bs)
   where
-    go : (s : Bool) → is_word_part b ≡ s → list_all is_word_part (take (prefix_len is_word_part bs) bs) ≡ true → list_all is_word_part (take (cond s (1 + prefix_len is_word_part bs) 0) (b ∷ bs)) ≡ true
-    go true e h = let one : 1 + prefix_len is_word_part bs ≡ suc (prefix_len is_word_part bs) = omega arith in ap (λ n. list_all is_word_part (take n (b ∷ bs))) one ∙ ap₂ (λ (s t : Bool). s && t) e h
+    go : (s : Bool) → is_name_part b ≡ s → list_all is_name_part (take (prefix_len is_name_part bs) bs) ≡ true → list_all is_name_part (take (cond s (1 + prefix_len is_name_part bs) 0) (b ∷ bs)) ≡ true
+    go true e h = let one : 1 + prefix_len is_name_part bs ≡ suc (prefix_len is_name_part bs) = omega arith in ap (λ n. list_all is_name_part (take n (b ∷ bs))) one ∙ ap₂ (λ (s t : Bool). s && t) e h
     go false e h = refl
 
-word_named : (b : ℕ) (bs : List ℕ) → is_word_start b ≡ true → is_name (take (prefix_len is_word_part (b ∷ bs)) (b ∷ bs)) ≡ true
+word_named : (b : ℕ) (bs : List ℕ) → is_name_start b ≡ true → is_name (take (prefix_len is_name_part (b ∷ bs)) (b ∷ bs)) ≡ true
 word_named b bs e =
-    ap (λ (s : Bool). is_name (take (cond s (1 + prefix_len is_word_part bs) 0) (b ∷ bs))) (part_of_start b e)
-    ∙ (let one : 1 + prefix_len is_word_part bs ≡ suc (prefix_len is_word_part bs) = omega arith in ap (λ n. is_name (take n (b ∷ bs))) one)
+    ap (λ (s : Bool). is_name (take (cond s (1 + prefix_len is_name_part bs) 0) (b ∷ bs))) (part_of_start b e)
+    ∙ (let one : 1 + prefix_len is_name_part bs ≡ suc (prefix_len is_name_part bs) = omega arith in ap (λ n. is_name (take n (b ∷ bs))) one)
     ∙ ap₂ (λ (s t : Bool). s && t) e (prefix_passes bs)
 
 abbrev sign_by : Bool → Bool → Bool → Bool → Bool → ℕ → Piece
@@ -60,9 +61,9 @@ sign_named : (b : ℕ) (bs : List ℕ) → NamedIn (sign_of b bs).0
 sign_named b bs = sign_by_named (b == 40) (b == 41) (b == 44) (b == 59) ((b == 45) && begins_with 45 bs) (1 + prefix_len is_in_line bs)
 
 abbrev piece_by : Bool → Bool → Bool → ℕ → List ℕ → Piece
-piece_by s t u b bs = cond s (None, 1) (cond t (Some (Word (take (prefix_len is_word_part (b ∷ bs)) (b ∷ bs))), prefix_len is_word_part (b ∷ bs)) (cond u (Some Digits, prefix_len is_digit (b ∷ bs)) (sign_of b bs)))
+piece_by s t u b bs = cond s (None, 1) (cond t (Some (Word (take (prefix_len is_name_part (b ∷ bs)) (b ∷ bs))), prefix_len is_name_part (b ∷ bs)) (cond u (Some Digits, prefix_len is_digit (b ∷ bs)) (sign_of b bs)))
 
-piece_by_named : (s t u : Bool) (b : ℕ) (bs : List ℕ) → is_word_start b ≡ t → NamedIn (piece_by s t u b bs).0
+piece_by_named : (s t u : Bool) (b : ℕ) (bs : List ℕ) → is_name_start b ≡ t → NamedIn (piece_by s t u b bs).0
 piece_by_named true t u b bs e = tt
 piece_by_named false true u b bs e = word_named b bs e
 piece_by_named false false true b bs e = tt
@@ -70,7 +71,7 @@ piece_by_named false false false b bs e = sign_named b bs
 
 piece_named : (b : ℕ) (bs : List ℕ) → NamedIn (piece_of (b ∷ bs)).0
 unfolding piece_of
-piece_named b bs = piece_by_named (is_blank b) (is_word_start b) (is_digit b) b bs refl
+piece_named b bs = piece_by_named (is_white b) (is_name_start b) (is_digit b) b bs refl
 
 kinds_append : (ts us : List Token) → kinds_of (ts ++ us) ≡ kinds_of ts ++ kinds_of us
 kinds_append [] us = refl

@@ -1,7 +1,7 @@
 -- One text has one fault, and none where it has a schema.
-use Rattle.std.proofs.Common.{◌≡◌, ℕ, suc, ◌+◌, ◌<◌, ◌≤◌, Bool, true, false, cond, List, [], ◌∷◌, ◌++◌, length, map, Option, Some, None, refl, sym, ap, ap₂, subst, ◌∙◌, append_assoc, arith, inl, inr, ◌⊎◌}
+use Rattle.std.proofs.Common.{◌≡◌, ℕ, ◌<◌, ◌≤◌, Bool, true, false, cond, List, [], ◌∷◌, ◌++◌, length, Option, Some, None, refl, sym, ap, ap₂, subst, ◌∙◌, append_assoc, arith, inl, inr}
 use Rattle.std.specs.Prelude.{nat_lt}
-use Rattle.std.proofs.lemmas.Bool.Decides.{nat_tests}
+use Rattle.std.proofs.lemmas.Bool.{le-ltb, ltb-false, ltb-true}
 use Rattle.std.proofs.lemmas.List.{length-append, length-map, map-append}
 use Rattle.readers.specs.Reading.{BeginsOne, IsFirstFault, option_cases}
 use Rattle.qbs_base.specs.declared.span.Span.{Span}
@@ -21,15 +21,6 @@ use Rattle.schema.specs.Naming.{next_where, role_of, Declared, declares, declare
 use Rattle.schema.specs.Schemas.{last_from, first_span}
 use Rattle.schema.specs.Faults.{IsBadToken, IsBadName, IsFaultOf}
 use Rattle.schema.proofs.Soundness.{unbroken}
-
-lt_false : (m n : ℕ) → n ≤ m → nat_lt m n ≡ false
-lt_false m n h = grind (arith, nat_tests)
-
-le_of : (m n : ℕ) → nat_lt m n ≡ false → n ≤ m
-le_of m n h = grind (arith, nat_tests)
-
-lt_of : (m n : ℕ) → nat_lt m n ≡ true → m < n
-lt_of m n h = grind (arith, nat_tests)
 
 same_some : (f g : SchemaFault) → Some f ≡ Some g → f ≡ g
 same_some f g e = cc
@@ -58,8 +49,8 @@ first_alike : (n m : ℕ) → m ≤ n → (s : Seen) (w : Where) (t : Token) (ts
 unfolding first_broken
 first_alike n m le s w t ts f true is behind h = absurd cc
 first_alike n m le s w t ts f false is behind h =
-    let here : n ≤ length ts = le_of (length ts) n is in
-    let inside : nat_lt (length ts) m ≡ false = lt_false (length ts) m (omega (arith, here, le)) in
+    let here : n ≤ length ts = ltb-false (length ts) n is in
+    let inside : nat_lt (length ts) m ≡ false = le-ltb (length ts) m (omega (arith, here, le)) in
     ap (λ (b : Bool). first_broken s (cond b [] (declares (role_of w t.kind ts) t.at ++ declared_before m (next_where w t.kind) ts))) inside
     ∙ declared_alike s (role_of w t.kind ts) t.at (declared_before n (next_where w t.kind) ts) (declared_before m (next_where w t.kind) ts) f behind h
 
@@ -98,8 +89,8 @@ reaches ks front rest n fault parts begins = by (nat_lt (length rest) n) refl
         absurd (fault.none_goes_on f.first (f.more ++ rest) f.was (f.more ++ begins.0, begins.1, subst (λ (us : List Kind). HasSchema us begins.1) all begins.2))
 
     by : (b : Bool) → nat_lt (length rest) n ≡ b → n ≤ length rest
-    by true is = past (lt_of (length rest) n is)
-    by false is = le_of (length rest) n is
+    by true is = past (ltb-true (length rest) n is)
+    by false is = ltb-false (length rest) n is
 
 -- the tokens that a front leaves, as kinds
 kinds_parts : (ts front rest : List Token) → ts ≡ front ++ rest → kinds_of ts ≡ kinds_of front ++ kinds_of rest
@@ -123,10 +114,10 @@ same_names text f g a b = by (nat_lt (length a.rest) (length b.rest)) refl
   where
     by : (t : Bool) → nat_lt (length a.rest) (length b.rest) ≡ t → f ≡ g
     by true is =
-        let le : length a.rest ≤ length b.rest = omega (arith, lt_of (length a.rest) (length b.rest) is) in
+        let le : length a.rest ≤ length b.rest = omega (arith, ltb-true (length a.rest) (length b.rest) is) in
         same_some f g (sym a.first ∙ first_stays (length b.rest) (length a.rest) le nothing_seen Create (tokens_of text) g b.first)
     by false is =
-        let le : length b.rest ≤ length a.rest = le_of (length a.rest) (length b.rest) is in
+        let le : length b.rest ≤ length a.rest = ltb-false (length a.rest) (length b.rest) is in
         same_some f g (sym (first_stays (length a.rest) (length b.rest) le nothing_seen Create (tokens_of text) f a.first) ∙ b.first)
 
 front_begins : (ks : List Kind) (n : ℕ) (h : IsFirstFault HasSchema ks n) → BeginsOne HasSchema h.front

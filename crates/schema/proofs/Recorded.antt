@@ -1,13 +1,12 @@
 -- One record after the other.
-use Rattle.std.proofs.Common.{◌≡◌, ℕ, zero, suc, ◌+◌, ◌≤◌, ◌<◌, Bool, true, false, ◌||◌, cond, eqb, List, [], ◌∷◌, ◌++◌, length, Option, Some, None, refl, sym, ap, subst, ◌∙◌, arith, Bor, inl, inr, ◌⊎◌}
+use Rattle.std.proofs.Common.{◌≡◌, ℕ, zero, suc, ◌+◌, ◌≤◌, ◌<◌, Bool, true, false, ◌||◌, cond, eqb, List, [], ◌∷◌, ◌++◌, length, Option, Some, None, refl, sym, ap, ◌∙◌, arith, Bor, inl, inr, ◌⊎◌}
 use Rattle.std.specs.Prelude.{unwrap_or}
-use Rattle.csv.specs.Machine.{Read, carriage_return, line_feed, in_field, start_field, start_record, step, ends_at_end, is_end, fields_after, field_after, next_record}
-use Rattle.csv.specs.Reading.{ReadRecord, Reached, default_config, reader_state, source_of, strip_bom, records_from, records_next, records}
+use Rattle.csv.specs.Machine.{Read, in_field, start_field, start_record, step, ends_at_end, is_end, fields_after, field_after, next_record}
+use Rattle.csv.specs.Reading.{ReadRecord, Reached, default_config, reader_state, records_from, records_next, records}
 use Rattle.csv.specs.declared.parser.State.{State}
 use Rattle.csv.specs.declared.parser.State.TheVariants as st
 use Rattle.csv.specs.declared.parser.Action.{Action}
 use Rattle.csv.specs.declared.parser.Action.TheVariants as act
-use Rattle.csv.specs.declared.reader.Reader.{Reader}
 use Rattle.csv.proofs.ReadFacts.{rows-more, rows-end}
 use Rattle.schema.specs.Csv.{ByteReader, source, IsReading, records_left, records_in}
 

@@ -1,26 +1,14 @@
 -- One row after the other.
-use Rattle.std.proofs.Common.{◌≡◌, ℕ, zero, suc, ◌+◌, ◌<◌, ◌≤◌, Bool, true, false, ◌&&◌, cond, List, [], ◌∷◌, ◌++◌, length, Option, Some, None, Result, Ok, Err, refl, sym, ap, subst, ◌∙◌, append_assoc, arith, add-one}
-use Rattle.std.specs.Prelude.{ℤ, IsTrue, nat_lt, nat_eq, ◌==◌}
-use Rattle.std.specs.List.{AllByRecursion}
+use Rattle.std.proofs.Common.{◌≡◌, ℕ, suc, ◌+◌, List, [], ◌∷◌, ◌++◌, length, Result, Ok, Err, refl, sym, ap, ◌∙◌, arith}
 use Rattle.std.proofs.lemmas.List.{append-nil, length-append}
 use Rattle.qbs_base.specs.declared.memory.Fail.{Fail}
 use Rattle.qbs_base.specs.declared.memory.Fail.TheVariants as fails
 use Rattle.qbs_base.specs.declared.scalar.Row.{Row}
 use Rattle.qbs_base.specs.declared.columns.Column.{Column}
 use Rattle.schema.specs.declared.fault.DataFault.{DataFault}
-use Rattle.schema.specs.Answers.{Answers}
-use Rattle.schema.specs.Rows.{◌>>=◌, numbered_row, rows_from}
-
-abbrev pub with_front : List Row → Result (List Row) DataFault → Result (List Row) DataFault
-with_front front read = read >>= λ rows. Ok (front ++ rows)
-
-regroup : (front : List Row) (x : Row) (read : Result (List Row) DataFault) → with_front front (read >>= λ rows. Ok (x ∷ rows)) ≡ with_front (front ++ x ∷ []) read
-regroup front x (Ok rows) = ap (λ (xs : List Row). Ok xs) (sym (append_assoc front (x ∷ []) rows))
-regroup front x (Err e) = refl
-
-pub nothing_before : (read : Result (List Row) DataFault) → with_front [] read ≡ read
-nothing_before (Ok rows) = refl
-nothing_before (Err e) = refl
+use Rattle.qbs_base.specs.Memory.{FailsBy}
+use Rattle.schema.specs.Rows.{numbered_row, rows_from}
+use Rattle.schema.proofs.Front.{with_front, regroup}
 
 module _ (number : ℕ) (columns : List Column) (front : List Row) (records rs : List (List (List ℕ))) (r : List (List ℕ)) (total : Result (List Row) DataFault)
     (here : records ≡ r ∷ rs) (so_far : with_front front (rows_from number columns (length front + 1) records) ≡ total) where
@@ -32,7 +20,7 @@ module _ (number : ℕ) (columns : List Column) (front : List Row) (records rs :
       let one : with_front front (rows_from number columns (length front + 1) records) ≡ with_front (front ++ x ∷ []) (rows_from number columns (suc (length front + 1)) rs) = rw (here, now) (regroup front x (rows_from number columns (suc (length front + 1)) rs)) in
       ap (λ (n : ℕ). with_front (front ++ x ∷ []) (rows_from number columns n rs)) (sym next) ∙ sym one ∙ so_far
 
-  pub row_fails : (k : ℕ) (e : Fail DataFault) → k ≡ length front + 1 → Answers {X = Row} (Err e) (numbered_row number columns k r) → Answers {X = List Row} (Err e) total
+  pub row_fails : (k : ℕ) (e : Fail DataFault) → k ≡ length front + 1 → FailsBy e (numbered_row number columns k r) → FailsBy e total
   unfolding rows_from
   row_fails k (fails.Fault f) is_k is =
       let now : numbered_row number columns (length front + 1) r ≡ Err f = ap (λ (n : ℕ). numbered_row number columns n r) (sym is_k) ∙ is in

@@ -1,10 +1,11 @@
 -- Items up to a last one: the laws of their reader.
 use Rattle.std.proofs.Common.{◌≡◌, ℕ, zero, suc, ◌≤◌, ◌<◌, Bool, true, false, List, [], ◌∷◌, ◌++◌, length, Option, Some, None, Ok, Err, refl, sym, ap, subst, ◌∙◌, append_assoc, arith, inl, inr}
 use Rattle.std.proofs.lemmas.List.{append-nil, length-append}
-use Rattle.readers.specs.declared.fault.Fault.TheVariants.{Unexpected, TooDeep}
+use Rattle.readers.specs.declared.fault.Fault.TheVariants.{Unexpected}
 use Rattle.readers.specs.Reading.{◌>>=◌, Read, is_over, option_cases}
 use Rattle.readers.proofs.Tools.{bind_ok, ok_is, bind_err, chosen}
-use Rattle.readers.proofs.Lawful.{Takes, Finds, Begun, Begins, inside, IsPast, past_bind, past_cond, Stays, Agree, here, later, Alike, alike, alike_bind, alike_cond, Lawful}
+use Rattle.readers.proofs.Lawful.{Takes, Finds, Begun, Begins, inside, IsPast, past_bind, past_cond, Stays, Agree, Alike, alike, alike_bind, alike_cond, Lawful}
+use Rattle.readers.proofs.Many.{not_empty, same_over, shorter}
 use Rattle.readers.proofs.Again.{Leads, Leads-then, Leads-bind, Again}
 use Rattle.schema.specs.Series.{series_up_to, series, HasSeries}
 
@@ -76,17 +77,6 @@ module _ {T A : Type 0} (stop : T → Bool) (Has : List T → Option A → Type 
         past_cond n (is_over stop us) (Ok ([], us)) (r us >>= behind stop r k) le
         (past_bind n (r us) (behind stop r k) (law.stays n us le) (λ o vs lt. item_past k n (series_stays k) o vs lt))
 
-    shorter : (us : List T) (x : Option A × List T) → r us ≡ Ok x → length x.1 < length us
-    shorter us x e = let taken = law.found us x e in omega (arith, long taken.front x.0 taken.has, ap length taken.parts, length-append taken.front x.1)
-
-    not_empty : (rest rest' us vs : List T) → Agree rest rest' us vs → (0 < length us) × (0 < length vs)
-    not_empty rest rest' _ _ here = (omega arith, omega arith)
-    not_empty rest rest' _ _ (later ag) = (omega arith, omega arith)
-
-    same_over : (rest rest' us vs : List T) → Agree rest rest' us vs → is_over stop us ≡ is_over stop vs
-    same_over rest rest' _ _ here = refl
-    same_over rest rest' _ _ (later ag) = refl
-
     item_same : (n m : ℕ) (rest rest' : List T) → Stays (series_up_to stop r n) → (o : Option A) (us vs : List T) → Agree rest rest' us vs → Alike rest rest' (List A) (series_up_to stop r n us) (series_up_to stop r m vs)
         → Alike rest rest' (List A) (behind stop r n (o, us)) (behind stop r m (o, vs))
     item_same n m rest rest' below None us vs ag others = alike ag
@@ -97,9 +87,9 @@ module _ {T A : Type 0} (stop : T → Bool) (Has : List T → Option A → Type 
     series_same zero m rest rest' us vs le_us le_vs ag = absurd (omega (arith, (not_empty rest rest' us vs ag).0))
     series_same (suc n) zero rest rest' us vs le_us le_vs ag = absurd (omega (arith, (not_empty rest rest' us vs ag).1))
     series_same (suc n) (suc m) rest rest' us vs le_us le_vs ag =
-        alike_cond rest rest' (is_over stop us) (is_over stop vs) (same_over rest rest' us vs ag) (alike ag)
+        alike_cond rest rest' (is_over stop us) (is_over stop vs) (same_over stop rest rest' us vs ag) (alike ag)
         (alike_bind rest rest' (behind stop r n) (behind stop r m) (law.same rest rest' us vs ag)
-        (λ o us' vs' ag' e e'. item_same n m rest rest' (series_stays n) o us' vs' ag' (series_same n m rest rest' us' vs' (omega (arith, shorter us (o, us') e)) (omega (arith, shorter vs (o, vs') e')) ag'))
+        (λ o us' vs' ag' e e'. item_same n m rest rest' (series_stays n) o us' vs' ag' (series_same n m rest rest' us' vs' (omega (arith, shorter Has r law.found long us (o, us') e)) (omega (arith, shorter Has r law.found long vs (o, vs') e')) ag'))
         (λ o us' lt. item_past n (length rest) (series_stays n) o us' lt))
 
     pub series_lawful : Lawful (HasSeries Has) (series stop r)

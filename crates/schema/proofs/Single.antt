@@ -1,17 +1,15 @@
 -- Single tokens: what is read has the token, and the laws of their readers.
-use Rattle.std.proofs.Common.{◌≡◌, ℕ, Bool, true, false, cond, List, [], ◌∷◌, ◌++◌, length, Option, Some, None, Ok, Err, refl, sym, ap, subst, ◌∙◌, arith, inl, inr}
-use Rattle.std.specs.Prelude.{codes, if◌then◌else◌}
-use Rattle.readers.specs.Reading.{Read, token_at, IsToken}
-use Rattle.readers.proofs.Lawful.{Takes, Begun, Lawful, Inhabited, token_lawful}
-use Rattle.readers.proofs.Again.{Again, Any, Leads}
-use Rattle.qbs_base.specs.declared.scalar.Ty.{Ty}
-use Rattle.qbs_base.specs.declared.scalar.Ty.TheVariants as ty
+use Rattle.std.proofs.Common.{◌≡◌, ℕ, Bool, true, false, cond, List, [], ◌∷◌, ◌++◌, Some, None, refl, ap, ◌∙◌, inl}
+use Rattle.std.specs.Prelude.{if◌then◌else◌}
+use Rattle.readers.specs.Reading.{Read, IsToken}
+use Rattle.readers.proofs.Lawful.{Lawful, Inhabited, token_lawful}
+use Rattle.readers.proofs.Again.{Again, Any}
 use Rattle.schema.specs.declared.token.Kind.{Kind}
 use Rattle.schema.specs.declared.token.Kind.TheVariants.{Word, Digits, Sign, Stray}
 use Rattle.schema.specs.declared.token.Sign as signs
 use Rattle.schema.specs.declared.token.Sign.TheVariants.{Open, Close, Comma, Semicolon}
 use Rattle.schema.specs.Words.{spells}
-use Rattle.schema.specs.Reading.{word_in, is_word, is_sign, is_digits, same_sign, passing, name_at, word_at, sign_at, digits_at, type_in, type_of}
+use Rattle.schema.specs.Reading.{word_in, is_word, is_sign, is_digits, same_sign, passing, name_at, word_at, sign_at, digits_at}
 
 -- a reader of one thing reads another that has all of its tokens
 pub as_lawful : {T A : Type 0} (P Q : List T → A → Type 0) (r : List T → Read T A) → ((ts : List T) (x : A) → P ts x → Q ts x) → Lawful P r → Lawful Q r

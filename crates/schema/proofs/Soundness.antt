@@ -1,5 +1,5 @@
 -- No name breaks a rule exactly where the tables are as the rules ask.
-use Rattle.std.proofs.Common.{◌≡◌, ℕ, ◌+◌, ◌≤◌, ◌<◌, Bool, true, false, ◌||◌, cond, List, [], ◌∷◌, ◌++◌, length, Option, Some, None, map, refl, sym, ap, subst, ◌∙◌, append_assoc, arith, inl, inr}
+use Rattle.std.proofs.Common.{◌≡◌, ℕ, ◌+◌, ◌≤◌, Bool, true, false, ◌||◌, cond, List, [], ◌∷◌, ◌++◌, length, Option, Some, None, map, refl, sym, subst, append_assoc, arith}
 use Rattle.std.specs.Prelude.{nat_le}
 use Rattle.std.specs.List.{AllByRecursion, IsDistinct}
 use Rattle.std.specs.Str.{bytes_eq}
@@ -10,8 +10,6 @@ use Rattle.qbs_base.specs.declared.columns.Column.{Column}
 use Rattle.qbs_base.specs.declared.columns.Table.{Table}
 use Rattle.schema.specs.declared.token.Token.{Token}
 use Rattle.schema.specs.declared.names.Where.TheVariants.{Create}
-use Rattle.schema.specs.declared.names.Role.{Role}
-use Rattle.schema.specs.declared.names.Role.TheVariants as role
 use Rattle.schema.specs.declared.names.Seen.{Seen}
 use Rattle.schema.specs.declared.fault.SchemaRule.{SchemaRule}
 use Rattle.schema.specs.declared.fault.SchemaRule.TheVariants.{DoubleTable, DoubleColumn, NameReserved, TooManyTables, TooManyColumns}
@@ -21,7 +19,7 @@ use Rattle.schema.specs.Tokens.{kinds_of}
 use Rattle.schema.specs.Grammar.{HasSchema}
 use Rattle.schema.specs.Naming.{Declared, declared_before, nothing_seen, seen_with, broken_by, first_broken}
 use Rattle.schema.specs.Rules.{AreColumns, IsSchema}
-use Rattle.schema.proofs.Agreement.{Plain, plain_of, column_name, columns_names, tables_names, names_agree}
+use Rattle.schema.proofs.Agreement.{Plain, plain_of, columns_names, tables_names, names_agree}
 
 -- ---- names one after the other
 

@@ -1,8 +1,8 @@
 -- The rows that are read are rows of the table, and no more than a million.
-use Rattle.std.proofs.Common.{◌≡◌, ℕ, zero, suc, ◌+◌, ◌<◌, ◌≤◌, Bool, true, false, ◌&&◌, cond, List, [], ◌∷◌, ◌++◌, length, Option, Some, None, Result, Ok, Err, refl, sym, ap, subst, ◌∙◌, arith, eqb-true, inl, inr, ◌⊎◌, drop}
-use Rattle.std.specs.Prelude.{ℤ, pos, neg_ℤ, IsTrue, nat_lt, nat_eq, IfOk, codes}
+use Rattle.std.proofs.Common.{◌≡◌, ℕ, suc, ◌+◌, ◌≤◌, Bool, true, false, ◌&&◌, cond, List, [], ◌∷◌, length, Option, Some, None, Result, Ok, Err, refl, sym, ap, subst, ◌∙◌, arith, eqb-true, inl, inr, ◌⊎◌, drop}
+use Rattle.std.specs.Prelude.{ℤ, pos, neg_ℤ, nat_lt, nat_eq, IfOk, codes}
 use Rattle.std.specs.List.{AllByRecursion}
-use Rattle.std.specs.Str.{bytes_eq, is_utf8}
+use Rattle.std.specs.Str.{bytes_eq}
 use Rattle.std.proofs.lemmas.Bool.Decides.{nat_tests}
 use Rattle.qbs_base.specs.declared.memory.Fail.{Fail}
 use Rattle.qbs_base.specs.declared.scalar.Scalar.{Scalar}
@@ -14,9 +14,9 @@ use Rattle.qbs_base.specs.declared.scalar.Row.{Row}
 use Rattle.qbs_base.specs.declared.columns.Column.{Column}
 use Rattle.qbs_base.specs.Values.{Schema, fits_long, HasTy, AreCells, IsRowOf}
 use Rattle.schema.specs.declared.fault.DataRule.{DataRule}
-use Rattle.schema.specs.declared.fault.DataRule.TheVariants.{Header, Width, BadLong, BadBool, BadUtf8, TooManyRows}
+use Rattle.schema.specs.declared.fault.DataRule.TheVariants.{Header, Width, BadBool, TooManyRows}
 use Rattle.schema.specs.declared.fault.DataFault.{DataFault}
-use Rattle.schema.specs.Answers.{Answers}
+use Rattle.qbs_base.specs.Memory.{Answers}
 use Rattle.schema.specs.Bytes.{begins_with}
 use Rattle.schema.specs.Rows.{◌>>=◌, all_digits, number_from, long_with, long_of, text_of, long_cell, text_cell, cell_of, cells_of, row_of, most_rows, numbered_row, rows_from, is_header, rows_under, columns_of, records_of, table_rows}
 

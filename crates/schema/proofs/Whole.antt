@@ -1,9 +1,9 @@
 -- All tokens of a text: what is read has them by the grammar, and where reading stops is the first fault.
-use Rattle.std.proofs.Common.{◌≡◌, ℕ, suc, ◌≤◌, length, arith, List, [], ◌∷◌, ◌++◌, Some, None, Ok, Err, Result, refl, sym, ap, subst, ◌∙◌, inl, inr}
+use Rattle.std.proofs.Common.{◌≡◌, ℕ, suc, ◌≤◌, length, arith, List, [], ◌∷◌, ◌++◌, Some, None, Ok, Err, refl, sym, subst, inl, inr}
 use Rattle.std.proofs.lemmas.List.{append-nil}
 use Rattle.readers.specs.declared.fault.Fault.{Fault}
 use Rattle.readers.specs.declared.fault.Fault.TheVariants.{Unexpected, TooDeep}
-use Rattle.readers.specs.Reading.{◌>>=◌, Read, IsDeep, token_at, both, made, either, many, ended, whole, IsFirstFault}
+use Rattle.readers.specs.Reading.{Read, IsDeep, token_at, both, made, either, many, ended, whole, IsFirstFault}
 use Rattle.readers.proofs.Tools.{bind_err}
 use Rattle.readers.proofs.Lawful.{IsPast}
 use Rattle.readers.proofs.Again.{Leads, Leads-bind}
@@ -14,10 +14,10 @@ use Rattle.schema.specs.declared.token.Sign.TheVariants.{Open, Close, Comma, Sem
 use Rattle.std.specs.Prelude.{codes}
 use Rattle.qbs_base.specs.declared.scalar.Ty.TheVariants as ty
 use Rattle.schema.specs.Grammar.{HasSchema}
-use Rattle.schema.specs.Series.{series}
 use Rattle.schema.specs.Schemas.{left_of}
 use Rattle.schema.specs.Reading.{is_word, is_sign, is_digits, passing, word_in, name_at, word_at, sign_at, digits_at, type_in, sized_at, type_at, is_no_mark, mark_at, marks_at, rest_at, is_no_comma, next_name_at, next_names_at, key_at, typed_at, named, column_of, column_at, primary_in, primary_at, item_at, next_item_at, columns_at, head_at, body_at, tail_at, table_from, table_at, never, tables_at, read_of}
-use Rattle.schema.proofs.Shallow.{Shallow, token_shallow, both_shallow, made_shallow, either_shallow, many_shallow, series_shallow, whole_shallow}
+use Rattle.readers.proofs.Shallow.{Shallow, token_shallow, both_shallow, made_shallow, either_shallow, many_shallow, whole_shallow}
+use Rattle.schema.proofs.Shallow.{series_shallow}
 use Rattle.schema.proofs.Grammatical.{tables_lawful}
 use Rattle.schema.proofs.Complete.{tables_again}
 

@@ -1,5 +1,5 @@
 -- What a reader of the records of a text has left.
-use Rattle.std.specs.Prelude.{◌≡◌, ℕ, suc, true, List, [], length, unwrap_or}
+use Rattle.std.specs.Prelude.{◌≡◌, ℕ, suc, List, [], length, unwrap_or}
 use Rattle.std.specs.Borrow.{Bor}
 use Rattle.std.specs.declared.option.Option.{Option}
 use Rattle.std.specs.declared.option.Option.TheVariants.{Some}

@@ -1,11 +1,9 @@
-pub mod Answers
 pub mod Bytes
 pub mod Csv
 pub mod Faults
 pub mod Grammar
 pub mod Naming
 pub mod Numbers
-pub mod Places
 pub mod Reading
 pub mod Rows
 pub mod Rules

@@ -13,7 +13,8 @@ use Rattle.qbs_base.specs.Values.{Schema, fits_long}
 use Rattle.schema.specs.declared.fault.DataRule.{DataRule}
 use Rattle.schema.specs.declared.fault.DataRule.TheVariants.{Header, Width, BadLong, BadBool, BadUtf8, TooManyRows}
 use Rattle.schema.specs.declared.fault.DataFault.{DataFault}
-use Rattle.schema.specs.Bytes.{is_digit, begins_with}
+use Rattle.schema.specs.Bytes.{begins_with}
+use Rattle.qbs_base.specs.Bytes.{is_digit}
 
 -- ---- whole numbers
 

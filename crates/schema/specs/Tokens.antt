@@ -4,13 +4,14 @@ use Rattle.std.specs.declared.option.Option.{Option}
 use Rattle.std.specs.declared.option.Option.TheVariants.{Some, None}
 use Rattle.std.specs.List.{prefix_len}
 use Rattle.qbs_base.specs.declared.span.Span.{Span}
-use Rattle.schema.specs.declared.place.Place.{Place}
+use Rattle.qbs_base.specs.declared.place.Place.{Place}
 use Rattle.schema.specs.declared.token.Kind.{Kind}
 use Rattle.schema.specs.declared.token.Kind.TheVariants as kinds
 use Rattle.schema.specs.declared.token.Sign.TheVariants.{Open, Close, Comma, Semicolon}
 use Rattle.schema.specs.declared.token.Token.{Token}
-use Rattle.schema.specs.Places.{first_place, next_place, place_after, between}
-use Rattle.schema.specs.Bytes.{is_blank, is_digit, is_word_start, is_word_part, is_in_line, begins_with}
+use Rattle.qbs_base.specs.Places.{first_place, next_place, place_after, between}
+use Rattle.schema.specs.Bytes.{is_in_line, begins_with}
+use Rattle.qbs_base.specs.Bytes.{is_white, is_digit, is_name_start, is_name_part}
 
 -- what stands at the front, a token or a gap, and how many bytes it has
 abbrev pub Piece : Type 0
@@ -29,8 +30,8 @@ sign_of b bs =
 -- words and digits are as long as they can be
 abbrev pub piece_from : ℕ → List ℕ → Piece
 piece_from b bs =
-    if is_blank b then (None, 1)
-    else (if is_word_start b then (Some (kinds.Word (take (prefix_len is_word_part (b ∷ bs)) (b ∷ bs))), prefix_len is_word_part (b ∷ bs))
+    if is_white b then (None, 1)
+    else (if is_name_start b then (Some (kinds.Word (take (prefix_len is_name_part (b ∷ bs)) (b ∷ bs))), prefix_len is_name_part (b ∷ bs))
     else (if is_digit b then (Some kinds.Digits, prefix_len is_digit (b ∷ bs))
     else sign_of b bs))
 

@@ -3,7 +3,7 @@ ghost use Rattle.std.specs.Prelude.{◌≡◌, Ok, IfOk, option_map, codes, Some
 ghost use Rattle.std.specs.Str.{bytes_eq};
 ghost use Rattle.qbs_base.specs.Values.{HasTy};
 ghost use Rattle.schema.specs.Rows.{long_of, text_of, cell_of};
-ghost use Rattle.schema.specs.Answers.{Answers};
+ghost use Rattle.qbs_base.specs.Memory.{Answers};
 
 use crate::fault::DataRule;
 use qbs_base::{Fail, NoMemory, Scalar, Text, Ty};

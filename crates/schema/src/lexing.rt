@@ -1,37 +1,13 @@
 // The tokens of a text.
 ghost use Rattle.std.specs.Prelude.{◌≡◌, ◌+◌, ◌<◌, ◌≤◌, length, take, IfOk, OnOk, IsTrue, ◌++◌, string_bytes};
 ghost use Rattle.std.specs.List.{prefix_len, AllPass};
-ghost use Rattle.schema.specs.Bytes.{is_blank as is_blank_byte, is_digit as is_digit_byte, is_in_line as is_in_line_byte, is_word_start as is_word_start_byte, is_word_part as is_word_part_byte, begins_with as byte_begins};
+ghost use Rattle.schema.specs.Bytes.{is_in_line as is_in_line_byte, begins_with as byte_begins};
+ghost use Rattle.qbs_base.specs.Bytes.{is_digit as is_digit_byte, is_name_part as is_name_part_byte};
 ghost use Rattle.schema.specs.Tokens.{sign_of, piece_of, placed, tokens_of, end_of};
 
-use crate::place::{Place, after, span};
 use crate::token::{Kind, Sign, Token};
-use qbs_base::{NoMemory, Span, Text};
+use qbs_base::{NoMemory, Place, Span, Text, is_digit, is_name_part, is_name_start, is_white};
 use std::alloc::Global;
-
-fn is_blank(byte: u8) -> bool
-    ensures { result ≡ is_blank_byte byte }
-{
-    byte == b' ' || byte == b'\t' || byte == b'\n' || byte == b'\r'
-}
-
-fn is_digit(byte: u8) -> bool
-    ensures { result ≡ is_digit_byte byte }
-{
-    b'0' <= byte && byte <= b'9'
-}
-
-fn is_word_start(byte: u8) -> bool
-    ensures { result ≡ is_word_start_byte byte }
-{
-    (b'A' <= byte && byte <= b'Z') || (b'a' <= byte && byte <= b'z') || byte == b'_'
-}
-
-fn is_word_part(byte: u8) -> bool
-    ensures { result ≡ is_word_part_byte byte }
-{
-    is_word_start(byte) || is_digit(byte)
-}
 
 fn is_in_line(byte: u8) -> bool
     ensures { result ≡ is_in_line_byte byte }
@@ -41,11 +17,11 @@ fn is_in_line(byte: u8) -> bool
 
 #[tactic(auto, using(crate::proofs::Pieces::passes))]
 fn word_len(bytes: &[u8]) -> usize
-    ensures value { result ≡ prefix_len is_word_part_byte bytes.now }
-    ensures passes { AllPass is_word_part_byte (take result bytes.now) }
+    ensures value { result ≡ prefix_len is_name_part_byte bytes.now }
+    ensures passes { AllPass is_name_part_byte (take result bytes.now) }
     ensures within { result ≤ length bytes.now }
 {
-    bytes.iter().take_while(|b| is_word_part(**b)).count()
+    bytes.iter().take_while(|b| is_name_part(**b)).count()
 }
 
 fn digits_len(bytes: &[u8]) -> usize
@@ -72,7 +48,7 @@ fn begins_with(byte: u8, bytes: &[u8]) -> bool
     }
 }
 
-/// What a byte that is neither blank nor of a word nor a digit begins, before these bytes.
+/// What a byte that is neither white space nor of a word nor a digit begins, before these bytes.
 fn sign(first: u8, rest: &[u8]) -> (Option<Kind>, usize)
     ensures value { result ≡ sign_of first rest.now }
     ensures len { (0 < result.1) × (result.1 ≤ length rest.now + 1) }
@@ -89,7 +65,7 @@ fn sign(first: u8, rest: &[u8]) -> (Option<Kind>, usize)
 
 /// The bytes of a word, as text.
 fn text_of(alloc: Global, bytes: &[u8]) -> Result<Text, NoMemory>
-    requires { AllPass is_word_part_byte bytes.now }
+    requires { AllPass is_name_part_byte bytes.now }
     ensures { IfOk result (λ t. t ≡ bytes.now) }
 {
     let mut text = String::new(alloc);
@@ -109,10 +85,10 @@ fn piece(alloc: Global, bytes: &[u8]) -> Result<(Option<Kind>, usize), NoMemory>
         [] => return Ok((None, 0)),
         [first, rest @ ..] => (*first, rest),
     };
-    if is_blank(first) {
+    if is_white(first) {
         return Ok((None, 1));
     }
-    if is_word_start(first) {
+    if is_name_start(first) {
         let len = word_len(bytes);
         let text = text_of(alloc, &bytes[..len])?;
         return Ok((Some(Kind::Word(text)), len));
@@ -147,21 +123,17 @@ pub fn lex(alloc: Global, text: &[u8]) -> Result<Tokens, NoMemory>
 {
     let mut list = Vec::new(alloc);
     let mut rest = text;
-    let mut place = Place {
-        line: 1,
-        column: 1,
-        index: 0,
-    };
+    let mut place = Place::FIRST;
     while !rest.is_empty() {
         let (kind, len) = piece(alloc, rest)?;
         let (text_here, text_after) = rest.split_at(len);
-        let end = after(place, text_here);
-        keep(&mut list, span(place, end), kind)?;
+        let end = place.after(text_here);
+        keep(&mut list, place.span_to(end), kind)?;
         place = end;
         rest = text_after;
     }
     Ok(Tokens {
         list,
-        end: span(place, place),
+        end: place.span_to(place),
     })
 }

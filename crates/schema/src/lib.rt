@@ -10,7 +10,6 @@ mod loading;
 mod model;
 mod names;
 mod parsing;
-mod place;
 mod records;
 mod token;
 

@@ -3,7 +3,7 @@ ghost use Rattle.std.specs.Prelude.{◌≡◌, ◌≤◌, ◌<◌, length, OnOk,
 ghost use Rattle.std.specs.List.{AllByRecursion};
 ghost use Rattle.qbs_base.specs.Values.{IsRowOf};
 ghost use Rattle.csv.specs.Records.{fields_of};
-ghost use Rattle.schema.specs.Answers.{Answers};
+ghost use Rattle.qbs_base.specs.Memory.{Answers};
 ghost use Rattle.schema.specs.Csv.{IsReading, records_in};
 ghost use Rattle.schema.specs.Rows.{is_header as is_header_row, cells_of, row_of, most_rows, numbered_row, rows_from, rows_under, records_of, columns_of, table_rows};
 

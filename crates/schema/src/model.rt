@@ -3,7 +3,7 @@ ghost use Rattle.std.specs.Prelude.{◌≡◌, ◌<◌, List, IfOk, IfErr, IfSom
 ghost use Rattle.std.specs.Str.{bytes_eq};
 ghost use Rattle.schema.specs.Numbers.{table_number, column_number};
 ghost use Rattle.qbs_base.specs.declared.columns.Table.{Table as PlainTable};
-ghost use Rattle.schema.specs.Answers.{Answers};
+ghost use Rattle.qbs_base.specs.Memory.{Answers};
 ghost use Rattle.schema.specs.Tokens.{tokens_of, kinds_of};
 ghost use Rattle.schema.specs.Grammar.{HasSchema};
 ghost use Rattle.schema.specs.Rules.{IsSchema, AreNamed};

@@ -10,7 +10,8 @@ use Rattle.qbs_base.specs.declared.columns.Column.{Column}
 use Rattle.qbs_base.specs.declared.columns.Table.{Table}
 use Rattle.qbs_base.specs.declared.scalar.Ty.TheVariants as tys
 use Rattle.qbs_base.specs.Values.{Schema}
-use Rattle.schema.specs.Bytes.{is_word_start, is_word_part, begins_with}
+use Rattle.qbs_base.specs.Bytes as kinds
+use Rattle.schema.specs.Bytes.{begins_with}
 use Rattle.schema.specs.Bytes as ddl
 use Rattle.schema.specs.Rules.{AreColumns, IsSchema, AreNamed}
 use Rattle.schema.specs.Words.{spells, is_among, query_words, source_words, type_words, is_reserved, is_reserved_table}
@@ -27,16 +28,16 @@ use Rattle.sql_emit.proofs.Tools.{some_eq, all_at, get_map, lt_true}
 
 -- ---- words
 
-start_same : (b : ℕ) → is_word_start b ≡ is_name_start b
+start_same : (b : ℕ) → kinds.is_name_start b ≡ is_name_start b
 start_same b = grind (arith, nat_tests)
 
-part_same : (b : ℕ) → is_word_part b ≡ is_name_part b
+part_same : (b : ℕ) → kinds.is_name_part b ≡ is_name_part b
 part_same b = ap₂ (λ x y. x || y) (start_same b) (digit_same b)
   where
-    digit_same : (b : ℕ) → ddl.is_digit b ≡ is_ascii_digit b
+    digit_same : (b : ℕ) → kinds.is_digit b ≡ is_ascii_digit b
     digit_same b = grind (arith, nat_tests)
 
-parts_same : (bs : List ℕ) → list_all is_word_part bs ≡ list_all is_name_part bs
+parts_same : (bs : List ℕ) → list_all kinds.is_name_part bs ≡ list_all is_name_part bs
 parts_same [] = refl
 parts_same (b ∷ bs) = ap₂ (λ x y. x && y) (part_same b) (parts_same bs)
 

@@ -1,5 +1,4 @@
-use Rattle.std.proofs.Common.{sym, ◌∙◌}
-use Rattle.std.specs.Str.Parse.{ParsesSigned}
+use Rattle.std.proofs.Common.{◌∙◌}
 use Rattle.schema.proofs.Longs.{long_is, no_long}
 use Rattle.schema.proofs.fields.long.Goals as goal
 

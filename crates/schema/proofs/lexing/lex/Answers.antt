@@ -1,8 +1,8 @@
-use Rattle.std.proofs.Common.{◌<◌, length, sym, arith, false-eqb}
+use Rattle.std.proofs.Common.{◌<◌, length, sym, ◌∙◌, arith, false-eqb}
 use Rattle.std.proofs.lemmas.Bool.{eqb-true}
-use Rattle.schema.specs.Places.{first_place, place_after}
 use Rattle.schema.specs.Tokens.{tokens_of}
-use Rattle.schema.proofs.Pieces.{steps, ends, stays_room, stays_place}
+use Rattle.qbs_base.proofs.Rooms.{stays_room, passes_over}
+use Rattle.schema.proofs.Pieces.{steps, ends}
 use Rattle.schema.proofs.lexing.lex.Goals as goal
 
 pub loop-rest-preserved : goal.loop-rest-preserved
@@ -12,8 +12,8 @@ loop-rest-preserved c =
     record {
       room = stays_room c.loop-rest.place c.after-end.result c.loop-rest.rest.now c.split_at.result.0.now c.split_at.result.1.now c.in_ok-kind.len len.1 c.split_at.ensures.front c.split_at.ensures.back c.after-end.ensures c.loop-rest.invariant.room;
       so_far = steps c.loop-rest.list.items c.keep.new.tokens.items (tokens_of c.args.text.now) c.loop-rest.place c.after-end.result c.loop-rest.rest.now c.split_at.result.0.now c.split_at.result.1.now (c.in_ok-kind.kind, c.in_ok-kind.len)
-          some (len.0 some) c.in_ok-kind.ensures.value c.split_at.ensures.front c.split_at.ensures.back c.after-end.ensures (rw (← c.span.ensures) c.in_ok-keep.ensures) c.loop-rest.invariant.so_far;
-      last = stays_place c.loop-rest.place c.after-end.result (place_after first_place c.args.text.now) c.loop-rest.rest.now c.split_at.result.0.now c.split_at.result.1.now c.in_ok-kind.len c.split_at.ensures.front c.split_at.ensures.back c.after-end.ensures c.loop-rest.invariant.last;
+          some (len.0 some) c.in_ok-kind.ensures.value c.split_at.ensures.front c.split_at.ensures.back c.after-end.ensures (rw (← c.span_to.ensures) c.in_ok-keep.ensures) c.loop-rest.invariant.so_far;
+      last = passes_over c.loop-rest.place c.after-end.result c.loop-rest.rest.now c.split_at.result.0.now c.split_at.result.1.now c.in_ok-kind.len c.split_at.ensures.front c.split_at.ensures.back c.after-end.ensures ∙ c.loop-rest.invariant.last;
     }
 
 pub returns-clause-list : goal.returns-clause-list

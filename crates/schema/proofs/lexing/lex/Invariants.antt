@@ -1,5 +1,5 @@
 use Rattle.std.proofs.Common.{◌≡◌, ◌++◌, length}
-use Rattle.schema.specs.Places.{HasRoom, first_place, place_after}
+use Rattle.qbs_base.specs.Places.{HasRoom, first_place, place_after}
 use Rattle.schema.specs.Tokens.{tokens_from, tokens_of}
 use Rattle.schema.proofs.lexing.lex.Given as goal
 

@@ -1,9 +1,9 @@
-use Rattle.std.proofs.Common.{◌≡◌, ◌+◌, List, drop, length, sym, ◌∙◌, arith, subst}
+use Rattle.std.proofs.Common.{◌+◌, drop, sym, arith}
 use Rattle.std.proofs.lemmas.Result.{err_from_is_err_and}
 use Rattle.std.proofs.lemmas.List.{drop_all}
 use Rattle.csv.specs.Records.{fields_of}
 use Rattle.schema.specs.Rows.{cells_of}
-use Rattle.schema.proofs.Celled.{drop_some, drop_none, drop_item, nothing_before, cell_goes_on, cell_fails, no_field, cells_end}
+use Rattle.schema.proofs.Celled.{drop_some, drop_none, drop_item, cell_goes_on, cell_fails, no_field, cells_end}
 use Rattle.schema.proofs.loading.cells.Goals as goal
 
 pub returns-in_default : goal.returns-in_default

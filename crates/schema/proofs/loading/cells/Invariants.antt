@@ -1,7 +1,7 @@
 use Rattle.std.proofs.Common.{◌≡◌, drop}
 use Rattle.csv.specs.Records.{fields_of}
 use Rattle.schema.specs.Rows.{cells_of}
-use Rattle.schema.proofs.Celled.{with_front}
+use Rattle.schema.proofs.Front.{with_front}
 use Rattle.schema.proofs.loading.cells.Given as goal
 
 abbrev pub invariant-loop-i : goal.invariant-loop-i

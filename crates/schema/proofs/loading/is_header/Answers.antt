@@ -1,4 +1,4 @@
-use Rattle.std.proofs.Common.{◌≡◌, ◌+◌, Bool, true, false, drop, length, sym, ◌∙◌, arith}
+use Rattle.std.proofs.Common.{◌+◌, drop, sym, ◌∙◌, arith}
 use Rattle.csv.specs.Records.{fields_of}
 use Rattle.schema.specs.Rows.{is_header}
 use Rattle.schema.proofs.Celled.{drop_some, drop_none, drop_item, field_within, header_goes_on, header_differs, header_no_field, header_ends, not_true, not_false}

@@ -1,8 +1,7 @@
-use Rattle.std.proofs.Common.{◌≡◌, ◌+◌, List, ◌∷◌, [], length, sym, ◌∙◌, arith, ap}
+use Rattle.std.proofs.Common.{◌+◌, ◌∷◌, [], length, arith, ap}
 use Rattle.std.proofs.lemmas.Result.{err_from_is_err_and}
 use Rattle.std.proofs.lemmas.List.{length-append}
 use Rattle.csv.specs.Records.{fields_of}
-use Rattle.qbs_base.specs.declared.scalar.Row.{Row}
 use Rattle.schema.specs.Csv.{records_in}
 use Rattle.schema.specs.Rows.{rows_from}
 use Rattle.schema.proofs.Rowed.{row_goes_on, row_fails, rows_end}

@@ -1,7 +1,7 @@
 use Rattle.std.proofs.Common.{◌≡◌, ◌≤◌, ◌+◌, ◌-◌, length}
 use Rattle.schema.specs.Csv.{IsReading, records_in}
 use Rattle.schema.specs.Rows.{most_rows, rows_from}
-use Rattle.schema.proofs.Rowed.{with_front}
+use Rattle.schema.proofs.Front.{with_front}
 use Rattle.schema.proofs.loading.rows.Given as goal
 
 abbrev pub invariant-loop-rows : goal.invariant-loop-rows

@@ -1,7 +1,6 @@
-use Rattle.std.proofs.Common.{◌≤◌, length, sym, subst, arith, ap}
+use Rattle.std.proofs.Common.{arith}
 use Rattle.std.proofs.lemmas.List.{length-map}
 use Rattle.schema.specs.Tokens.{kinds_of}
-use Rattle.schema.specs.Schemas.{left_of}
 use Rattle.schema.proofs.Whole.{read_within}
 use Rattle.schema.proofs.model.judge.Goals as goal
 

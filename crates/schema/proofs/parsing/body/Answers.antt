@@ -1,5 +1,4 @@
 use Rattle.schema.specs.Tokens.{kinds_of}
-use Rattle.schema.specs.Reading.{body_at}
 use Rattle.schema.proofs.Bodies.{columns_behind-one}
 use Rattle.schema.proofs.parsing.body.Goals as goal
 

@@ -2,7 +2,7 @@ use Rattle.std.proofs.Common.{◌≡◌, ◌-◌, length}
 use Rattle.schema.specs.Series.{series_up_to}
 use Rattle.schema.specs.Tokens.{kinds_of}
 use Rattle.schema.specs.Reading.{is_no_comma, next_item_at, columns_behind}
-use Rattle.schema.proofs.Loops.{with_front}
+use Rattle.readers.proofs.Loops.{with_front}
 use Rattle.schema.proofs.parsing.further.Given as goal
 
 abbrev pub invariant-loop : goal.invariant-loop

@@ -7,7 +7,7 @@ use Rattle.readers.specs.Reading.{is_over}
 use Rattle.schema.specs.declared.token.Token.{Token}
 use Rattle.schema.specs.Tokens.{kinds_of}
 use Rattle.schema.specs.Reading.{never, table_at, tables_at}
-use Rattle.schema.proofs.Loops.{many_begin, many_go_on, many_fail, many_stop, many_run_out}
+use Rattle.readers.proofs.Loops.{many_begin, many_go_on, many_fail, many_stop, many_run_out}
 use Rattle.schema.proofs.parsing.tables.Goals as goal
 use Rattle.schema.proofs.parsing.tables.Goals.{else-loop-test, then-loop-test+then-is_empty}
 

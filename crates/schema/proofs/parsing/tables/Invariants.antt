@@ -2,7 +2,7 @@ use Rattle.std.proofs.Common.{◌≡◌, ◌-◌, length}
 use Rattle.readers.specs.Reading.{up_to}
 use Rattle.schema.specs.Tokens.{kinds_of}
 use Rattle.schema.specs.Reading.{never, table_at, tables_at}
-use Rattle.schema.proofs.Loops.{with_front}
+use Rattle.readers.proofs.Loops.{with_front}
 use Rattle.schema.proofs.parsing.tables.Given as goal
 
 abbrev pub invariant-loop : goal.invariant-loop

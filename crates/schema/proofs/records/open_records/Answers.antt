@@ -1,6 +1,6 @@
 use Rattle.std.proofs.Common.{ap, sym, ◌∙◌, Option, List, [], ℕ}
 use Rattle.std.specs.Prelude.{unwrap_or}
-use Rattle.csv.specs.Reading.{reader_state, strip_bom}
+use Rattle.csv.specs.Reading.{strip_bom}
 use Rattle.csv.specs.declared.parser.State.{State}
 use Rattle.csv.specs.declared.parser.State.TheVariants as st
 use Rattle.schema.specs.Csv.{records_left, source}

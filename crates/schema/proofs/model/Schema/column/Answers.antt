@@ -1,4 +1,4 @@
-use Rattle.std.proofs.Common.{◌≡◌, ℕ, Option, None, Some, sym, ◌∙◌}
+use Rattle.std.proofs.Common.{◌≡◌, Some, sym, ◌∙◌}
 use Rattle.schema.specs.Numbers.{column_number}
 use Rattle.schema.proofs.Placed.{column_number-within}
 use Rattle.schema.proofs.model.Schema.column.Goals as goal
