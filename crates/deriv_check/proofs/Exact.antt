@@ -11,7 +11,7 @@ use Rattle.readers.proofs.Many.{many_lawful}
 use Rattle.readers.proofs.Again.{Again, Any, Leads, token_again, both_again, made_again, many_again}
 use Rattle.deriv_check.specs.Grammar.{Each}
 use Rattle.deriv_check.specs.Reading.{Reader, passing, byte_at, word_at}
-use Rattle.deriv_check.proofs.Shallow.{Shallow, token_shallow, both_shallow, made_shallow, either_shallow, many_shallow}
+use Rattle.readers.proofs.Shallow.{Shallow, token_shallow, both_shallow, made_shallow, either_shallow, many_shallow}
 
 abbrev pub IsText : {A : Type 0} → (A → List ℕ) → (A → Type 0) → List ℕ → A → Type 0
 IsText text fits ts x = (ts ≡ text x) × fits x

@@ -1,5 +1,3 @@
-pub mod Loops
-pub mod Shallow
 pub mod Exact
 pub mod Numbers
 pub mod Steps

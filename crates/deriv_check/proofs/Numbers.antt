@@ -11,7 +11,7 @@ use Rattle.readers.proofs.Lawful.{Takes, Begun, past_bind, Agree, here, later, A
 use Rattle.deriv_check.specs.Grammar.{IsSmall}
 use Rattle.deriv_check.specs.Reading.{is_digit, digit_in, small, with_digit, digits_from, behind, number_at}
 use Rattle.deriv_check.proofs.Exact.{IsText, Exact}
-use Rattle.deriv_check.proofs.Shallow.{token_shallow, shallow_bind}
+use Rattle.readers.proofs.Shallow.{token_shallow, shallow_bind}
 
 -- what follows a number does not begin with a digit
 abbrev pub ends_number : ℕ → Bool

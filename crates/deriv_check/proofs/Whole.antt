@@ -14,7 +14,7 @@ use Rattle.deriv_check.specs.Grammar.{IsOffset}
 use Rattle.deriv_check.specs.Answers.{IsOnly, IsRightFault, left_of, Answers}
 use Rattle.deriv_check.specs.Reading.{Reader}
 use Rattle.deriv_check.proofs.Exact.{IsText, Exact}
-use Rattle.deriv_check.proofs.Shallow.{whole_shallow}
+use Rattle.readers.proofs.Shallow.{whole_shallow}
 
 -- ---- the place of a fault
 

@@ -21,7 +21,6 @@ pub mod KeptLaws
 pub mod Laws
 pub mod LevelLaws
 pub mod Listed
-pub mod Loops
 pub mod Many
 pub mod MethodLaws
 pub mod Methods

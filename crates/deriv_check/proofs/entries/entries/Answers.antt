@@ -1,15 +1,15 @@
-use Rattle.std.proofs.Common.{[], ◌∷◌, length, map, sym, ◌∙◌}
+use Rattle.std.proofs.Common.{[], ◌∷◌, length, map, refl, sym, ◌∙◌}
 use Rattle.std.proofs.lemmas.Result.{err_from_is_err_and}
 use Rattle.std.proofs.lemmas.List.{map-append}
 use Rattle.deriv_check.specs.Bundles.{entry_of}
 use Rattle.deriv_check.specs.Reading.{is_end, entry_at, entries_at}
-use Rattle.deriv_check.proofs.Loops.{many_begin, many_go_on, many_fail, many_stop, many_run_out}
+use Rattle.readers.proofs.Loops.{many_begin, many_go_on, many_fail, many_stop, many_run_out}
 use Rattle.deriv_check.proofs.entries.entries.Goals as goal
 use Rattle.deriv_check.proofs.entries.entries.Goals.{else-loop-test, then-loop-test+then-is_over_at}
 
 pub loop-init : goal.loop-init
 unfolding entries_at
-loop-init c = rw c.new-entries.ensures.items (many_begin is_end entry_at c.args.bytes.now)
+loop-init c = rw c.new-entries.ensures.items (many_begin is_end entry_at (length c.args.bytes.now) c.args.bytes.now refl)
 
 pub returns-in_err-entry : goal.returns-in_err-entry
 returns-in_err-entry c =

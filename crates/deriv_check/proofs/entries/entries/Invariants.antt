@@ -2,7 +2,7 @@ use Rattle.std.proofs.Common.{◌≡◌, ◌-◌, length}
 use Rattle.readers.specs.Reading.{up_to}
 use Rattle.deriv_check.specs.Bundles.{entries_of}
 use Rattle.deriv_check.specs.Reading.{is_end, entry_at, entries_at}
-use Rattle.deriv_check.proofs.Loops.{with_front}
+use Rattle.readers.proofs.Loops.{with_front}
 use Rattle.deriv_check.proofs.entries.entries.Given as goal
 
 -- what was read and what is read of the rest is what is read of all

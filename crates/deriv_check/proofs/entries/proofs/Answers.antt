@@ -1,16 +1,16 @@
-use Rattle.std.proofs.Common.{[], ◌∷◌, length, map, sym, ◌∙◌}
+use Rattle.std.proofs.Common.{[], ◌∷◌, length, map, refl, sym, ◌∙◌}
 use Rattle.std.proofs.lemmas.Result.{err_from_is_err_and}
 use Rattle.std.proofs.lemmas.List.{map-append}
 use Rattle.tor_axioms.specs.Accepts.{proof_of}
 use Rattle.deriv_check.specs.Grammar.{most_splits}
 use Rattle.deriv_check.specs.Reading.{ends_proofs, derivation_at, proofs_at}
-use Rattle.deriv_check.proofs.Loops.{many_begin, many_go_on, many_fail, many_stop, many_run_out}
+use Rattle.readers.proofs.Loops.{many_begin, many_go_on, many_fail, many_stop, many_run_out}
 use Rattle.deriv_check.proofs.entries.proofs.Goals as goal
 use Rattle.deriv_check.proofs.entries.proofs.Goals.{else-loop-test, then-loop-test+then-ends_proofs}
 
 pub loop-init : goal.loop-init
 unfolding proofs_at
-loop-init c = rw c.new-proofs.ensures.items (many_begin ends_proofs (derivation_at most_splits) c.args.bytes.now)
+loop-init c = rw c.new-proofs.ensures.items (many_begin ends_proofs (derivation_at most_splits) (length c.args.bytes.now) c.args.bytes.now refl)
 
 pub returns-in_err-proof : goal.returns-in_err-proof
 returns-in_err-proof c =

@@ -3,7 +3,7 @@ use Rattle.readers.specs.Reading.{up_to}
 use Rattle.tor_axioms.specs.Accepts.{proof_of}
 use Rattle.deriv_check.specs.Grammar.{most_splits}
 use Rattle.deriv_check.specs.Reading.{ends_proofs, derivation_at, proofs_at}
-use Rattle.deriv_check.proofs.Loops.{with_front}
+use Rattle.readers.proofs.Loops.{with_front}
 use Rattle.deriv_check.proofs.entries.proofs.Given as goal
 
 -- what was read and what is read of the rest is what is read of all

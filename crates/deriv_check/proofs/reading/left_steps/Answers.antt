@@ -1,13 +1,13 @@
-use Rattle.std.proofs.Common.{length, sym, ◌∙◌}
+use Rattle.std.proofs.Common.{length, refl, sym, ◌∙◌}
 use Rattle.std.proofs.lemmas.Result.{err_from_is_err_and}
 use Rattle.deriv_check.specs.Reading.{is_slash, left_at, lefts_at}
-use Rattle.deriv_check.proofs.Loops.{many_begin, many_go_on, many_fail, many_stop, many_run_out}
+use Rattle.readers.proofs.Loops.{many_begin, many_go_on, many_fail, many_stop, many_run_out}
 use Rattle.deriv_check.proofs.reading.left_steps.Goals as goal
 use Rattle.deriv_check.proofs.reading.left_steps.Goals.{else-loop-test, then-loop-test+then-is_over_at}
 
 pub loop-init : goal.loop-init
 unfolding lefts_at
-loop-init c = rw c.new-steps.ensures.items (many_begin is_slash left_at c.args.bytes.now)
+loop-init c = rw c.new-steps.ensures.items (many_begin is_slash left_at (length c.args.bytes.now) c.args.bytes.now refl)
 
 pub returns-in_err-step : goal.returns-in_err-step
 returns-in_err-step c =

@@ -1,13 +1,13 @@
-use Rattle.std.proofs.Common.{length, sym, ◌∙◌}
+use Rattle.std.proofs.Common.{length, refl, sym, ◌∙◌}
 use Rattle.std.proofs.lemmas.Result.{err_from_is_err_and}
 use Rattle.deriv_check.specs.Reading.{ends_path, further_at, numbers_at, numbers_behind}
-use Rattle.deriv_check.proofs.Loops.{many_behind, many_go_on, many_fail, many_stop, many_run_out}
+use Rattle.readers.proofs.Loops.{many_behind, many_go_on, many_fail, many_stop, many_run_out}
 use Rattle.deriv_check.proofs.reading.numbers.Goals as goal
 use Rattle.deriv_check.proofs.reading.numbers.Goals.{else-loop-test, then-loop-test+then-ends_path}
 
 pub loop-init : goal.loop-init
 unfolding numbers_behind numbers_at
-loop-init c = many_behind ends_path further_at c.args.path.items c.args.bytes.now
+loop-init c = many_behind ends_path further_at c.args.path.items (length c.args.bytes.now) c.args.bytes.now refl
 
 pub returns-in_err-number : goal.returns-in_err-number
 returns-in_err-number c =

@@ -1,7 +1,7 @@
 use Rattle.std.proofs.Common.{◌≡◌, ◌-◌, length}
 use Rattle.readers.specs.Reading.{up_to}
 use Rattle.deriv_check.specs.Reading.{is_line_end, right_at, rights_at}
-use Rattle.deriv_check.proofs.Loops.{with_front}
+use Rattle.readers.proofs.Loops.{with_front}
 use Rattle.deriv_check.proofs.reading.right_steps.Given as goal
 
 -- what was read and what is read of the rest is what is read of all

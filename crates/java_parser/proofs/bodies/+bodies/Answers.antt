@@ -1,11 +1,12 @@
-use Rattle.std.proofs.Common.{length, map, sym, ◌∙◌}
+use Rattle.std.proofs.Common.{[], ◌∷◌, length, map, sym, ◌∙◌}
 use Rattle.std.proofs.lemmas.Result.{err_from_is_err_and}
+use Rattle.std.proofs.lemmas.List.{map-append}
 use Rattle.java_ast.specs.Reading.{statement}
 use Rattle.java_parser.specs.Marks.{Tok, all_strict}
 use Rattle.java_parser.specs.Reading.{many_at}
 use Rattle.java_parser.specs.ReadingBodies.{is_close, item_at}
 use Rattle.java_parser.proofs.Listed.{items_fail, items_done}
-use Rattle.java_parser.proofs.Loops.{many_go_on, many_fail, many_stop, many_run_out, seen_more}
+use Rattle.readers.proofs.Loops.{many_go_on, many_fail, many_stop, many_run_out}
 use Rattle.java_parser.proofs.bodies.+bodies.Goals as goal
 use Rattle.java_parser.proofs.bodies.+bodies.Goals.{statements-else-loop-test, statements-then-loop-test+then-ends_block}
 
@@ -18,7 +19,7 @@ statements-returns-in_err-statement t c =
 
 pub statements-loop-preserved : goal.statements-loop-preserved
 statements-loop-preserved t c =
-    rw (c.in_ok-push.ensures.items, seen_more statement c.loop.statements.items c.in_ok-statement.statement) (many_go_on (λ (t : Tok). is_close t.token.node) (item_at c.args.room) (map statement c.loop.statements.items) (length c.args.tokens.now) c.loop.counter (all_strict c.loop.rest.now)
+    rw (c.in_ok-push.ensures.items, map-append statement c.loop.statements.items (c.in_ok-statement.statement ∷ [])) (many_go_on (λ (t : Tok). is_close t.token.node) (item_at c.args.room) (map statement c.loop.statements.items) (length c.args.tokens.now) c.loop.counter (all_strict c.loop.rest.now)
     (many_at is_close (item_at c.args.room) (all_strict c.args.tokens.now)) (statement c.in_ok-statement.statement) (all_strict c.in_ok-statement.after.now) c.loop-test.true (sym c.ends_block.ensures ∙ c.if-ends_block.false) c.in_ok-statement.ensures c.loop.invariant)
 
 pub statements-returns : goal.statements-returns

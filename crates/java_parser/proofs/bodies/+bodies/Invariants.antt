@@ -4,7 +4,7 @@ use Rattle.java_ast.specs.Reading.{statement}
 use Rattle.java_parser.specs.Marks.{Tok, all_strict}
 use Rattle.java_parser.specs.Reading.{many_at}
 use Rattle.java_parser.specs.ReadingBodies.{is_close, item_at}
-use Rattle.java_parser.proofs.Loops.{with_front}
+use Rattle.readers.proofs.Loops.{with_front}
 use Rattle.java_parser.proofs.bodies.+bodies.Given as goal
 
 -- what is open, and below that the order of the functions

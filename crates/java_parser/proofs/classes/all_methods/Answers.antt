@@ -1,12 +1,12 @@
-use Rattle.std.proofs.Common.{length, map, sym, ◌∙◌}
+use Rattle.std.proofs.Common.{[], ◌∷◌, length, map, sym, ◌∙◌}
 use Rattle.std.proofs.lemmas.Result.{err_from_is_err_and}
-use Rattle.std.proofs.lemmas.List.{length-map}
+use Rattle.std.proofs.lemmas.List.{length-map, map-append}
 use Rattle.java_ast.specs.Reading.{method}
 use Rattle.java_parser.specs.ReadingBodies.{is_close}
 use Rattle.java_parser.specs.ReadingPrograms.{method_at}
 use Rattle.java_parser.specs.Marks.{Tok, strictly, all_strict}
 use Rattle.java_parser.specs.Reading.{many_at}
-use Rattle.java_parser.proofs.Loops.{many_begin, many_go_on, many_fail, many_stop, many_run_out, seen_more}
+use Rattle.readers.proofs.Loops.{many_begin, many_go_on, many_fail, many_stop, many_run_out}
 use Rattle.java_parser.proofs.classes.all_methods.Goals as goal
 use Rattle.java_parser.proofs.classes.all_methods.Goals.{else-loop-test, then-loop-test+then-ends_block}
 
@@ -21,7 +21,7 @@ returns-in_err-method c =
 
 pub loop-preserved : goal.loop-preserved
 loop-preserved c =
-    rw (c.in_ok-push.ensures.items, seen_more method c.loop.methods.items c.in_ok-method.method) (many_go_on (λ (t : Tok). is_close t.token.node) (method_at c.args.room) (map method c.loop.methods.items) (length c.args.tokens.now) c.loop.counter (all_strict c.loop.rest.now) (many_at is_close (method_at c.args.room) (all_strict c.args.tokens.now))
+    rw (c.in_ok-push.ensures.items, map-append method c.loop.methods.items (c.in_ok-method.method ∷ [])) (many_go_on (λ (t : Tok). is_close t.token.node) (method_at c.args.room) (map method c.loop.methods.items) (length c.args.tokens.now) c.loop.counter (all_strict c.loop.rest.now) (many_at is_close (method_at c.args.room) (all_strict c.args.tokens.now))
     (method c.in_ok-method.method) (all_strict c.in_ok-method.after.now) c.loop-test.true (sym c.ends_block.ensures ∙ c.if-ends_block.false) c.in_ok-method.ensures c.loop.invariant)
 
 pub returns : goal.returns

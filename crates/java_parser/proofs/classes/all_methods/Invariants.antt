@@ -5,7 +5,7 @@ use Rattle.java_parser.specs.ReadingBodies.{is_close}
 use Rattle.java_parser.specs.ReadingPrograms.{method_at}
 use Rattle.java_parser.specs.Marks.{Tok, all_strict}
 use Rattle.java_parser.specs.Reading.{many_at}
-use Rattle.java_parser.proofs.Loops.{with_front}
+use Rattle.readers.proofs.Loops.{with_front}
 use Rattle.java_parser.proofs.classes.all_methods.Given as goal
 
 abbrev pub invariant-loop : goal.invariant-loop

@@ -4,7 +4,7 @@ use Rattle.std.proofs.lemmas.List.{length-map}
 use Rattle.std.proofs.Common.{true, codes}
 use Rattle.java_parser.specs.ReadingPrograms.{is_no_import, dotted_name_at, imports_at}
 use Rattle.java_parser.specs.Marks.{Tok, strictly, all_strict}
-use Rattle.java_parser.proofs.Loops.{many_begin, many_go_on, many_fail, many_stop, many_run_out}
+use Rattle.readers.proofs.Loops.{many_begin, many_go_on, many_fail, many_stop, many_run_out}
 use Rattle.java_parser.proofs.classes.imports.Goals as goal
 use Rattle.java_parser.proofs.classes.imports.Goals.{else-loop-test, then-loop-test+then-ends_before_word}
 

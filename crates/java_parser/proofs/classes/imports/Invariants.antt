@@ -3,7 +3,7 @@ use Rattle.readers.specs.Reading.{up_to}
 use Rattle.std.proofs.Common.{true, codes}
 use Rattle.java_parser.specs.ReadingPrograms.{is_no_import, dotted_name_at, imports_at}
 use Rattle.java_parser.specs.Marks.{Tok, all_strict}
-use Rattle.java_parser.proofs.Loops.{with_front}
+use Rattle.readers.proofs.Loops.{with_front}
 use Rattle.java_parser.proofs.classes.imports.Given as goal
 
 abbrev pub invariant-loop : goal.invariant-loop

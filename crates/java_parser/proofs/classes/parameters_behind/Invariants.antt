@@ -6,7 +6,7 @@ use Rattle.java_parser.specs.ReadingExpressions.{is_no_comma}
 use Rattle.java_parser.specs.ReadingPrograms.{next_parameter_at}
 use Rattle.java_parser.specs.Marks.{Tok, all_strict}
 use Rattle.java_parser.specs.Reading.{many_at}
-use Rattle.java_parser.proofs.Loops.{with_front}
+use Rattle.readers.proofs.Loops.{with_front}
 use Rattle.java_parser.proofs.classes.parameters_behind.Given as goal
 
 abbrev pub invariant-loop : goal.invariant-loop

@@ -1,13 +1,13 @@
-use Rattle.std.proofs.Common.{◌≡◌, ℕ, suc, ◌-◌, List, length, map, refl, sym, ap, ◌∙◌, arith}
+use Rattle.std.proofs.Common.{◌≡◌, ℕ, suc, ◌-◌, List, [], ◌∷◌, length, map, refl, sym, ap, ◌∙◌, arith}
 use Rattle.std.proofs.lemmas.Result.{err_from_is_err_and}
-use Rattle.std.proofs.lemmas.List.{length-map}
+use Rattle.std.proofs.lemmas.List.{length-map, map-append}
 use Rattle.std.specs.Option.{option_copied}
 use Rattle.java_ast.specs.Reading.{expression, node_expression}
 use Rattle.java_parser.specs.Marks.{Tok, strictly, all_strict}
 use Rattle.java_parser.specs.Expressions.{call_of}
 use Rattle.java_parser.specs.ReadingExpressions.{inside, is_no_comma, next_argument_at, arguments_at, call_at, negation_at, new_at, operand_at, query_of_element_at, query_of_long_at, query_of_truth_at, rank_at}
 use Rattle.java_parser.proofs.Steps.{ranked_on, not_opened, not_known}
-use Rattle.java_parser.proofs.Loops.{many_begin, many_go_on, many_fail, many_stop, many_run_out, seen_more}
+use Rattle.readers.proofs.Loops.{many_begin, many_go_on, many_fail, many_stop, many_run_out}
 use Rattle.java_parser.proofs.expressions.+expressions.Goals as goal
 use Rattle.java_parser.proofs.expressions.+expressions.Goals.{arguments-else-loop-test, arguments-then-loop-test+then-ends_before}
 
@@ -23,7 +23,7 @@ arguments-returns-in_err-argument t c =
 
 pub arguments-loop-preserved : goal.arguments-loop-preserved
 arguments-loop-preserved t c =
-    rw (c.in_ok-push.ensures.items, seen_more expression c.loop.arguments.items c.in_ok-argument.argument) (many_go_on (λ (t : Tok). is_no_comma t.token.node) (next_argument_at (inside c.args.room)) (map expression c.loop.arguments.items) (length c.args.tokens.now) c.loop.counter (all_strict c.loop.rest.now)
+    rw (c.in_ok-push.ensures.items, map-append expression c.loop.arguments.items (c.in_ok-argument.argument ∷ [])) (many_go_on (λ (t : Tok). is_no_comma t.token.node) (next_argument_at (inside c.args.room)) (map expression c.loop.arguments.items) (length c.args.tokens.now) c.loop.counter (all_strict c.loop.rest.now)
     (arguments_at (inside c.args.room) (all_strict c.args.tokens.now)) (expression c.in_ok-argument.argument) (all_strict c.in_ok-argument.after.now) c.loop-test.true (sym c.ends_before.ensures ∙ c.if-ends_before.false) c.in_ok-argument.ensures c.loop.invariant)
 
 pub arguments-returns : goal.arguments-returns

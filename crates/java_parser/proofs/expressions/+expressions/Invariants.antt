@@ -3,7 +3,7 @@ use Rattle.readers.specs.Reading.{up_to}
 use Rattle.java_ast.specs.Reading.{expression}
 use Rattle.java_parser.specs.Marks.{Tok, all_strict}
 use Rattle.java_parser.specs.ReadingExpressions.{inside, is_no_comma, next_argument_at, arguments_at}
-use Rattle.java_parser.proofs.Loops.{with_front}
+use Rattle.readers.proofs.Loops.{with_front}
 use Rattle.java_parser.proofs.expressions.+expressions.Given as goal
 
 -- 2 ^ 40 for what is open, 2 ^ 36 for a rank, and below that for the number of parts and the order of the functions

@@ -3,7 +3,7 @@ use Rattle.std.proofs.lemmas.Result.{err_from_is_err_and}
 use Rattle.std.proofs.lemmas.List.{length-map}
 use Rattle.java_parser.specs.Marks.{Tok, strictly, all_strict}
 use Rattle.java_parser.specs.ReadingStatements.{is_no_dot, further_at, all_further_at}
-use Rattle.java_parser.proofs.Loops.{many_begin, many_go_on, many_fail, many_stop, many_run_out}
+use Rattle.readers.proofs.Loops.{many_begin, many_go_on, many_fail, many_stop, many_run_out}
 use Rattle.java_parser.proofs.sorts.all_further.Goals as goal
 use Rattle.java_parser.proofs.sorts.all_further.Goals.{else-loop-test, then-loop-test+then-ends_before}
 

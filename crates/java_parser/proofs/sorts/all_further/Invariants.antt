@@ -2,7 +2,7 @@ use Rattle.std.proofs.Common.{◌≡◌, ◌-◌, length}
 use Rattle.readers.specs.Reading.{up_to}
 use Rattle.java_parser.specs.Marks.{Tok, all_strict}
 use Rattle.java_parser.specs.ReadingStatements.{is_no_dot, further_at, all_further_at}
-use Rattle.java_parser.proofs.Loops.{with_front}
+use Rattle.readers.proofs.Loops.{with_front}
 use Rattle.java_parser.proofs.sorts.all_further.Given as goal
 
 abbrev pub invariant-loop : goal.invariant-loop
