@@ -1,0 +1,11 @@
+pub mod AllAnswer
+pub mod Answering
+pub mod Arguments
+pub mod Asked
+pub mod Asks
+pub mod Claimed
+pub mod Fitting
+pub mod Keeping
+pub mod Known
+pub mod May
+pub mod Outer

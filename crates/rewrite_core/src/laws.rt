@@ -1,0 +1,76 @@
+//! Laws of asks, for the crates above. They do nothing.
+ghost use Rattle.std.specs.Prelude.{◌≡◌, ℕ, List};
+ghost use Rattle.std.specs.List.{AllByRecursion};
+ghost use Rattle.std.specs.declared.option.Option.{Option};
+ghost use Rattle.std.specs.declared.option.Option.TheVariants.{Some, None};
+ghost use Rattle.qbs_base.specs.Values.{Schema};
+ghost use Rattle.schema.specs.Rules.{IsSchema, AreNamed};
+ghost use Rattle.tor_axioms.specs.Accepts.{Proof};
+ghost use Rattle.kernel_lang.specs.Plain.{Fragment};
+ghost use Rattle.kernel_lang.specs.Validity as validity;
+ghost use Rattle.vc_gen.specs.Conditions.{conditions};
+ghost use Rattle.vc_gen.specs.Soundness.{AllAccepted, EndsAnywhere};
+ghost use Rattle.sql_ast.specs.Tree.{PlainQuery};
+ghost use Rattle.sql_emit.specs.Given.{IsHeld, QueryIsCounted};
+ghost use Rattle.java_ast.specs.Tree.{PlainProgram};
+ghost use Rattle.java_mean.specs.Keeps.{Keeps};
+ghost use Rattle.java_mean.specs.Numbers.{NumbersFit};
+ghost use Rattle.java_mean.specs.Queries.{Reader};
+ghost use Rattle.java_mean.specs.WellTyped.{IsWellTyped};
+ghost use Rattle.loop_text.specs.Statements.KeptStatements.{first_at};
+ghost use Rattle.java_loops.specs.Kernel.Kernel.{lowering};
+ghost use Rattle.java_loops.specs.Kernel.Setting.{Setting};
+ghost use Rattle.java_loops.specs.Meant.Asking.{AskForLoop};
+ghost use Rattle.fragments.specs.Asked.{queries_in, IsKernelLoop, HasQueriesOf};
+ghost use Rattle.rewrite_core.specs.Asked.{Place, asks_of, replaced};
+ghost use Rattle.rewrite_core.specs.Asking.{QueriesAreValid, MayBeAsked};
+
+/// The asks that stand for a loop of the kernel form ask for what the loop makes: each is for the variable of a needed
+/// accumulator, reads what the fragment's entry values read, and has what the fragment ends with, wherever the loop stands in a
+/// run of the program. The candidate's postconditions say what the fragment ends with, and the emitted queries are of the schema.
+pub fn emitted_queries_answer_for_loops()
+    ensures { (schema : Schema) (reader : Reader schema) (l : Place)
+        → MayBeAsked schema reader.read l.program l.path l.setting l.candidate
+        → AskForLoop schema reader.read l.program l.path l.setting (asks_of l) }
+{}
+
+/// A candidate all of whose conditions have accepted derivations has postconditions that say what a valid fragment ends with
+/// (`ends`): so it may be asked for (`may`).
+pub fn accepted_candidates_may_be_asked()
+    ensures ends { (f : Fragment) (candidate : List ℕ) (proofs : List Proof)
+        → validity.broken f ≡ None
+        → AllAccepted (conditions f candidate) proofs
+        → EndsAnywhere f candidate }
+    ensures may { (schema : Schema) (read : List ℕ → Option PlainQuery) (p : PlainProgram) (path : List ℕ) (w : Setting) (candidate : List ℕ)
+        (proofs : List Proof)
+        → IsKernelLoop schema read p path w
+        → HasQueriesOf schema (lowering w)
+        → QueriesAreValid w candidate
+        → AllAccepted (conditions (lowering w).fragment candidate) proofs
+        → MayBeAsked schema read p path w candidate }
+{}
+
+/// The queries that are emitted for the needed accumulators of a loop of the kernel form are of the schema, whose tables have
+/// names, where its known queries are. The numbers of the fragment have 64 bits, and the FROM items of known queries can be
+/// counted, as all that code can hold.
+pub fn emitted_queries_of_loops_are_valid()
+    ensures { (schema : Schema) (read : List ℕ → Option PlainQuery) (p : PlainProgram) (path : List ℕ) (w : Setting) (candidate : List ℕ)
+        → IsSchema schema
+        → AreNamed schema
+        → IsKernelLoop schema read p path w
+        → HasQueriesOf schema (lowering w)
+        → AllByRecursion QueryIsCounted (queries_in (lowering w).known)
+        → IsHeld (lowering w).fragment
+        → QueriesAreValid w candidate }
+{}
+
+/// A program keeps what it does where a loop gives way to the asks that stand for it, if it stays well typed and its literals
+/// have 64 bits.
+pub fn asked_programs_keep()
+    ensures { (schema : Schema) (reader : Reader schema) (l : Place) (first : ℕ)
+        → MayBeAsked schema reader.read l.program l.path l.setting l.candidate
+        → first_at l.path l.program ≡ Some first
+        → IsWellTyped schema reader.read (replaced l)
+        → NumbersFit (replaced l)
+        → Keeps l.program (replaced l) schema }
+{}
