@@ -4,5 +4,4 @@ pub mod Steps
 pub mod Derivations
 pub mod Bundled
 pub mod Whole
-pub mod Added
 pub mod Validity

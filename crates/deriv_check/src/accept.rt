@@ -1,47 +1,15 @@
 // Whether a derivation shows that a condition holds.
-ghost use Rattle.std.specs.Prelude.{◌≡◌, [], Some, IfOk, IsTrue, option_map};
+ghost use Rattle.std.specs.Prelude.{◌≡◌, Some, IfOk, IsTrue, option_map};
 ghost use Rattle.tor_terms.specs.Plain.{tree_of};
 ghost use Rattle.tor_axioms.specs.Accepts as spec;
-ghost use Rattle.tor_axioms.specs.Decide.{literal, with_fact as with_fact_of, with_facts as with_facts_of};
+ghost use Rattle.tor_axioms.specs.Decide.{literal, with_fact as with_fact_of};
 ghost use Rattle.tor_axioms.specs.Paths.{run as run_of};
 ghost use Rattle.tor_axioms.specs.Validity.{IsValid, IsValidAnywhere};
 
 use qbs_base::NoMemory;
 use std::alloc::Global;
-use tor_axioms::{Derivation, Facts, Literal, Step, Vc, WithAnswer, apply};
+use tor_axioms::{Derivation, Facts, Step, Vc, apply, with_fact, with_facts};
 use tor_terms::{Atoms, Term, copy_term, same_term};
-
-/// The facts with one more, or None where they contradict it.
-#[tactic(auto, using(crate::proofs::Added::added))]
-fn with_fact(
-    alloc: Global,
-    atoms: &Atoms,
-    facts: &Facts,
-    atom: u32,
-    holds: bool,
-) -> Result<Option<Facts>, NoMemory>
-    ensures { IfOk result (λ o. o ≡ with_fact_of atoms.now facts.now (literal atom holds)) }
-{
-    match facts.with(alloc, atoms, atom, holds) {
-        WithAnswer::Facts(more) => Ok(Some(more)),
-        WithAnswer::Contradiction => Ok(None),
-        WithAnswer::NoMemory => Err(NoMemory),
-    }
-}
-
-/// These facts added one after another, or None where one contradicts those before it.
-fn with_facts(alloc: Global, atoms: &Atoms, new: &[Literal]) -> Result<Option<Facts>, NoMemory>
-    ensures { IfOk result (λ o. o ≡ with_facts_of atoms.now [] new.now) }
-{
-    let mut facts = Facts::none(alloc);
-    for fact in new {
-        match with_fact(alloc, atoms, &facts, fact.atom, fact.holds)? {
-            Some(more) => facts = more,
-            None => return Ok(None),
-        }
-    }
-    Ok(Some(facts))
-}
 
 /// The term at the end of the steps, or None where one of them doesn't apply.
 fn run(
@@ -88,9 +56,10 @@ fn accepted(alloc: Global, vc: &Vc, facts: &Facts, d: &Derivation) -> Result<boo
             if *atom as usize >= vc.atoms.len() {
                 return Ok(false);
             }
-            let first = accepted_with(alloc, vc, facts, *atom, true, yes)?;
-            let second = accepted_with(alloc, vc, facts, *atom, false, no)?;
-            Ok(first && second)
+            if !accepted_with(alloc, vc, facts, *atom, true, yes)? {
+                return Ok(false);
+            }
+            accepted_with(alloc, vc, facts, *atom, false, no)
         }
         Derivation::Absurd => Ok(false),
     }

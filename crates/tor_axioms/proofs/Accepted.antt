@@ -69,3 +69,9 @@ sound-anywhere c sound = λ w left right facts. sound w facts (valid-ready w c.l
 -- what holds in every world holds in those of environments that the terms fit
 pub anywhere-valid : (c : Claim) → IsValidAnywhere c → IsValid c
 anywhere-valid c h = λ env left right fits_left fits_right facts. h (world_of env) left right facts
+
+pub accepts-anywhere : (c : Claim) (d : Proof) → accepts c d ≡ true → IsValidAnywhere c
+accepts-anywhere c d e = sound-anywhere c (accepts-sound c d e)
+
+pub accepts-valid : (c : Claim) (d : Proof) → accepts c d ≡ true → IsValid c
+accepts-valid c d e = anywhere-valid c (accepts-anywhere c d e)

@@ -1,15 +1,14 @@
 -- The laws of sums, disjunctions and first occurrences of values.
-use Rattle.std.proofs.Common.{◌≡◌, ℕ, ◌+◌, ℤ, pos, ◌+ℤ◌, Bool, true, false, cond, ◌||◌, List, [], ◌∷◌, ◌++◌, length, refl, sym, ap, ap₂, ◌∙◌, subst, arith, length-append}
+use Rattle.std.proofs.Common.{◌≡◌, ℤ, pos, ◌+ℤ◌, Bool, true, false, List, [], ◌∷◌, ◌++◌, length, refl, sym, ap, ap₂, ◌∙◌, subst, arith, length-append}
 use Rattle.std.proofs.lemmas.Int.{ints}
 use Rattle.std.specs.declared.option.Option.{Option}
 use Rattle.std.specs.declared.option.Option.TheVariants.{Some, None}
 use Rattle.qbs_base.specs.declared.scalar.Kind.{Kind}
 use Rattle.qbs_base.specs.declared.scalar.Kind.TheVariants as kinds
-use Rattle.qbs_base.specs.declared.scalar.Row.{Row}
 use Rattle.qbs_base.specs.declared.scalar.Scalar.{Scalar}
 use Rattle.qbs_base.specs.declared.scalar.Scalar.TheVariants as scalars
 use Rattle.tor_terms.specs.declared.term.Way.{Way}
-use Rattle.tor_terms.specs.Truth.{Datum, Tup, Element}
+use Rattle.tor_terms.specs.Truth.{Datum, Element}
 use Rattle.tor_terms.specs.Value.{plain_row, only_number, only_truth, number_of_cells, number_in, truth_of_cells, truth_in, inserted, first_ones, added_numbers, added, total, either_truth, either, picked, best, not_empty}
 
 some_inside : {X : Type 0} (x y : X) → Some x ≡ Some y → x ≡ y

@@ -1,5 +1,5 @@
 -- A rule at a path keeps the value of the whole.
-use Rattle.std.proofs.Common.{◌≡◌, ℕ, ◌+◌, List, [], ◌∷◌, ◌++◌, map, take, length, refl, sym, ap, subst, pos}
+use Rattle.std.proofs.Common.{◌≡◌, ℕ, List, [], ◌++◌, map, take, length, sym, ap, subst, pos}
 use Rattle.std.specs.Prelude.{IfOk, IfSome, Result, Ok, Err}
 use Rattle.std.specs.List.{filter}
 use Rattle.std.specs.Option.{option_map}
@@ -7,14 +7,14 @@ use Rattle.std.specs.declared.option.Option.{Option}
 use Rattle.std.specs.declared.option.Option.TheVariants.{Some, None}
 use Rattle.tor_terms.specs.declared.term.Atom.{Atom}
 use Rattle.tor_terms.specs.declared.term.Term.{Term}
-use Rattle.tor_terms.specs.Plain.{Tree, Nil, Walk, Top, One, Single, Cat, Join, Sel, Proj, Uniq, Insert, Hold, Lit, Item, Count, Sum, Any, Best, Pick, Add, Or, tree_of}
+use Rattle.tor_terms.specs.Plain.{Tree, tree_of}
 use Rattle.tor_terms.specs.Truth.{World, Element, rows_at, all_hold}
 use Rattle.tor_terms.specs.Value.{only_number, only_truth, elem_at, joined, count_of, inserted, first_ones, added, total, either, picked, best, not_empty, value}
 use Rattle.tor_axioms.specs.declared.facts.Literal.{Literal}
 use Rattle.tor_axioms.specs.Decide.{Satisfied}
 use Rattle.tor_axioms.specs.Rules.{rules, at_head}
 use Rattle.tor_axioms.specs.Paths.{within, applied}
-use Rattle.tor_axioms.specs.Keeps.{IsReady, Kept, Keeps, KeepsValue}
+use Rattle.tor_axioms.specs.Keeps.{IsReady, Keeps, KeepsValue}
 use Rattle.tor_axioms.proofs.Places.{Place, InTop, CatLeft, CatRight, JoinLeft, JoinRight, InSel, InProj, InUniq, InInsert, InCount, InSum, InAny, BestLeft, BestRight, PickLeft, PickRight, AddLeft, AddRight, OrLeft, OrRight, put, IsLocal, at_each_path, at_each_rule}
 use Rattle.tor_axioms.proofs.Sound.{each_keeps}
 

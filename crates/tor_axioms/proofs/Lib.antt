@@ -8,4 +8,5 @@ pub mod Places
 pub mod Sound
 pub mod Kept
 pub mod Accepted
+pub mod Added
 pub mod Lower

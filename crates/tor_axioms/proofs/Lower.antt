@@ -1,5 +1,5 @@
 -- Each rule lowers the weight, also at a path.
-use Rattle.std.proofs.Common.{◌≡◌, ℕ, zero, suc, ◌+◌, ◌*◌, ◌<◌, ◌≤◌, Bool, true, false, cond, List, [], ◌∷◌, ◌++◌, length, nat_eq, refl, sym, ap, subst, arith, mul-le-mul, le_refl}
+use Rattle.std.proofs.Common.{◌≡◌, ℕ, ◌<◌, ◌≤◌, Bool, true, false, cond, List, [], ◌∷◌, length, nat_eq, sym, subst, arith, mul-le-mul, le_refl}
 use Rattle.std.specs.Prelude.{IfOk, Result, Ok, Err}
 use Rattle.std.specs.List.{AllByRecursion}
 use Rattle.std.specs.Option.{option_map}
@@ -7,14 +7,13 @@ use Rattle.std.specs.declared.option.Option.{Option}
 use Rattle.std.specs.declared.option.Option.TheVariants.{Some, None}
 use Rattle.qbs_base.specs.declared.scalar.Scalar.TheVariants as scalars
 use Rattle.tor_terms.specs.declared.term.Atom.{Atom}
-use Rattle.tor_terms.specs.declared.term.Index.{Index}
 use Rattle.tor_terms.specs.declared.term.Index.TheVariants.{Zero, At, Next, Len}
 use Rattle.tor_terms.specs.declared.term.Term.{Term}
-use Rattle.tor_terms.specs.Plain.{Form, Tree, Nil, Walk, Top, One, Single, Cat, Join, Sel, Proj, Uniq, Insert, Hold, Lit, Item, Count, Sum, Any, Best, Pick, Add, Or, tree_of}
+use Rattle.tor_terms.specs.Plain.{Form, Tree, Nil, Walk, Top, One, Single, Cat, Join, Sel, Proj, Uniq, Insert, Lit, Count, Sum, Any, Best, Pick, Add, Or, tree_of}
 use Rattle.tor_axioms.specs.declared.facts.Literal.{Literal}
 use Rattle.tor_axioms.specs.Paths.{within, applied}
-use Rattle.tor_axioms.specs.Rules.{where_so, number, truth_term, top_zero, top_next, top_len, cat_nil_left, cat_nil_right, cat_cat, join_nil_left, join_nil_right, join_cat_left, join_cat_right, join_ones, join_one_join, sel_none, sel_nil, sel_cat, some_no, all_yes, sel_no, sel_yes, some_no_within, yes_within, kept_form, without_yes, sel_join_no, sel_with, sel_join_yes, proj_nil, proj_cat, proj_one, uniq_nil, uniq_cat, count_nil, count_cat, count_one, sum_nil, sum_cat, sum_one, best_nil, best_cat, best_one, any_nil, any_cat, any_one, is_zero, add_zero_left, add_zero_right, add_add, or_false_left, or_false_right, or_true_right, or_true_left, or_or, Rule, rules, at_head}
-use Rattle.tor_axioms.specs.Weight.{index_weight, weight, Lowers}
+use Rattle.tor_axioms.specs.Rules.{where_so, top_zero, top_next, top_len, cat_nil_left, cat_nil_right, cat_cat, join_nil_left, join_nil_right, join_cat_left, join_cat_right, join_ones, join_one_join, sel_none, sel_nil, sel_cat, some_no, all_yes, sel_no, sel_yes, some_no_within, yes_within, kept_form, without_yes, sel_join_no, sel_with, sel_join_yes, proj_nil, proj_cat, proj_one, uniq_nil, uniq_cat, count_nil, count_cat, count_one, sum_nil, sum_cat, sum_one, best_nil, best_cat, best_one, any_nil, any_cat, any_one, is_zero, add_zero_left, add_zero_right, add_add, or_false_left, or_false_right, or_true_right, or_true_left, or_or, rules, at_head}
+use Rattle.tor_axioms.specs.Weight.{weight, Lowers}
 use Rattle.tor_axioms.proofs.Places.{Place, InTop, CatLeft, CatRight, JoinLeft, JoinRight, InSel, InProj, InUniq, InInsert, InCount, InSum, InAny, BestLeft, BestRight, PickLeft, PickRight, AddLeft, AddRight, OrLeft, OrRight, put, IsLocal, at_each_path, at_each_rule}
 
 pub weight-two : (t : Tree) → 2 ≤ weight t

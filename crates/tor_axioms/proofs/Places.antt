@@ -1,9 +1,9 @@
 -- The places of a child in a term, and what holds of a rule at every path.
-use Rattle.std.proofs.Common.{◌≡◌, ℕ, zero, suc, List, [], ◌∷◌, refl}
+use Rattle.std.proofs.Common.{ℕ, zero, suc, List, [], ◌∷◌}
 use Rattle.std.specs.List.{AllByRecursion}
 use Rattle.std.specs.Prelude.{slice_get}
 use Rattle.std.specs.declared.option.Option.{Option}
-use Rattle.std.specs.declared.option.Option.TheVariants.{Some, None}
+use Rattle.std.specs.declared.option.Option.TheVariants.{None}
 use Rattle.tor_terms.specs.declared.term.Elem.{Elem}
 use Rattle.tor_terms.specs.declared.term.Index.{Index}
 use Rattle.tor_terms.specs.declared.term.Way.{Way}

@@ -1,8 +1,7 @@
 -- A world that is valid for a term is ready for it.
-use Rattle.std.proofs.Common.{ℕ}
 use Rattle.tor_terms.specs.declared.term.Index.{Index}
 use Rattle.tor_terms.specs.declared.term.Index.TheVariants.{Zero, At, Next, Len}
-use Rattle.tor_terms.specs.Plain.{Form, Tree, Nil, Walk, Top, One, Single, Cat, Join, Sel, Proj, Uniq, Insert, Hold, Lit, Item, Count, Sum, Any, Best, Pick, Add, Or}
+use Rattle.tor_terms.specs.Plain.{Tree, Nil, Walk, Top, One, Single, Cat, Join, Sel, Proj, Uniq, Insert, Hold, Lit, Item, Count, Sum, Any, Best, Pick, Add, Or}
 use Rattle.tor_terms.specs.Truth.{World}
 use Rattle.tor_terms.specs.Valid.{IndexIsCurrent, IsValidFor}
 use Rattle.tor_axioms.specs.Keeps.{IndexIsReady, IsReady}

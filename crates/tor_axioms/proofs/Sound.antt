@@ -1,26 +1,22 @@
 -- Each rule keeps the value.
-use Rattle.std.proofs.Common.{◌≡◌, ℕ, zero, suc, ◌+◌, ◌<◌, pos, ◌+ℤ◌, Bool, true, false, cond, ◌&&◌, ◌||◌, List, [], ◌∷◌, ◌++◌, map, take, length, get_or, slice_get, nat_eq, refl, sym, ap, ap₂, ◌∙◌, subst, arith, append_assoc, append-nil, take_all, eqb-true}
-use Rattle.std.specs.List.{filter, flat_map, AllByRecursion}
+use Rattle.std.proofs.Common.{◌≡◌, ℕ, pos, Bool, true, false, cond, List, [], ◌∷◌, ◌++◌, map, take, length, get_or, nat_eq, refl, sym, ap, ap₂, ◌∙◌, subst, arith, append_assoc, append-nil, take_all, eqb-true}
+use Rattle.std.specs.List.{filter, AllByRecursion}
 use Rattle.std.specs.declared.option.Option.{Option}
 use Rattle.std.specs.declared.option.Option.TheVariants.{Some, None}
 use Rattle.std.proofs.lemmas.List.{map-append, take-map, map_more}
 use Rattle.std.proofs.lemmas.Option.{get_or_from_slice_get}
 use Rattle.std.proofs.lemmas.List.Concat.{flat_map-append}
 use Rattle.std.proofs.lemmas.List.Elements.{filter-append}
-use Rattle.qbs_base.specs.declared.scalar.Row.{Row}
-use Rattle.qbs_base.specs.declared.scalar.Scalar.{Scalar}
 use Rattle.qbs_base.specs.declared.scalar.Scalar.TheVariants as scalars
 use Rattle.tor_terms.specs.declared.term.Atom.{Atom}
-use Rattle.tor_terms.specs.declared.term.Elem.{Elem}
-use Rattle.tor_terms.specs.declared.term.Index.{Index}
 use Rattle.tor_terms.specs.declared.term.Index.TheVariants.{Zero, At, Next, Len}
-use Rattle.tor_terms.specs.Plain.{Form, Tree, Nil, Walk, Top, One, Single, Cat, Join, Sel, Proj, Uniq, Insert, Hold, Lit, Item, Count, Sum, Any, Best, Pick, Add, Or}
+use Rattle.tor_terms.specs.Plain.{Form, Tree, Nil, Walk, Top, One, Single, Cat, Join, Sel, Proj, Uniq, Lit, Count, Sum, Any, Best, Add, Or}
 use Rattle.tor_terms.specs.Truth.{World, Tuple, Datum, Tup, Element, rows_at, all_hold}
 use Rattle.tor_terms.specs.Valid.{IsCurrent}
-use Rattle.tor_terms.specs.Value.{plain_row, only_number, only_truth, elem_at, here, paired, joined, walked, count_of, added, either, value}
+use Rattle.tor_terms.specs.Value.{plain_row, elem_at, here, paired, joined, walked, added, value}
 use Rattle.tor_axioms.specs.declared.facts.Literal.{Literal}
 use Rattle.tor_axioms.specs.Decide.{Satisfied}
-use Rattle.tor_axioms.specs.Rules.{where_so, number, truth_term, top_zero, top_next, top_len, cat_nil_left, cat_nil_right, cat_cat, join_nil_left, join_nil_right, join_cat_left, join_cat_right, join_ones, join_one_join, sel_none, sel_nil, sel_cat, some_no, all_yes, sel_no, sel_yes, some_no_within, without_yes, sel_join_no, sel_with, sel_join_yes, proj_nil, proj_cat, proj_one, uniq_nil, uniq_cat, count_nil, count_cat, count_one, sum_nil, sum_cat, sum_one, best_nil, best_cat, best_one, any_nil, any_cat, any_one, is_zero, add_zero_left, add_zero_right, add_add, or_false_left, or_false_right, or_true_right, or_true_left, or_or, Rule, rules}
+use Rattle.tor_axioms.specs.Rules.{where_so, number, top_zero, top_next, top_len, cat_nil_left, cat_nil_right, cat_cat, join_nil_left, join_nil_right, join_cat_left, join_cat_right, join_ones, join_one_join, sel_none, sel_nil, sel_cat, some_no, all_yes, sel_no, sel_yes, some_no_within, without_yes, sel_join_no, sel_with, sel_join_yes, proj_nil, proj_cat, proj_one, uniq_nil, uniq_cat, count_nil, count_cat, count_one, sum_nil, sum_cat, sum_one, best_nil, best_cat, best_one, any_nil, any_cat, any_one, is_zero, add_zero_left, add_zero_right, add_add, or_false_left, or_false_right, or_true_right, or_true_left, or_or, rules}
 use Rattle.tor_axioms.specs.Keeps.{IsReady, Kept, Keeps}
 use Rattle.tor_axioms.proofs.Algebra.{zero_added, added_zero, added_assoc, total_append, false_either, either_false, true_either, either_true, either_assoc, not_empty_append, count_append, first_ones_append, best_append}
 use Rattle.tor_axioms.proofs.Decided.{some_no-false, all_yes-true}

@@ -1,11 +1,10 @@
 -- Tuples that begin with current rows: formulas on the loops of these have the truth that they have at
 -- the current rows.
-use Rattle.std.proofs.Common.{◌≡◌, ℕ, Bool, true, false, cond, not, ◌&&◌, ◌||◌, List, [], ◌∷◌, ◌++◌, map, slice_get, nat_eq, refl, sym, ap, ap₂, ◌∙◌, subst, eqb-true, append-nil, append_assoc}
-use Rattle.std.specs.List.{filter, flat_map, list_any, list_all}
+use Rattle.std.proofs.Common.{◌≡◌, ℕ, Bool, true, false, cond, ◌&&◌, ◌||◌, List, [], ◌∷◌, ◌++◌, map, slice_get, nat_eq, refl, sym, ap, ap₂, ◌∙◌, subst, eqb-true, append-nil}
+use Rattle.std.specs.List.{filter}
 use Rattle.std.specs.declared.option.Option.{Option}
 use Rattle.std.specs.declared.option.Option.TheVariants.{Some, None}
 use mathlib.Core.Path.{fun_ext}
-use Rattle.std.proofs.lemmas.List.{map-append}
 use Rattle.qbs_base.specs.declared.scalar.Row.{Row}
 use Rattle.qbs_base.specs.Scalar.{compared, scalar_same}
 use Rattle.tor_terms.specs.declared.term.Atom.{Atom}

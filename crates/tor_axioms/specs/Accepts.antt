@@ -7,6 +7,7 @@ use Rattle.tor_terms.specs.Plain.{Tree, tree_of}
 use Rattle.tor_terms.specs.Same.{same_tree}
 use Rattle.tor_terms.specs.Truth.{World}
 use Rattle.tor_terms.specs.Value.{value}
+use Rattle.tor_axioms.specs.declared.derivation.Condition.{Condition}
 use Rattle.tor_axioms.specs.declared.derivation.Derivation.{Derivation}
 use Rattle.tor_axioms.specs.declared.derivation.Derivation as derivations
 use Rattle.tor_axioms.specs.declared.derivation.Step.{Step}
@@ -49,6 +50,10 @@ pub record Claim : Type 0 where
 
 abbrev pub claim_of : Vc → Claim
 claim_of vc = record { atoms = vc.atoms; facts = vc.facts; left = tree_of vc.left; right = tree_of vc.right }
+
+-- a condition over atoms that stand elsewhere
+abbrev pub claim_over : List Atom → Condition → Claim
+claim_over atoms c = record { atoms = atoms; facts = c.facts; left = tree_of c.left; right = tree_of c.right }
 
 abbrev pub accepts : Claim → Proof → Bool
 accepts c d = accepted c.atoms (with_facts c.atoms [] c.facts) d c.left c.right

@@ -7,3 +7,4 @@ pub mod Weight
 pub mod Accepts
 pub mod Validity
 pub mod Worked
+pub mod Children

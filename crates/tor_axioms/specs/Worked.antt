@@ -1,6 +1,5 @@
 -- Conditions of a loop over one list with one test, and which derivations of them are accepted.
-use Rattle.std.specs.Prelude.{◌≡◌, ℕ, Bool, true, false, List, [], ◌∷◌}
-use Rattle.tor_terms.specs.declared.term.Atom.{Atom}
+use Rattle.std.specs.Prelude.{◌≡◌, ℕ, true, false, List, [], ◌∷◌}
 use Rattle.tor_terms.specs.declared.term.Atom.TheVariants as atoms
 use Rattle.tor_terms.specs.declared.term.Elem.TheVariants as elems
 use Rattle.tor_terms.specs.declared.term.Index.{Index}
@@ -10,7 +9,7 @@ use Rattle.tor_terms.specs.Plain.{Is, Tree, Nil, Walk, Top, Single, Cat, Sel, Pr
 use Rattle.tor_axioms.specs.declared.derivation.Step.{Step}
 use Rattle.tor_axioms.specs.declared.facts.Literal.{Literal}
 use Rattle.tor_axioms.specs.Decide.{literal}
-use Rattle.tor_axioms.specs.Accepts.{Proof, Steps, Split, Absurd, Claim, accepts}
+use Rattle.tor_axioms.specs.Accepts.{Steps, Split, Absurd, Claim, accepts}
 
 abbrev step : ℕ → List ℕ → Step
 step n p = record { rule = n; path = p }

@@ -14,6 +14,14 @@ pub struct Vc {
 
 pub type Vcs = Items<Vc>;
 
+/// A verification condition over atoms that stand elsewhere.
+#[derive(Drop)]
+pub struct Condition {
+    pub facts: Literals,
+    pub left: Term,
+    pub right: Term,
+}
+
 /// A rule, by its number, and the place at which it is applied.
 #[derive(Clone, Drop)]
 pub struct Step {

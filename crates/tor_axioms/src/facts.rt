@@ -46,7 +46,7 @@ pub enum WithAnswer {
 }
 
 impl Facts {
-    ghost use Rattle.std.specs.Prelude.{◌≡◌, [], ◌∷◌, ◌++◌, IfOk};
+    ghost use Rattle.std.specs.Prelude.{◌≡◌, [], ◌∷◌, ◌++◌, cond, IfOk, Some, None};
     ghost use Rattle.tor_terms.specs.Truth.{World, truth};
     ghost use Rattle.tor_axioms.specs.Added.{AnswersWith};
     ghost use Rattle.tor_axioms.specs.Decide.{decide as decide_of, with_fact, literal, Satisfied, Agrees};
@@ -83,6 +83,17 @@ impl Facts {
         self.decided(atoms, atom)
     }
 
+    // Adds a literal. False, with no literal added, exactly where the facts contradict it.
+    fn add(&mut self, atoms: &Atoms, fact: Literal) -> Result<bool, NoMemory>
+        ensures { IfOk result (λ added. cond added (Some self.new) None ≡ with_fact atoms.now self.old fact) }
+    {
+        if denies(self.decided(atoms, fact.atom), fact.holds) {
+            return Ok(false);
+        }
+        self.literals.push(fact)?;
+        Ok(true)
+    }
+
     // A copy with one literal more.
     fn with_literal(&self, alloc: Global, more: Literal) -> Result<Facts, NoMemory>
         ensures { IfOk result (λ facts. facts ≡ self.now ++ more ∷ []) }
@@ -105,4 +116,39 @@ impl Facts {
             Err(_) => WithAnswer::NoMemory,
         }
     }
+}
+
+ghost use Rattle.std.specs.Prelude.{◌≡◌, [], IfOk};
+ghost use Rattle.tor_axioms.specs.Decide.{literal, with_fact as with_fact_of, with_facts as with_facts_of};
+
+/// The facts with one more, or None where they contradict it. The error is want of memory.
+#[tactic(auto, using(crate::proofs::Added::added))]
+pub fn with_fact(
+    alloc: Global,
+    atoms: &Atoms,
+    facts: &Facts,
+    atom: u32,
+    holds: bool,
+) -> Result<Option<Facts>, NoMemory>
+    ensures { IfOk result (λ o. o ≡ with_fact_of atoms.now facts.now (literal atom holds)) }
+{
+    match facts.with(alloc, atoms, atom, holds) {
+        WithAnswer::Facts(more) => Ok(Some(more)),
+        WithAnswer::Contradiction => Ok(None),
+        WithAnswer::NoMemory => Err(NoMemory),
+    }
+}
+
+/// These facts added one after another, or None where one contradicts those before it. The error is
+/// want of memory.
+pub fn with_facts(alloc: Global, atoms: &Atoms, new: &[Literal]) -> Result<Option<Facts>, NoMemory>
+    ensures { IfOk result (λ o. o ≡ with_facts_of atoms.now [] new.now) }
+{
+    let mut facts = Facts::none(alloc);
+    for fact in new {
+        if !facts.add(atoms, *fact)? {
+            return Ok(None);
+        }
+    }
+    Ok(Some(facts))
 }

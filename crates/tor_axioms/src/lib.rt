@@ -1,6 +1,7 @@
 //! The rewriting rules of terms, what recorded facts decide, and derivations.
 #![tactic(auto)]
 
+mod children;
 mod derivation;
 mod elements;
 mod facts;
@@ -15,7 +16,8 @@ mod select;
 mod selections;
 mod truths;
 
-pub use derivation::{Derivation, Derivations, Step, Steps, Vc, Vcs};
-pub use facts::{Facts, Known, Literal, Literals, WithAnswer};
+pub use derivation::{Condition, Derivation, Derivations, Step, Steps, Vc, Vcs};
+pub use facts::{Facts, Known, Literal, Literals, WithAnswer, with_fact, with_facts};
 pub use judged::{decide, decide_formula};
 pub use paths::apply;
+pub use select::{all_yes, some_no};

@@ -6,16 +6,14 @@ ghost use Rattle.tor_axioms.specs.Paths as spec;
 ghost use Rattle.tor_axioms.specs.Rules.{at_head as at_head_of};
 ghost use Rattle.tor_axioms.specs.Weight.{Lowers};
 
+use crate::children::{child_at, with_child_at};
 use crate::facts::{Facts, Literal};
 use crate::head::at_head;
-use crate::make::{
-    make_add, make_any, make_best, make_cat, make_count, make_insert, make_join, make_or,
-    make_pick, make_proj, make_sel, make_sum, make_top, make_uniq,
-};
 use qbs_base::NoMemory;
 use std::alloc::Global;
-use tor_terms::{Atom, Atoms, Term, TermPath, copy_boxed_term};
+use tor_terms::{Atom, Atoms, Term, TermPath};
 
+// A rule at a path goes to the child that the path names first.
 fn at_path(
     alloc: Global,
     rule: u32,
@@ -26,149 +24,15 @@ fn at_path(
 ) -> Result<Option<Box<Term>>, NoMemory>
     ensures { IfOk result (λ o. option_map (λ u. tree_of u.value) o ≡ spec.at_path (at_head_of atoms.now facts.now rule) path.now (tree_of term.now)) }
 {
-    let Some((child, rest)) = path.split_first() else {
+    let Some((k, rest)) = path.split_first() else {
         return at_head(alloc, rule, term, atoms, facts);
     };
-    match term {
-        Term::Top(index, r) => {
-            if *child != 0 {
-                return Ok(None);
-            }
-            match at_path(alloc, rule, rest, r, atoms, facts)? {
-                Some(u) => Ok(Some(make_top(alloc, *index, u)?)),
-                None => Ok(None),
-            }
-        }
-        Term::Sel(fs, r) => {
-            if *child != 0 {
-                return Ok(None);
-            }
-            match at_path(alloc, rule, rest, r, atoms, facts)? {
-                Some(u) => Ok(Some(make_sel(alloc, fs.as_slice(), u)?)),
-                None => Ok(None),
-            }
-        }
-        Term::Proj(e, r) => {
-            if *child != 0 {
-                return Ok(None);
-            }
-            match at_path(alloc, rule, rest, r, atoms, facts)? {
-                Some(u) => Ok(Some(make_proj(alloc, *e, u)?)),
-                None => Ok(None),
-            }
-        }
-        Term::Uniq(r) => {
-            if *child != 0 {
-                return Ok(None);
-            }
-            match at_path(alloc, rule, rest, r, atoms, facts)? {
-                Some(u) => Ok(Some(make_uniq(alloc, u)?)),
-                None => Ok(None),
-            }
-        }
-        Term::Insert(r, e) => {
-            if *child != 0 {
-                return Ok(None);
-            }
-            match at_path(alloc, rule, rest, r, atoms, facts)? {
-                Some(u) => Ok(Some(make_insert(alloc, u, *e)?)),
-                None => Ok(None),
-            }
-        }
-        Term::Count(r) => {
-            if *child != 0 {
-                return Ok(None);
-            }
-            match at_path(alloc, rule, rest, r, atoms, facts)? {
-                Some(u) => Ok(Some(make_count(alloc, u)?)),
-                None => Ok(None),
-            }
-        }
-        Term::Sum(r) => {
-            if *child != 0 {
-                return Ok(None);
-            }
-            match at_path(alloc, rule, rest, r, atoms, facts)? {
-                Some(u) => Ok(Some(make_sum(alloc, u)?)),
-                None => Ok(None),
-            }
-        }
-        Term::Any(r) => {
-            if *child != 0 {
-                return Ok(None);
-            }
-            match at_path(alloc, rule, rest, r, atoms, facts)? {
-                Some(u) => Ok(Some(make_any(alloc, u)?)),
-                None => Ok(None),
-            }
-        }
-        Term::Cat(a, b) => match *child {
-            0 => match at_path(alloc, rule, rest, a, atoms, facts)? {
-                Some(u) => Ok(Some(make_cat(alloc, u, copy_boxed_term(alloc, b)?)?)),
-                None => Ok(None),
-            },
-            1 => match at_path(alloc, rule, rest, b, atoms, facts)? {
-                Some(u) => Ok(Some(make_cat(alloc, copy_boxed_term(alloc, a)?, u)?)),
-                None => Ok(None),
-            },
-            _ => Ok(None),
+    match child_at(term, *k) {
+        None => Ok(None),
+        Some(child) => match at_path(alloc, rule, rest, child, atoms, facts)? {
+            None => Ok(None),
+            Some(u) => Ok(Some(with_child_at(alloc, term, *k, u)?)),
         },
-        Term::Join(a, b) => match *child {
-            0 => match at_path(alloc, rule, rest, a, atoms, facts)? {
-                Some(u) => Ok(Some(make_join(alloc, u, copy_boxed_term(alloc, b)?)?)),
-                None => Ok(None),
-            },
-            1 => match at_path(alloc, rule, rest, b, atoms, facts)? {
-                Some(u) => Ok(Some(make_join(alloc, copy_boxed_term(alloc, a)?, u)?)),
-                None => Ok(None),
-            },
-            _ => Ok(None),
-        },
-        Term::Add(a, b) => match *child {
-            0 => match at_path(alloc, rule, rest, a, atoms, facts)? {
-                Some(u) => Ok(Some(make_add(alloc, u, copy_boxed_term(alloc, b)?)?)),
-                None => Ok(None),
-            },
-            1 => match at_path(alloc, rule, rest, b, atoms, facts)? {
-                Some(u) => Ok(Some(make_add(alloc, copy_boxed_term(alloc, a)?, u)?)),
-                None => Ok(None),
-            },
-            _ => Ok(None),
-        },
-        Term::Or(a, b) => match *child {
-            0 => match at_path(alloc, rule, rest, a, atoms, facts)? {
-                Some(u) => Ok(Some(make_or(alloc, u, copy_boxed_term(alloc, b)?)?)),
-                None => Ok(None),
-            },
-            1 => match at_path(alloc, rule, rest, b, atoms, facts)? {
-                Some(u) => Ok(Some(make_or(alloc, copy_boxed_term(alloc, a)?, u)?)),
-                None => Ok(None),
-            },
-            _ => Ok(None),
-        },
-        Term::Best(way, a, b) => match *child {
-            0 => match at_path(alloc, rule, rest, a, atoms, facts)? {
-                Some(u) => Ok(Some(make_best(alloc, *way, u, copy_boxed_term(alloc, b)?)?)),
-                None => Ok(None),
-            },
-            1 => match at_path(alloc, rule, rest, b, atoms, facts)? {
-                Some(u) => Ok(Some(make_best(alloc, *way, copy_boxed_term(alloc, a)?, u)?)),
-                None => Ok(None),
-            },
-            _ => Ok(None),
-        },
-        Term::Pick(way, a, b) => match *child {
-            0 => match at_path(alloc, rule, rest, a, atoms, facts)? {
-                Some(u) => Ok(Some(make_pick(alloc, *way, u, copy_boxed_term(alloc, b)?)?)),
-                None => Ok(None),
-            },
-            1 => match at_path(alloc, rule, rest, b, atoms, facts)? {
-                Some(u) => Ok(Some(make_pick(alloc, *way, copy_boxed_term(alloc, a)?, u)?)),
-                None => Ok(None),
-            },
-            _ => Ok(None),
-        },
-        _ => Ok(None),
     }
 }
 

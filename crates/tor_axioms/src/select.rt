@@ -1,14 +1,13 @@
 // What facts say of the formulas of a selection.
 ghost use Rattle.std.specs.Prelude.{◌≡◌, ◌&&◌, not, ◌∷◌, [], IfOk, option_map};
 ghost use Rattle.tor_terms.specs.Plain.{form_of, forms_of};
-ghost use Rattle.tor_terms.specs.Truth as truth;
 ghost use Rattle.tor_axioms.specs.Rules as spec;
 
 use crate::facts::{Known, Literal};
 use crate::judged::decide_formula;
 use qbs_base::{Items, NoMemory};
 use std::alloc::Global;
-use tor_terms::{Atom, Formula, Formulas, Operand, copy_formula};
+use tor_terms::{Atom, Formula, Formulas, copy_formula, formula_within};
 
 /// Whether some formula is decided to be false.
 pub fn some_no(atoms: &[Atom], facts: &[Literal], fs: &[Formula]) -> bool
@@ -33,64 +32,6 @@ pub fn all_yes(atoms: &[Atom], facts: &[Literal], fs: &[Formula]) -> bool
         }
     }
     true
-}
-
-fn has_loop(loops: &[u32], j: u32) -> bool
-    ensures { result ≡ truth.has_loop loops.now j }
-{
-    for k in loops {
-        if *k == j {
-            return true;
-        }
-    }
-    false
-}
-
-fn has_loops(loops: &[u32], own: &[u32]) -> bool
-    ensures { result ≡ truth.has_loops loops.now own.now }
-{
-    for j in own {
-        if !has_loop(loops, *j) {
-            return false;
-        }
-    }
-    true
-}
-
-fn operand_within(loops: &[u32], a: &Operand) -> bool
-    ensures { result ≡ truth.operand_within loops.now a.now }
-{
-    match a {
-        Operand::Field(j, _) => has_loop(loops, *j),
-        Operand::Entry(_) => true,
-        Operand::Lit(_) => true,
-    }
-}
-
-fn atom_within(loops: &[u32], a: &Atom) -> bool
-    ensures { result ≡ truth.atom_within loops.now a.now }
-{
-    match a {
-        Atom::Less(l, r) => operand_within(loops, l) && operand_within(loops, r),
-        Atom::Same(l, r) => operand_within(loops, l) && operand_within(loops, r),
-        Atom::Truth(l) => operand_within(loops, l),
-        Atom::Member(l, _) => operand_within(loops, l),
-        Atom::Flag(_, own) => has_loops(loops, own.as_slice()),
-    }
-}
-
-/// Whether the atoms of a formula are there, and all their loops among these.
-pub fn formula_within(atoms: &[Atom], loops: &[u32], f: &Formula) -> bool
-    ensures { result ≡ truth.form_within atoms.now loops.now (form_of f.now) }
-{
-    match f {
-        Formula::Is(k, _) => match atoms.get(*k as usize) {
-            None => false,
-            Some(a) => atom_within(loops, a),
-        },
-        Formula::Both(g, h) => formula_within(atoms, loops, g) && formula_within(atoms, loops, h),
-        Formula::Either(g, h) => formula_within(atoms, loops, g) && formula_within(atoms, loops, h),
-    }
 }
 
 fn no_within(atoms: &[Atom], facts: &[Literal], loops: &[u32], f: &Formula) -> bool

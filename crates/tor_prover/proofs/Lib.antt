@@ -1,4 +1,3 @@
-pub mod Added
 pub mod Positions
 pub mod Stuck
 pub mod OpenAtom

@@ -6,12 +6,11 @@ ghost use Rattle.tor_axioms.specs.Decide.{literal, with_fact as with_fact_of};
 ghost use Rattle.tor_prover.specs.Derive as spec;
 ghost use Rattle.tor_prover.specs.Seen.{judgement_of};
 
-use crate::facts::{with_fact, with_facts};
 use crate::normal::normalise;
 use crate::outcome::{Judgement, Outcome};
 use qbs_base::NoMemory;
 use std::alloc::Global;
-use tor_axioms::{Derivation, Facts, Vc};
+use tor_axioms::{Derivation, Facts, Vc, with_fact, with_facts};
 use tor_terms::{copy_term, same_term};
 
 /// How many splits may stand inside one another.

@@ -2,7 +2,6 @@
 #![tactic(auto)]
 
 mod derivation;
-mod facts;
 pub mod laws;
 mod normal;
 mod open;

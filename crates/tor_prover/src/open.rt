@@ -1,10 +1,9 @@
 // The open atom that a term meets.
 ghost use Rattle.std.specs.Prelude.{◌≡◌};
 ghost use Rattle.tor_terms.specs.Plain.{form_of, forms_of, tree_of};
-ghost use Rattle.tor_axioms.specs.Rules.{some_no as some_no_of, all_yes as all_yes_of};
 ghost use Rattle.tor_prover.specs.Normal as spec;
 
-use tor_axioms::{Facts, Known, Literal, decide, decide_formula};
+use tor_axioms::{Facts, Known, Literal, all_yes, decide, decide_formula, some_no};
 use tor_terms::{Atom, Atoms, Formula, Term};
 
 fn first_some(a: Option<u32>, b: Option<u32>) -> Option<u32>
@@ -40,29 +39,6 @@ fn first_open(atoms: &[Atom], facts: &[Literal], fs: &[Formula]) -> Option<u32>
         }
     }
     None
-}
-
-fn some_no(atoms: &[Atom], facts: &[Literal], fs: &[Formula]) -> bool
-    ensures { result ≡ some_no_of atoms.now facts.now (forms_of fs.now) }
-{
-    for f in fs {
-        if let Known::No = decide_formula(atoms, facts, f) {
-            return true;
-        }
-    }
-    false
-}
-
-fn all_yes(atoms: &[Atom], facts: &[Literal], fs: &[Formula]) -> bool
-    ensures { result ≡ all_yes_of atoms.now facts.now (forms_of fs.now) }
-{
-    for f in fs {
-        match decide_formula(atoms, facts, f) {
-            Known::Yes => {}
-            _ => return false,
-        }
-    }
-    true
 }
 
 fn met_in(atoms: &[Atom], facts: &[Literal], t: &Term) -> Option<u32>

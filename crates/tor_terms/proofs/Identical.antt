@@ -1,6 +1,5 @@
 -- Trees that are found identical are equal.
 use Rattle.std.proofs.Common.{◌≡◌, ℕ, Bool, true, false, ◌&&◌, List, [], ◌∷◌, nat_eq, refl, ap, ap₂, ◌∙◌, eqb-true}
-use Rattle.qbs_base.specs.Scalar.{scalar_same}
 use Rattle.tor_terms.specs.declared.term.Elem.{Elem}
 use Rattle.tor_terms.specs.declared.term.Elem.TheVariants.{Whole, Field}
 use Rattle.tor_terms.specs.declared.term.Index.{Index}
@@ -12,7 +11,7 @@ use Rattle.tor_terms.specs.declared.term.Way.TheVariants.{Max, Min}
 use Rattle.tor_terms.specs.Plain.{Form, Is, Both, Either, Tree, Nil, Walk, Top, One, Single, Cat, Join, Sel, Proj, Uniq, Insert, Hold, Lit, Item, Count, Sum, Any, Best, Pick, Add, Or}
 use Rattle.tor_terms.specs.Same.{same_flag, same_way, same_index, same_elem, same_numbers, same_form, same_forms, same_tree}
 use Rattle.tor_terms.specs.Truth.{same_operand}
-use Rattle.tor_terms.proofs.Scalars.{scalar_same-true, scalar_same-self}
+use Rattle.tor_terms.proofs.Scalars.{scalar_same-true}
 
 -- two tests at once
 pub both : {A B C : Type 0} {x y : A} {u v : B} (f : A → B → C) (a b : Bool) → (a && b) ≡ true → (a ≡ true → x ≡ y) → (b ≡ true → u ≡ v) → f x u ≡ f y v

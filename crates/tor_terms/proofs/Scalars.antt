@@ -1,5 +1,5 @@
 -- What the tests of scalars say.
-use Rattle.std.proofs.Common.{◌≡◌, ◌↔◌, ℕ, ℤ, Bool, true, false, IsTrue, List, [], ◌∷◌, refl, sym, ap, ap₂, ◌∙◌, ◌<ℤ◌}
+use Rattle.std.proofs.Common.{◌≡◌, ◌↔◌, ℕ, Bool, true, false, IsTrue, List, [], ◌∷◌, refl, sym, ap, ap₂, ◌∙◌, ◌<ℤ◌}
 use Rattle.std.specs.Ordering.{MatchOrdering, nat_cmp, int_cmp, bool_cmp, is_lt, is_eq, ordering_then}
 use Rattle.std.specs.Cmp.{IsStrictWeakOrder, bool_cmp_total}
 use Rattle.std.specs.Cmp.Lexicographic.{nat_list_cmp_total, slice_cmp}
@@ -9,7 +9,7 @@ use Rattle.std.proofs.lemmas.Cmp.{ranked, int_ranked, int_cmp_total, tied_itself
 use Rattle.std.proofs.lemmas.List.MinMax.{ranks_by}
 use Rattle.qbs_base.specs.declared.scalar.Scalar.{Scalar}
 use Rattle.qbs_base.specs.declared.scalar.Scalar.TheVariants.{Long, Bool as Truth, Text}
-use Rattle.qbs_base.specs.Scalar.{scalar_less, scalar_same}
+use Rattle.qbs_base.specs.Scalar.{scalar_same}
 use Rattle.tor_terms.specs.Truth.{less}
 
 equal_ranked : (P Q R : Type 0) (o : Ordering) → is_eq o ≡ true → MatchOrdering o P Q R → Q

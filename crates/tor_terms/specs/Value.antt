@@ -9,7 +9,7 @@ use Rattle.qbs_base.specs.declared.scalar.Kind.TheVariants as kinds
 use Rattle.qbs_base.specs.declared.scalar.Row.{Row}
 use Rattle.qbs_base.specs.declared.scalar.Scalar.{Scalar}
 use Rattle.qbs_base.specs.declared.scalar.Scalar.TheVariants as scalars
-use Rattle.qbs_base.specs.Scalar.{scalar_same, same_cells}
+use Rattle.qbs_base.specs.Scalar.{same_cells}
 use Rattle.tor_terms.specs.declared.term.Atom.{Atom}
 use Rattle.tor_terms.specs.declared.term.Elem.{Elem}
 use Rattle.tor_terms.specs.declared.term.Elem.TheVariants as elems

@@ -8,9 +8,10 @@ ghost use Rattle.tor_terms.specs.Fits as fits;
 ghost use Rattle.tor_terms.specs.Evaluation as found;
 
 use crate::eval_found::{Tuple, TupleList};
-use crate::eval_rows::{elem_of, has_column, has_row};
+use crate::eval_rows::{elem_of, has_column};
 use crate::eval_truth::all_hold;
 use crate::eval_within::has_loop;
+use crate::rows::has_row;
 use crate::{Atom, Elem, Env, Formula, Index};
 use qbs_base::{Items, NoMemory, Row, Rows};
 use std::alloc::Global;

@@ -9,8 +9,8 @@ use crate::eval_found::Found;
 use crate::{Elem, Term, Way};
 use qbs_base::{Kind, Row, Scalar};
 
-// The number that an element is, where it is one.
-fn number_of(row: &Row) -> Option<i64>
+/// The number that an element is, where it is one.
+pub fn number_of(row: &Row) -> Option<i64>
     ensures { result ≡ found.number_of row.now }
 {
     match (row.kind, row.cells.as_slice()) {

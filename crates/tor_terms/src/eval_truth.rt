@@ -1,16 +1,16 @@
 // The truth of atoms and formulas at a tuple, and whether their atoms and loops are there.
 ghost use Rattle.std.specs.Prelude.{◌≡◌, option_copied, get_or, map, []};
-ghost use Rattle.std.specs.List.{list_any, list_all};
-ghost use Rattle.qbs_base.specs.Scalar.{compared, scalar_same};
 ghost use Rattle.tor_terms.specs.Plain.{form_of, forms_of};
 ghost use Rattle.tor_terms.specs.Truth as spec;
 ghost use Rattle.tor_terms.specs.Value as values;
 ghost use Rattle.tor_terms.specs.Worlds as worlds;
 ghost use Rattle.tor_terms.specs.Evaluation as found;
 
-use crate::eval_rows::{cell_at, is_no_cell, row_at, same_cell, same_row};
+use crate::compared::{both_less, both_same, is_member, is_true, same_bool};
+use crate::eval_rows::{cell_at, row_at};
+use crate::rows::{is_no_cell, same_row};
 use crate::{Atom, Env, FlagTable, Formula, Operand, same_operand};
-use qbs_base::{Row, Scalar, scalar_cmp};
+use qbs_base::{Row, Scalar};
 
 fn operand_at<'a>(env: &'a Env, tuple: &'a [(u32, Row)], a: &'a Operand) -> Option<&'a Scalar>
     ensures { option_copied result ≡ spec.operand_at (worlds.world_of env.now) (spec.row_at (worlds.world_of env.now).current tuple.now) a.now }
@@ -19,85 +19,6 @@ fn operand_at<'a>(env: &'a Env, tuple: &'a [(u32, Row)], a: &'a Operand) -> Opti
         Operand::Field(j, c) => cell_at(env, tuple, *j, *c),
         Operand::Entry(k) => env.entries.as_slice().get(*k as usize),
         Operand::Lit(x) => Some(x),
-    }
-}
-
-fn less(x: &Scalar, y: &Scalar) -> bool
-    ensures { result ≡ spec.less x.now y.now }
-{
-    match (x, y) {
-        (Scalar::Long(_), Scalar::Long(_)) => scalar_cmp(x, y).is_lt(),
-        (Scalar::Text(_), Scalar::Text(_)) => scalar_cmp(x, y).is_lt(),
-        _ => false,
-    }
-}
-
-fn both_less(x: Option<&Scalar>, y: Option<&Scalar>) -> bool
-    ensures { result ≡ compared spec.less (option_copied x.entry) (option_copied y.entry) }
-{
-    match (x, y) {
-        (Some(x), Some(y)) => less(x, y),
-        _ => false,
-    }
-}
-
-fn both_same(x: Option<&Scalar>, y: Option<&Scalar>) -> bool
-    ensures { result ≡ compared scalar_same (option_copied x.entry) (option_copied y.entry) }
-{
-    match (x, y) {
-        (Some(x), Some(y)) => same_cell(x, y),
-        _ => false,
-    }
-}
-
-fn is_true(x: Option<&Scalar>) -> bool
-    ensures { result ≡ spec.is_true (option_copied x.entry) }
-{
-    match x {
-        Some(Scalar::Bool(b)) => *b,
-        _ => false,
-    }
-}
-
-fn has_scalar(xs: &[Scalar], x: &Scalar) -> bool
-    ensures { result ≡ list_any (scalar_same x.now) xs.now }
-{
-    for y in xs {
-        if same_cell(x, y) {
-            return true;
-        }
-    }
-    false
-}
-
-fn same_variant(x: &Scalar, y: &Scalar) -> bool
-    ensures { result ≡ spec.same_variant x.now y.now }
-{
-    match (x, y) {
-        (Scalar::Long(_), Scalar::Long(_)) => true,
-        (Scalar::Bool(_), Scalar::Bool(_)) => true,
-        (Scalar::Text(_), Scalar::Text(_)) => true,
-        _ => false,
-    }
-}
-
-fn are_of_variant(xs: &[Scalar], x: &Scalar) -> bool
-    ensures { result ≡ list_all (spec.same_variant x.now) xs.now }
-{
-    for y in xs {
-        if !same_variant(x, y) {
-            return false;
-        }
-    }
-    true
-}
-
-fn is_member(x: Option<&Scalar>, xs: &[Scalar]) -> bool
-    ensures { result ≡ spec.is_member (option_copied x.entry) xs.now }
-{
-    match x {
-        Some(x) => has_scalar(xs, x) && are_of_variant(xs, x),
-        None => false,
     }
 }
 
@@ -189,12 +110,6 @@ fn truth(env: &Env, atoms: &[Atom], tuple: &[(u32, Row)], k: u32) -> bool
         Some(a) => atom_holds(env, tuple, a),
         None => false,
     }
-}
-
-fn same_bool(a: bool, b: bool) -> bool
-    ensures { result ≡ spec.same_bool a b }
-{
-    if a { b } else { !b }
 }
 
 fn holds(env: &Env, atoms: &[Atom], tuple: &[(u32, Row)], f: &Formula) -> bool

@@ -19,7 +19,8 @@ pub fn has_loop(loops: &[u32], j: u32) -> bool
     false
 }
 
-fn has_loops(loops: &[u32], own: &[u32]) -> bool
+/// Whether all of the second are among the first.
+pub fn has_loops(loops: &[u32], own: &[u32]) -> bool
     ensures { result ≡ spec.has_loops loops.now own.now }
 {
     for j in own {
@@ -52,7 +53,8 @@ fn atom_within(loops: &[u32], a: &Atom) -> bool
     }
 }
 
-fn form_within(atoms: &[Atom], loops: &[u32], f: &Formula) -> bool
+/// Whether the atoms of a formula are there, and all their loops among these.
+pub fn formula_within(atoms: &[Atom], loops: &[u32], f: &Formula) -> bool
     ensures { result ≡ spec.form_within atoms.now loops.now (form_of f.now) }
 {
     match f {
@@ -60,8 +62,8 @@ fn form_within(atoms: &[Atom], loops: &[u32], f: &Formula) -> bool
             Some(a) => atom_within(loops, a),
             None => false,
         },
-        Formula::Both(g, h) => form_within(atoms, loops, g) && form_within(atoms, loops, h),
-        Formula::Either(g, h) => form_within(atoms, loops, g) && form_within(atoms, loops, h),
+        Formula::Both(g, h) => formula_within(atoms, loops, g) && formula_within(atoms, loops, h),
+        Formula::Either(g, h) => formula_within(atoms, loops, g) && formula_within(atoms, loops, h),
     }
 }
 
@@ -70,7 +72,7 @@ pub fn forms_within(atoms: &[Atom], loops: &[u32], fs: &[Formula]) -> bool
     ensures { result ≡ list_all (spec.form_within atoms.now loops.now) (forms_of fs.now) }
 {
     for f in fs {
-        if !form_within(atoms, loops, f) {
+        if !formula_within(atoms, loops, f) {
             return false;
         }
     }

@@ -2,6 +2,7 @@
 //! a value.
 #![tactic(auto)]
 
+mod compared;
 mod copy;
 mod env;
 mod eval_found;
@@ -13,11 +14,18 @@ mod eval_terms;
 mod eval_truth;
 mod eval_within;
 pub mod laws;
+mod rows;
 mod same;
 mod term;
 
-pub use copy::{copy_boxed_term, copy_formula, copy_formulas, copy_term};
+pub use compared::{both_less, both_same, is_member, is_true, same_bool, same_cell, scalar_before};
+pub use copy::{
+    copy_atom, copy_atoms, copy_boxed_term, copy_formula, copy_formulas, copy_operand, copy_term,
+};
 pub use env::{Env, FlagTable, FlagTables};
+pub use eval_numbers::{better, number_of};
 pub use eval_terms::eval;
-pub use same::{same_operand, same_term};
+pub use eval_within::{formula_within, has_loop, has_loops};
+pub use rows::{has_row, plain_row, same_row};
+pub use same::{same_flag, same_formula, same_numbers, same_operand, same_term};
 pub use term::{Atom, Atoms, Elem, Formula, Formulas, Index, Loops, Operand, Term, TermPath, Way};

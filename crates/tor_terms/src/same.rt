@@ -1,14 +1,14 @@
 // Whether terms are identical.
 ghost use Rattle.std.specs.Prelude.{◌≡◌};
-ghost use Rattle.qbs_base.specs.Scalar.{scalar_same};
 ghost use Rattle.tor_terms.specs.Plain.{form_of, forms_of, tree_of};
 ghost use Rattle.tor_terms.specs.Same as spec;
 ghost use Rattle.tor_terms.specs.Truth.{same_operand as same_operand_of};
 
+use crate::compared::same_cell;
 use crate::term::{Elem, Formula, Index, Operand, Term, Way};
-use qbs_base::{Scalar, same_scalar};
 
-fn same_flag(s: bool, t: bool) -> bool
+/// Whether two truth values are the same.
+pub fn same_flag(s: bool, t: bool) -> bool
     ensures { result ≡ spec.same_flag s t }
 {
     s == t
@@ -46,7 +46,8 @@ fn same_elem(d: Elem, e: Elem) -> bool
     }
 }
 
-fn same_numbers(a: &[u32], b: &[u32]) -> bool
+/// Whether two lists of numbers are the same.
+pub fn same_numbers(a: &[u32], b: &[u32]) -> bool
     ensures { result ≡ spec.same_numbers a.now b.now }
 {
     match (a.split_first(), b.split_first()) {
@@ -56,13 +57,6 @@ fn same_numbers(a: &[u32], b: &[u32]) -> bool
     }
 }
 
-// Whether two scalars are one.
-fn same_literal(x: &Scalar, y: &Scalar) -> bool
-    ensures { result ≡ scalar_same x.now y.now }
-{
-    same_scalar(x, y)
-}
-
 /// Whether two operands are identical.
 pub fn same_operand(a: &Operand, b: &Operand) -> bool
     ensures { result ≡ same_operand_of a.now b.now }
@@ -70,12 +64,13 @@ pub fn same_operand(a: &Operand, b: &Operand) -> bool
     match (a, b) {
         (Operand::Field(i, c), Operand::Field(j, d)) => *i == *j && *c == *d,
         (Operand::Entry(i), Operand::Entry(j)) => *i == *j,
-        (Operand::Lit(x), Operand::Lit(y)) => same_literal(x, y),
+        (Operand::Lit(x), Operand::Lit(y)) => same_cell(x, y),
         _ => false,
     }
 }
 
-fn same_formula(f: &Formula, g: &Formula) -> bool
+/// Whether two formulas are identical.
+pub fn same_formula(f: &Formula, g: &Formula) -> bool
     ensures { result ≡ spec.same_form (form_of f.now) (form_of g.now) }
 {
     match (f, g) {
@@ -115,7 +110,7 @@ pub fn same_term(t: &Term, u: &Term) -> bool
         (Term::Uniq(r), Term::Uniq(s)) => same_term(r, s),
         (Term::Insert(r, d), Term::Insert(s, e)) => same_term(r, s) && same_elem(*d, *e),
         (Term::Hold(i), Term::Hold(j)) => *i == *j,
-        (Term::Lit(x), Term::Lit(y)) => same_literal(x, y),
+        (Term::Lit(x), Term::Lit(y)) => same_cell(x, y),
         (Term::Item(d), Term::Item(e)) => same_elem(*d, *e),
         (Term::Count(r), Term::Count(s)) => same_term(r, s),
         (Term::Sum(r), Term::Sum(s)) => same_term(r, s),

@@ -1,7 +1,7 @@
 -- Conditions with accepted derivations are valid.
 use Rattle.std.proofs.Common.{List, [], ◌∷◌}
 use Rattle.tor_axioms.specs.Accepts.{Proof, Claim}
-use Rattle.tor_axioms.proofs.Accepted.{accepts-sound, sound-anywhere, anywhere-valid}
+use Rattle.tor_axioms.proofs.Accepted.{accepts-anywhere, sound-anywhere, anywhere-valid}
 use Rattle.vc_gen.specs.Soundness.{AllValid, AllValidAnywhere, AllSound, AllAccepted}
 
 all-anywhere-valid : (cs : List Claim) → AllValidAnywhere cs → AllValid cs
@@ -16,7 +16,7 @@ pub all-accepted-anywhere : (cs : List Claim) (ds : List Proof) → AllAccepted 
 all-accepted-anywhere [] [] h = tt
 all-accepted-anywhere [] (d ∷ ds) h = absurd h
 all-accepted-anywhere (c ∷ cs) [] h = absurd h
-all-accepted-anywhere (c ∷ cs) (d ∷ ds) h = (sound-anywhere c (accepts-sound c d h.0), all-accepted-anywhere cs ds h.1)
+all-accepted-anywhere (c ∷ cs) (d ∷ ds) h = (accepts-anywhere c d h.0, all-accepted-anywhere cs ds h.1)
 
 pub all-sound-valid : (cs : List Claim) → AllSound cs → AllValid cs
 all-sound-valid cs h = all-anywhere-valid cs (all-sound-anywhere cs h)

@@ -2,7 +2,6 @@
 #![tactic(auto)]
 
 mod all;
-mod atoms;
 pub mod laws;
 mod level;
 mod own;

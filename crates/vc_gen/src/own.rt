@@ -8,7 +8,6 @@ ghost use Rattle.kernel_lang.specs.Postcondition.{loops_of};
 ghost use Rattle.vc_gen.specs.Conditions as spec;
 ghost use Rattle.vc_gen.specs.Levels.{layer_seen, layers_seen};
 
-use crate::atoms::copy_atoms;
 use crate::level::{Level, first_levels, last_levels, levels, loops};
 use crate::paths::{Path, Paths, each_with, empty_path, guard_paths, joined};
 use crate::terms::{part, start_term, whole, whole_level};
@@ -16,7 +15,7 @@ use kernel_lang::{Acc, Update};
 use qbs_base::{Items, NoMemory, Scalar};
 use std::alloc::Global;
 use tor_axioms::{Literal, Literals, Vc, Vcs};
-use tor_terms::{Atoms, Formulas, Index, Loops, Term, copy_term};
+use tor_terms::{Atoms, Formulas, Index, Loops, Term, copy_atoms, copy_term};
 
 /// The update of an accumulator and its chosen formulas, over these atoms.
 #[derive(Drop)]

@@ -1,4 +1,4 @@
-use Rattle.std.proofs.Common.{◌≡◌, ◌∷◌, ◌+◌, drop, get_or, arith}
+use Rattle.std.proofs.Common.{◌≡◌, ◌+◌, drop, get_or, arith}
 use Rattle.std.proofs.lemmas.List.{at_drop_more}
 use Rattle.tor_terms.specs.Evaluation as found
 use Rattle.tor_terms.proofs.eval_lists.first_rows.Goals as goal

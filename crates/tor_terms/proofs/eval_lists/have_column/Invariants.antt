@@ -1,4 +1,4 @@
-use Rattle.std.proofs.Common.{◌≡◌, drop, take, map, ◌++◌, length, nat_lt, []}
+use Rattle.std.proofs.Common.{◌≡◌, drop}
 use Rattle.tor_terms.specs.Evaluation as found
 use Rattle.std.specs.List.{list_all}
 use Rattle.tor_terms.proofs.eval_lists.have_column.Given as goal

@@ -1,4 +1,4 @@
-use Rattle.std.proofs.Common.{◌≡◌, drop, take, map, ◌++◌, length, nat_lt, []}
+use Rattle.std.proofs.Common.{◌≡◌, drop, length, nat_lt}
 use Rattle.std.specs.List.{list_all}
 use Rattle.tor_terms.proofs.eval_lists.have_rows.Given as goal
 

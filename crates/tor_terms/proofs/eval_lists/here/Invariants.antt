@@ -1,4 +1,4 @@
-use Rattle.std.proofs.Common.{◌≡◌, drop, take, map, ◌++◌, length, nat_lt, []}
+use Rattle.std.proofs.Common.{◌≡◌, take}
 use Rattle.tor_terms.specs.Value as spec
 use Rattle.tor_terms.specs.Worlds.{world_of}
 use Rattle.tor_terms.proofs.eval_lists.here.Given as goal

@@ -1,4 +1,4 @@
-use Rattle.std.proofs.Common.{◌≡◌, drop, take, map, ◌++◌, length, nat_lt, []}
+use Rattle.std.proofs.Common.{◌≡◌, take, map}
 use Rattle.tor_terms.specs.Evaluation as found
 use Rattle.tor_terms.proofs.eval_lists.projected.Given as goal
 

@@ -1,4 +1,4 @@
-use Rattle.std.proofs.Common.{◌≡◌, drop, take, map, ◌++◌, length, nat_lt, []}
+use Rattle.std.proofs.Common.{◌≡◌, take, ◌++◌}
 use Rattle.tor_terms.proofs.eval_lists.push_rows.Given as goal
 
 abbrev pub invariant-loop-own : goal.invariant-loop-own

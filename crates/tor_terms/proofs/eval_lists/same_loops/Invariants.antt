@@ -1,4 +1,4 @@
-use Rattle.std.proofs.Common.{◌≡◌, drop, take, map, ◌++◌, length, nat_lt, []}
+use Rattle.std.proofs.Common.{◌≡◌, drop}
 use Rattle.tor_terms.specs.Fits as fits
 use Rattle.tor_terms.proofs.eval_lists.same_loops.Given as goal
 

@@ -1,4 +1,4 @@
-use Rattle.std.proofs.Common.{◌≡◌, drop, take, map, ◌++◌, length, nat_lt, []}
+use Rattle.std.proofs.Common.{◌≡◌, take}
 use Rattle.tor_terms.specs.Evaluation as found
 use Rattle.std.specs.List.{filter}
 use Rattle.tor_terms.specs.Plain.{forms_of}

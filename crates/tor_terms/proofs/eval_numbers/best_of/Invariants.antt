@@ -1,4 +1,4 @@
-use Rattle.std.proofs.Common.{◌≡◌, drop, take, map, ◌++◌, length, []}
+use Rattle.std.proofs.Common.{◌≡◌, drop}
 use Rattle.tor_terms.specs.Evaluation as found
 use Rattle.tor_terms.proofs.eval_numbers.best_of.Given as goal
 

@@ -1,4 +1,4 @@
-use Rattle.std.proofs.Common.{◌≡◌, ◌+◌, arith}
+use Rattle.std.proofs.Common.{arith}
 use Rattle.std.proofs.lemmas.Int.{ints}
 use Rattle.tor_terms.proofs.Steps.{sum-more}
 use Rattle.tor_terms.proofs.eval_numbers.sum_of.Goals as goal

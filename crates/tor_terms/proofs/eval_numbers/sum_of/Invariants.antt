@@ -1,5 +1,5 @@
 use Rattle.std.proofs.Common.{◌≡◌, drop, ◌*◌}
-use Rattle.std.specs.Prelude.{ℤ, pos, ◌-ℤ◌, ◌≤ℤ◌, Some}
+use Rattle.std.specs.Prelude.{pos, ◌-ℤ◌, ◌≤ℤ◌, Some}
 use Rattle.tor_terms.specs.Evaluation as found
 use Rattle.tor_terms.proofs.eval_numbers.sum_of.Given as goal
 

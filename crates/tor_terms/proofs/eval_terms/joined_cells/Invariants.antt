@@ -1,4 +1,4 @@
-use Rattle.std.proofs.Common.{◌≡◌, drop, take, map, ◌++◌, length, []}
+use Rattle.std.proofs.Common.{◌≡◌, take}
 use Rattle.tor_terms.specs.Evaluation as found
 use Rattle.tor_terms.proofs.eval_terms.joined_cells.Given as goal
 

@@ -1,4 +1,4 @@
-use Rattle.std.proofs.Common.{◌≡◌, drop, take, map, ◌++◌, length, []}
+use Rattle.std.proofs.Common.{◌≡◌, take, ◌++◌}
 use Rattle.tor_terms.proofs.eval_terms.push_cells.Given as goal
 
 abbrev pub invariant-loop-cell : goal.invariant-loop-cell

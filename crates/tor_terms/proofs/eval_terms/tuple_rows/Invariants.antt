@@ -1,4 +1,4 @@
-use Rattle.std.proofs.Common.{◌≡◌, drop, take, map, ◌++◌, length, []}
+use Rattle.std.proofs.Common.{◌≡◌, take, map}
 use Rattle.tor_terms.specs.Fits as fits
 use Rattle.tor_terms.proofs.eval_terms.tuple_rows.Given as goal
 

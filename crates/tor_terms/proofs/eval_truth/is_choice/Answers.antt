@@ -1,4 +1,4 @@
-use Rattle.std.proofs.Common.{◌≡◌, ◌∙◌, sym, ℕ, nat_eq, length, List, [], ◌∷◌, refl, map, arith}
+use Rattle.std.proofs.Common.{◌≡◌, ◌∙◌, sym, nat_eq, length, List, [], ◌∷◌, refl, map, arith}
 use Rattle.std.proofs.lemmas.List.{at_drop_all}
 use Rattle.std.proofs.lemmas.Bool.Decides.{nat_tests}
 use Rattle.qbs_base.specs.declared.scalar.Row.{Row}

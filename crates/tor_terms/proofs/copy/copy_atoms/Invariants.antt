@@ -1,5 +1,5 @@
 use Rattle.std.proofs.Common.{◌≡◌, take}
-use Rattle.vc_gen.proofs.atoms.copy_atoms.Given as goal
+use Rattle.tor_terms.proofs.copy.copy_atoms.Given as goal
 
 abbrev pub invariant-loop-atom : goal.invariant-loop-atom
 invariant-loop-atom l = l.copies ≡ take l.atom-index l.atoms

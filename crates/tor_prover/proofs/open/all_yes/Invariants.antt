@@ -1,8 +1,0 @@
-use Rattle.std.proofs.Common.{◌≡◌, drop}
-use Rattle.tor_terms.specs.Plain.{forms_of}
-use Rattle.tor_axioms.specs.Rules.{all_yes}
-use Rattle.tor_prover.proofs.open.all_yes.Given as goal
-
--- the answer is that for the formulas that are left
-abbrev pub invariant-loop-f : goal.invariant-loop-f
-invariant-loop-f l = all_yes l.atoms l.facts (forms_of l.fs) ≡ all_yes l.atoms l.facts (forms_of (drop l.f-index l.fs))
