@@ -125,11 +125,11 @@ pub fn kept_statements_have_their_numbers()
         → AreKept f further n run (kept_numbers f further n run) }
 {}
 
-/// The path to a loop leads to it, and the number of its run's first statement is at most its own: so the run and the loop may be
-/// replaced there.
+/// The path to a loop leads to it, the number of its run's first statement is at most its own, and the run has simple statements
+/// alone: so the run and the loop may be replaced there, and the statements that stay have their numbers.
 pub fn loops_stand_where_their_paths_lead()
     ensures { (schema : Schema) (read : List ℕ → Option PlainQuery) (p : PlainProgram) (path : List ℕ) (w : Setting) (first : ℕ)
         → setting_at schema read path p ≡ Some w
         → first_at path p ≡ Some first
-        → LoopStands p path w.fragment.loop first }
+        → LoopStands p path w.fragment first }
 {}

@@ -147,7 +147,7 @@ module _ (schema : Schema) (reader : Reader schema) (p : PlainProgram) (path : L
 
 -- ---- By the path to the loop
 
-setting_fragment : (schema : Schema) (read : List ℕ → Option PlainQuery) (p : PlainProgram) (path : List ℕ) (w : Setting) (types : Option Types) (fragment : Option Fragment) → fragment_at path p ≡ fragment → setting_there schema read types fragment ≡ Some w → fragment_at path p ≡ Some w.fragment
+pub setting_fragment : (schema : Schema) (read : List ℕ → Option PlainQuery) (p : PlainProgram) (path : List ℕ) (w : Setting) (types : Option Types) (fragment : Option Fragment) → fragment_at path p ≡ fragment → setting_there schema read types fragment ≡ Some w → fragment_at path p ≡ Some w.fragment
 setting_fragment schema read p path w (Some g) (Some f) e h = e ∙ ap (λ (z : Setting). Some z.fragment) (some_is (setting_of schema read g f) w h)
 setting_fragment schema read p path w (Some g) None e h = absurd cc
 setting_fragment schema read p path w None (Some f) e h = absurd cc
@@ -164,7 +164,7 @@ loops_give_way schema reader p path w first kept ks well fits is rules begins nu
 
 -- ---- Where the loop stands
 
-fragment_stands : (p : PlainProgram) (path : List ℕ) (f : Fragment) (first : ℕ) → IsPlacedIn p path f → fragment_at path p ≡ Some f → first_at path p ≡ Some first → LoopStands p path f.loop first
+fragment_stands : (p : PlainProgram) (path : List ℕ) (f : Fragment) (first : ℕ) → IsPlacedIn p path f → fragment_at path p ≡ Some f → first_at path p ≡ Some first → LoopStands p path f first
 fragment_stands p path f first k leads begins =
     let there : fragment_in (names_of_params k.method.params) k.down k.first k.method.body ≡ Some f =
     sym (ap (λ z. fragment_at z p) k.is ∙ ap (found_in (λ (z : PlainMethod). fragment_in (names_of_params z.params) k.down k.first z.body)) k.found) ∙ leads in
@@ -174,9 +174,10 @@ fragment_stands p path f first k leads begins =
     record {
       there = ap (λ z. statement_at z p) k.is ∙ ap (found_in (λ (z : PlainMethod). statement_in k.down k.first z.body)) k.found ∙ k.placed.loop_there;
       before = subst (λ z. first ≤ last_of z) (sym k.is) (subst (λ j. j ≤ last_of (k.first ∷ k.down)) (sym same) k.placed.before_loop);
+      simple = k.placed.simple;
     }
 
-pub setting_stands : (schema : Schema) (read : List ℕ → Option PlainQuery) (p : PlainProgram) (path : List ℕ) (w : Setting) (first : ℕ) → setting_at schema read path p ≡ Some w → first_at path p ≡ Some first → LoopStands p path w.fragment.loop first
+pub setting_stands : (schema : Schema) (read : List ℕ → Option PlainQuery) (p : PlainProgram) (path : List ℕ) (w : Setting) (first : ℕ) → setting_at schema read path p ≡ Some w → first_at path p ≡ Some first → LoopStands p path w.fragment first
 setting_stands schema read p path w first is begins =
     let leads = setting_fragment schema read p path w (kernel.types_at schema path p) (fragment_at path p) refl is in
     fragment_stands p path w.fragment first (placed_at path p w.fragment leads) leads begins
