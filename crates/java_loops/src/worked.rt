@@ -1,11 +1,12 @@
 //! What the definitions say of worked programs, as laws that compute. They do nothing.
 ghost use Rattle.std.specs.Prelude.{◌≡◌, true, [], ◌∷◌, Some, None, codes};
 ghost use Rattle.qbs_base.specs.declared.span.Span.{Span};
-ghost use Rattle.java_ast.specs.Tree.{Statement};
+ghost use Rattle.java_ast.specs.Tree.{Long, String, Table, ListOf, SetOf, Statement};
 ghost use Rattle.java_mean.specs.Worked.{class_A, class_B, class_C, class_E, class_H, name_set};
 ghost use Rattle.kernel_lang.specs.Worked as kernel;
 ghost use Rattle.loop_text.specs.Statements.Loops.{loops_of};
 ghost use Rattle.loop_text.specs.Statements.Fragment.{StandsIn, IsKept, needed_at, needed_of};
+ghost use Rattle.java_loops.specs.Lowering.Spelling.{spelled_at};
 ghost use Rattle.java_loops.specs.Kernel.Worked.{program_of, moved, moved_run, w, z};
 ghost use Rattle.java_loops.specs.Kernel.WorkedKernel.{lowered, outside, walking, returning, users, over_sizes, active, always, flagged, forever, counts, prints, leaves, lowers_flag, raises_flag, u, v};
 
@@ -17,6 +18,16 @@ pub fn loops_are_found_in_text_order()
     ensures joined { needed_at (0 ∷ 3 ∷ []) (program_of class_B) ≡ codes "out" ∷ [] }
     ensures no_loop { needed_at (0 ∷ 0 ∷ []) (program_of class_B) ≡ [] }
     ensures own_flag { (at : Span) → needed_of (moved at) ≡ [] }
+{}
+
+/// The types with which programs declare the variables of their loops: a list of rows, a number, a set; and the row of a loop that
+/// stands round another, where the other one begins and behind both.
+pub fn variables_are_spelled_where_they_are_declared()
+    ensures list { spelled_at (codes "out") (0 ∷ 1 ∷ []) (program_of class_A) ≡ Some (ListOf (Table (codes "User"))) }
+    ensures number { spelled_at (codes "best") (0 ∷ 1 ∷ []) (program_of class_C) ≡ Some Long }
+    ensures set { spelled_at (codes "names") (0 ∷ 1 ∷ []) (program_of name_set) ≡ Some (SetOf String) }
+    ensures row { spelled_at (codes "u") (0 ∷ 3 ∷ 0 ∷ 0 ∷ []) (program_of class_B) ≡ Some (Table (codes "User")) }
+    ensures behind { spelled_at (codes "u") (0 ∷ 4 ∷ []) (program_of class_B) ≡ None }
 {}
 
 /// In the run `long u = w; long v = u; u = z;` all statements are kept where v is live: v needs u, and so

@@ -42,7 +42,7 @@ same_params : (schema : Schema) (vs : Visible) (ps : List PlainParam) → scope_
 same_params schema vs [] = refl
 same_params schema vs (p ∷ ps) = same_params schema (declared_in vs p.name (type_spelled schema p.ty)) ps
 
-visible_before : (schema : Schema) (g : Types) (s : Statement) → visible_in schema g s [] ≡ Some g
+pub visible_before : (schema : Schema) (g : Types) (s : Statement) → visible_in schema g s [] ≡ Some g
 visible_before schema g (tree.Declare at ty x e) = refl
 visible_before schema g (tree.Assign at x e) = refl
 visible_before schema g (tree.Add at x e) = refl
@@ -57,12 +57,12 @@ visible_before schema g (tree.Break at) = refl
 
 -- ---- What is found in what was found
 
-record FoundIn {A B : Type 0} (f : A → Option B) (o : Option A) (y : B) : Type 0 where
-  value : A
-  is : o ≡ Some value
-  gives : f value ≡ Some y
+pub record FoundIn {A B : Type 0} (f : A → Option B) (o : Option A) (y : B) : Type 0 where
+  pub value : A
+  pub is : o ≡ Some value
+  pub gives : f value ≡ Some y
 
-found_some : {A B : Type 0} (f : A → Option B) (o : Option A) (y : B) → found_in f o ≡ Some y → FoundIn f o y
+pub found_some : {A B : Type 0} (f : A → Option B) (o : Option A) (y : B) → found_in f o ≡ Some y → FoundIn f o y
 found_some f None y e = absurd cc
 found_some f (Some x) y e = record { value = x; is = refl; gives = e }
 
@@ -77,18 +77,18 @@ not_one b = grind (arith, nat_tests)
 none_some : {A : Type 0} (o : Option A) (x : A) → o ≡ None → o ≡ Some x → ⊥
 none_some o x e h = absurd cc
 
-no_first : (b : ℕ) (p q : Statements) → first_branch (suc b) p ≡ Some q → ⊥
+pub no_first : (b : ℕ) (p q : Statements) → first_branch (suc b) p ≡ Some q → ⊥
 no_first b p q = none_some (first_branch (suc b) p) q (ap (λ (t : Bool). if t then Some p else None) (not_zero b))
 
-no_other : (b : ℕ) (p q r : Statements) → either_branch (suc (suc b)) p q ≡ Some r → ⊥
+pub no_other : (b : ℕ) (p q r : Statements) → either_branch (suc (suc b)) p q ≡ Some r → ⊥
 no_other b p q r =
     none_some (either_branch (suc (suc b)) p q) r
     (ap (λ (t : Bool). if t then Some p else (if suc (suc b) == 1 then Some q else None)) (not_zero (suc b)) ∙ ap (λ (t : Bool). if t then Some q else None) (not_one b))
 
-same_body : (p q : Statements) → Some p ≡ Some q → p ≡ q
+pub same_body : (p q : Statements) → Some p ≡ Some q → p ≡ q
 same_body p q e = cc
 
-same_statement : (s t : Statement) → Some s ≡ Some t → s ≡ t
+pub same_statement : (s t : Statement) → Some s ≡ Some t → s ≡ t
 same_statement s t e = cc
 
 module _ (schema : Schema) (read : List ℕ → Option PlainQuery) (r : Option Spelled) where
