@@ -1,5 +1,6 @@
 pub mod BoundSteps
 pub mod BoundTyping
+pub mod TypedAccumulators
 pub mod TypedFragment
 pub mod TypedMembers
 pub mod TypedPlaces

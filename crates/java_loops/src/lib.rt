@@ -1,6 +1,7 @@
 //! What the loops of programs do, one variable at a time, and which statements give way to others.
 #![tactic(auto)]
 
+pub mod accumulators;
 pub mod alone;
 pub mod chains;
 pub mod counting;

@@ -10,7 +10,7 @@ use Rattle.java_loops.specs.Walks.Reads.{Set}
 use Rattle.java_loops.specs.Meant.KeptNumbers.{base_of, dropped_of, kept_set, numbers_setting, kept_numbers}
 use Rattle.java_loops.specs.Walks.Runs as runs
 use Rattle.java_loops.proofs.Walks.EnoughWalks.{all_needed, needed_found}
-use Rattle.loop_text.specs.Statements.Fragment.{Fragment, is_simple, are_simple, accumulators, counter, is_name, is_live, set_by, StandsIn, first, after, IsWanted, live, read, mentioned, IsKept}
+use Rattle.loop_text.specs.Statements.Fragment.{Fragment, is_simple, are_simple, is_live, set_by, StandsIn, first, after, IsWanted, live, read, mentioned, IsKept}
 use Rattle.loop_text.specs.Statements.KeptStatements.{AreKept, none, keeps, drops, with_numbers}
 use Rattle.loop_text.specs.Statements.Names.{Names, is_among, names_in, names_among, mentioned_in}
 use Rattle.loop_text.specs.Sites.Sites.{has_number}

@@ -20,7 +20,6 @@ use Rattle.java_loops.specs.Walks.ChainStarts.{HasColumnAt}
 use Rattle.loop_text.specs.Statements.Fragment.{Fragment}
 use Rattle.loop_text.specs.Kernel.KernelLists as kernel
 use Rattle.loop_text.specs.Kernel.KernelLists.{source_in, source_counted}
-use Rattle.java_loops.specs.Kernel.KernelLists.{broken_lists}
 use Rattle.loop_text.specs.Kernel.KernelLoop.{is_while}
 use Rattle.loop_text.specs.Statements.Loops.{is_loop}
 use Rattle.java_loops.specs.Lowering.Lowered.{keys_of, keys_found, list_of, lists_of}

@@ -74,6 +74,15 @@ parts_fit schema f tables keys tests elements typed members updates =
     all_five (list_all (λ (d : ListDef). nat_lt d.table (length schema)) f.lists) (list_all there (named_places f)) (list_all (atom_is_typed schema f) f.atoms) (list_all (λ (a : Atom). list_all (members_agree schema f a) f.atoms) f.atoms) (list_all (λ (a : Accumulator). update_is_typed schema f a.update) f.accs)
     tables places typed members updates
 
+-- each for-each of one that breaks no rule of the kernel form walks rows of its table
+pub rows_are_walked : (schema : Schema) (read : List ℕ → Option PlainQuery) (p : PlainProgram) (path : List ℕ) (f : Fragment) (g : Types) → IsWellTyped schema read p → (there : FragmentThere schema read p path f g) → broken (setting_of schema read g f) ≡ None → RowsWalked (setting_of schema read g f) (frame_of schema read there.place.method)
+rows_are_walked schema read p path f g well there rules =
+    let w : Setting = setting_of schema read g f in
+    let c : Frame = frame_of schema read there.place.method in
+    let u : Unbroken w = kernel_unbroken w rules in
+    let seen : IsSeenFragment schema read f g = fragment_seen schema read p path f g well there in
+    record { rows = row_walked w c u (rows_here schema read f g seen u c refl) }
+
 -- The lowered fragment of one that breaks no rule of the kernel form fits the schema.
 fragment_typed : (schema : Schema) (read : List ℕ → Option PlainQuery) (p : PlainProgram) (path : List ℕ) (f : Fragment) (g : Types) → IsWellTyped schema read p → FragmentThere schema read p path f g → broken (setting_of schema read g f) ≡ None → is_typed schema (lowering (setting_of schema read g f)).fragment ≡ true
 fragment_typed schema read p path f g well there rules =
@@ -82,7 +91,7 @@ fragment_typed schema read p path f g well there rules =
     let is : Checked w c = checked schema read p path f g well there rules in
     let u : Unbroken w = kernel_unbroken w rules in
     let seen : IsSeenFragment schema read f g = fragment_seen schema read p path f g well there in
-    let walked : RowsWalked w c = record { rows = row_walked w c u (rows_here schema read f g seen u c refl) } in
+    let walked : RowsWalked w c = rows_are_walked schema read p path f g well there rules in
     let needed : NeededUpdated w = updated schema read p path f g well there rules in
     let tests = atoms_typed w c is walked in
     parts_fit schema (lowering w).fragment (tables_there schema read f g seen u) (keys_there schema read f g seen u) (tests_there schema (lowering w).fragment tests) (elements_there w c is walked needed) tests
