@@ -4,6 +4,7 @@ pub mod Arguments
 pub mod Asked
 pub mod Asks
 pub mod Claimed
+pub mod Computed
 pub mod Fitting
 pub mod Keeping
 pub mod Known
