@@ -36,9 +36,9 @@ use Rattle.java_loops.specs.Lowering.Lowered.{needed_in_order}
 use Rattle.java_loops.specs.Meant.GivesWay.{AreAnswers}
 use Rattle.java_loops.specs.Meant.Means.{AreMatched, HasScalar}
 use Rattle.fragments.specs.Asked.{queries_in}
-use Rattle.rewrite_core.specs.Asked.{Place, arguments_of, table_taken, element_of}
+use Rattle.java_loops.specs.Lowering.Spelling.{spelled_at, element_spelled}
+use Rattle.rewrite_core.specs.Asked.{Place, arguments_of, table_taken, spelled_or_text}
 use Rattle.rewrite_core.specs.Asking.{QueriesAreValid}
-use Rattle.rewrite_core.specs.Spelled.{spelled_at}
 use Rattle.rewrite_core.proofs.Answering.{canonical_answers}
 use Rattle.rewrite_core.proofs.Arguments.{arguments_have}
 use Rattle.rewrite_core.proofs.Asks.{emission_of, ask_of, asks_by, Follow, follow_next, follow_here}
@@ -99,7 +99,7 @@ module _ (l : Place) (schema : Schema) (reader : Reader schema) (same : l.settin
       canonical_answers schema reader method world is_world e.query (subst (λ z. IsQueryOf z e.query) same query) xs
       ∙ ap (λ z. Some z) (says k m there base world.db entry given)
       ∙ ap (λ z. Some (emitted.answered z)) (sym is) in
-      asked_value world t.store (place_of w.fragment.loop) (table_taken w m.0.update) (element_of (spelled_at x l.path l.program)) (canonical e.query) (arguments_of (place_of w.fragment.loop) (lowering w).entries e.entries) xs v
+      asked_value world t.store (place_of w.fragment.loop) (table_taken w m.0.update) (spelled_or_text (element_spelled (spelled_at x l.path l.program))) (canonical e.query) (arguments_of (place_of w.fragment.loop) (lowering w).entries e.entries) xs v
       (arguments_have world t.store (place_of w.fragment.loop) lowered.entries (lowering w).entries entry.values typed matched e.entries (entries l.candidate m).there)
       asks m.0.update m.0.opposite (value (with_choices lowered (members lowered l.candidate) begun) lowered.atoms (postcondition m)) is
       (end-fits w.schema lowered world.db entry m.0 v given.database fits ends)

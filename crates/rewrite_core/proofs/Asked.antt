@@ -45,10 +45,9 @@ use Rattle.java_loops.proofs.Meant.MeanGiven.{entries_matched}
 use Rattle.java_loops.proofs.Nested.NestNames.{among_filtered}
 use Rattle.java_loops.proofs.Nested.NestRules.{Unbroken}
 use Rattle.java_loops.proofs.Placing.PlaceLoop.{kernel_unbroken}
-use Rattle.java_loops.proofs.Placing.PlaceTyped.{types_before, FragmentThere}
+use Rattle.java_loops.proofs.Placing.PlaceTyped.{FragmentThere}
 use Rattle.java_loops.proofs.Starts.Start.{IsStarted, accumulator_started}
 use Rattle.java_loops.proofs.Typing.TypedFragment.{fragment_fits}
-use Rattle.java_loops.proofs.Valid.ValidLoop.{Checked}
 use Rattle.java_loops.proofs.Walks.TypedPasses.{run_leaves_typed}
 use Rattle.java_loops.proofs.Walks.Visibility.{TypedParts, typed_parts, typed_past}
 use Rattle.fragments.specs.Asked.{queries_in}
@@ -58,7 +57,7 @@ use Rattle.rewrite_core.specs.Asking.{MayBeAsked}
 use Rattle.rewrite_core.proofs.AllAnswer.{all_answer}
 use Rattle.rewrite_core.proofs.Asks.{emission_of, follow_first, asks_are, starts_asked, asks_read}
 use Rattle.rewrite_core.proofs.Known.{one_matched, known_answers}
-use Rattle.rewrite_core.proofs.Outer.{AreOuter, accumulators_outer}
+use Rattle.rewrite_core.proofs.Outer.{AreOuter, accumulators_there}
 
 module _ (schema : Schema) (reader : Reader schema) (p : PlainProgram) (path : List ℕ) (f : Fragment) (g : Types) (well : IsWellTyped schema reader.read p) (numbers : NumbersFit p) (there : FragmentThere schema reader.read p path f g) (rules : broken (setting_of schema reader.read g f) ≡ None) (candidate : List ℕ) (may : MayBeAsked schema reader.read p path (setting_of schema reader.read g f) candidate) where
   abbrev w : Setting
@@ -67,20 +66,14 @@ module _ (schema : Schema) (reader : Reader schema) (p : PlainProgram) (path : L
   abbrev l : Place
   l = record { program = p; path = path; setting = setting_of schema reader.read g f; candidate = candidate }
 
-  abbrev c : Frame
-  c = frame_of schema reader.read there.place.method
-
   unbroken : Unbroken w
   unbroken = kernel_unbroken w rules
 
   seen : IsSeenFragment schema reader.read f g
   seen = fragment_seen schema reader.read p path f g well there
 
-  checked : Checked w c
-  checked = record { sites = refl; none = rules; schema = refl; at_body = there.typed.loop; after = there.typed.after; typed = there.typed.body }
-
   outer : AreOuter (needed_in_order w) (lowering w).fragment.accs
-  outer = accumulators_outer w c checked unbroken there.typed.loop (types_before schema p path f there.place) there.typed.run
+  outer = accumulators_there schema reader.read p path f g well there rules
 
   -- ---- The fragment
 

@@ -1,5 +1,5 @@
 -- The worked loops give way to their asks, computed.
-use Rattle.std.proofs.Common.{◌≡◌, ℕ, true, false, codes, bytes_eq, List, [], ◌∷◌, length, Option, Some, None, refl, sym, ap, ◌∙◌, subst, arith, is_some}
+use Rattle.std.proofs.Common.{◌≡◌, ℕ, true, false, codes, bytes_eq, List, [], ◌∷◌, length, Option, Some, None, refl, sym, subst, arith, is_some}
 use Rattle.std.specs.Fmt.{digits}
 use Rattle.std.specs.List.{AllByRecursion, IsDistinct, list_all}
 use Rattle.std.proofs.lemmas.Bool.{and_parts}
@@ -25,7 +25,7 @@ use Rattle.java_mean.specs.Worked.{User, Role, staff_schema, users, class_A, cla
 use Rattle.java_types.specs.Texts.{read_by}
 use Rattle.java_types.proofs.Found.{found_exactly}
 use Rattle.loop_text.specs.Statements.KeptStatements.{first_at}
-use Rattle.java_loops.specs.Kernel.Kernel.{broken, lowering, setting_at}
+use Rattle.java_loops.specs.Kernel.Kernel.{lowering}
 use Rattle.java_loops.specs.Kernel.Worked.{program_of}
 use Rattle.java_loops.specs.Meant.Asking.{AskForLoop}
 use Rattle.java_loops.specs.Walks.Replacing.{Ask}

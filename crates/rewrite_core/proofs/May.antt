@@ -17,7 +17,6 @@ use Rattle.sql_emit.specs.Given.{IsHeld, QueryIsCounted}
 use Rattle.sql_emit.specs.Numbered.{Emission, emission}
 use Rattle.sql_emit.proofs.Queries.{grammatical}
 use Rattle.java_ast.specs.Tree.{PlainProgram}
-use Rattle.java_mean.specs.Asks.{frame_of}
 use Rattle.loop_text.specs.Statements.Names.{Names}
 use Rattle.loop_text.specs.Statements.Fragment as source
 use Rattle.java_mean.specs.Types.{Types}
@@ -26,14 +25,13 @@ use Rattle.java_loops.specs.Kernel.Setting.{Setting, setting_of}
 use Rattle.java_loops.specs.Lowering.Lowered.{needed_in_order}
 use Rattle.java_loops.proofs.Lowering.LowerChains.{at_setting}
 use Rattle.java_loops.proofs.Lowering.LowerValid.{fragments_valid}
-use Rattle.java_loops.proofs.Placing.PlaceLoop.{kernel_unbroken}
-use Rattle.java_loops.proofs.Placing.PlaceTyped.{types_before, FragmentThere}
+use Rattle.java_loops.proofs.Placing.PlaceTyped.{FragmentThere}
 use Rattle.java_loops.proofs.Typing.TypedFragment.{fragment_fits}
 use Rattle.fragments.specs.Asked.{queries_in, IsKernelLoop, HasQueriesOf}
 use Rattle.fragments.proofs.Known.KnownLoop.{known_to}
 use Rattle.rewrite_core.specs.Asking.{QueriesAreValid, MayBeAsked}
 use Rattle.rewrite_core.proofs.Asks.{member_accumulator}
-use Rattle.rewrite_core.proofs.Outer.{AreOuter, accumulators_outer}
+use Rattle.rewrite_core.proofs.Outer.{AreOuter, accumulators_there}
 
 -- ---- Accepted candidates
 
@@ -60,13 +58,6 @@ outer_base (x ∷ xs) [] h k a below e = absurd h
 outer_base (x ∷ xs) (b ∷ accs) h zero a below e = let same : b ≡ a = cc in ap (λ (z : Accumulator). z.base) (sym same) ∙ h.0
 outer_base (x ∷ xs) (b ∷ accs) h (suc k) a below e = outer_base xs accs h.2 k a (omega (arith, below)) e
 
--- the accumulators of the needed variables of a loop come first
-outer_there : (schema : Schema) (read : List ℕ → Option PlainQuery) (p : PlainProgram) (path : List ℕ) (f : source.Fragment) (g : Types) → FragmentThere schema read p path f g → broken (setting_of schema read g f) ≡ None → AreOuter (needed_in_order (setting_of schema read g f)) (lowering (setting_of schema read g f)).fragment.accs
-outer_there schema read p path f g there rules =
-    accumulators_outer (setting_of schema read g f) (frame_of schema read there.place.method)
-    (record { sites = refl; none = rules; schema = refl; at_body = there.typed.loop; after = there.typed.after; typed = there.typed.body })
-    (kernel_unbroken (setting_of schema read g f) rules) there.typed.loop (types_before schema p path f there.place) there.typed.run
-
 -- the member from which a query is emitted
 record EmittedFrom (w : Setting) (candidate : List ℕ) (k : ℕ) (e : Emission) : Type 0 where
   member : Member
@@ -85,7 +76,7 @@ module _ (schema : Schema) (read : List ℕ → Option PlainQuery) (p : PlainPro
   valid_there f g there rules loop known counted held k e below emitted =
       let w : Setting = setting_of schema read g f in
       let from : EmittedFrom w candidate k e = emitted_from w candidate k e (slice_get (members (lowering w).fragment candidate) k) refl emitted in
-      let base : from.member.0.base ≡ 0 = outer_base (needed_in_order w) (lowering w).fragment.accs (outer_there schema read p path f g there rules) k from.member.0 below (member_accumulator candidate 0 (lowering w).fragment.accs k from.member from.there) in
+      let base : from.member.0.base ≡ 0 = outer_base (needed_in_order w) (lowering w).fragment.accs (accumulators_there schema read p path f g loop.typed there rules) k from.member.0 below (member_accumulator candidate 0 (lowering w).fragment.accs k from.member from.there) in
       subst (λ (z : Emission). IsQueryOf schema z.query) (same_emission _ e from.is)
       (grammatical schema (lowering w).fragment candidate (queries_in (lowering w).known) (lowering w).arguments k from.member is_schema named
       (fragments_valid schema read p path w loop.typed loop.numbers loop.there loop.unbroken) (fragment_fits schema read p path w loop.typed loop.numbers loop.there loop.unbroken) (known_to schema read p path w loop known) counted held from.there base)

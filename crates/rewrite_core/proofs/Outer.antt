@@ -7,37 +7,40 @@ use Rattle.qbs_base.specs.declared.scalar.Scalar.TheVariants as scalars
 use Rattle.qbs_base.specs.declared.scalar.Ty.{Ty}
 use Rattle.qbs_base.specs.declared.scalar.Ty.TheVariants as tys
 use Rattle.qbs_base.specs.declared.scalar.Value.{Value}
-use Rattle.qbs_base.specs.Values.{HasTy}
+use Rattle.qbs_base.specs.Values.{Schema, HasTy}
 use Rattle.kernel_lang.specs.declared.parts.Update.{Update}
 use Rattle.kernel_lang.specs.declared.parts.Update.TheVariants as updates
 use Rattle.kernel_lang.specs.Ends.{ScalarFits, StartFits}
 use Rattle.kernel_lang.specs.Plain.{Accumulator}
+use Rattle.sql_ast.specs.Tree.{PlainQuery}
 use Rattle.sql_ast.proofs.Combinations.{all_append}
-use Rattle.java_ast.specs.Tree.{Expression, Statement}
+use Rattle.java_ast.specs.Tree.{Expression, PlainProgram}
+use Rattle.java_mean.specs.Asks.{frame_of}
 use Rattle.java_mean.specs.declared.types.JavaType.{JavaType}
+use Rattle.java_mean.specs.WellTyped.{IsWellTyped}
 use Rattle.java_mean.specs.Types.{Types}
 use Rattle.java_mean.specs.Typing as typing
 use Rattle.java_mean.specs.Typing.{Frame, HasType, TypedStatements}
 use Rattle.loop_text.specs.Kernel.KernelStarts.{Numbered, update_of, update_of_flag, form_found}
-use Rattle.loop_text.specs.Sites.Sites.{Round, Site, outside, declared_name}
-use Rattle.loop_text.specs.Statements.Fragment.{accumulators, needed_of}
+use Rattle.loop_text.specs.Sites.Sites.{Round, Site, declared_name}
+use Rattle.loop_text.specs.Statements.Fragment.{Fragment, accumulators, needed_of}
 use Rattle.loop_text.specs.Statements.Names.{Names}
 use Rattle.loop_text.specs.Statements.Setting.{first_touching}
-use Rattle.java_loops.specs.Kernel.Kernel.{lowering}
-use Rattle.java_loops.specs.Kernel.Setting.{Setting}
+use Rattle.java_loops.specs.Kernel.Kernel.{broken, lowering}
+use Rattle.java_loops.specs.Kernel.Setting.{Setting, setting_of}
 use Rattle.java_loops.specs.Lowering.Lowered.{start_with, literal_given, literal_by, update_with, accumulator_of, outer_accumulators, flag_here, flags_from, needed_in_order}
 use Rattle.java_loops.specs.Lowering.Numbering.{numbers_of}
 use Rattle.java_loops.proofs.Known.KnownAnswers.{GivenTyped, given_typed}
+use Rattle.java_loops.proofs.Lowering.LowerChains.{checked}
 use Rattle.java_loops.proofs.Meant.MeanChains.{conditions_at, flags_at, IsNeeded, all_needed}
-use Rattle.java_loops.proofs.Nested.NestCounter.{Kind, each, counts, loop_kind}
 use Rattle.java_loops.proofs.Nested.NestNames.{among_filtered}
 use Rattle.java_loops.proofs.Nested.NestRules.{Unbroken}
+use Rattle.java_loops.proofs.Placing.PlaceLoop.{kernel_unbroken}
 use Rattle.java_loops.proofs.Placing.PlaceRuns.{gives}
-use Rattle.java_loops.proofs.Standing.Standing.{site_of}
-use Rattle.java_loops.proofs.Standing.StandingSites.{loop_first}
+use Rattle.java_loops.proofs.Placing.PlaceTyped.{types_before, FragmentThere}
 use Rattle.java_loops.proofs.Starts.Start.{StartsAs, IsStarted, IsStart, accumulator_started, start_of}
-use Rattle.java_loops.proofs.Valid.ValidAccumulators.{inside_loop_at, under_positive}
 use Rattle.java_loops.proofs.Valid.ValidLoop.{Checked}
+use Rattle.java_loops.proofs.Valid.ValidPositions.{declared_inside}
 
 -- ---- Starts
 
@@ -90,32 +93,14 @@ positive_next : (n : ℕ) → 0 < n → (k : ℕ) × (n ≡ suc k)
 positive_next zero h = absurd (omega (arith, h))
 positive_next (suc n) h = (n, refl)
 
-some_name : (x : List ℕ) → None ≡ Some x → ⊥
-some_name x e = absurd cc
-
-loop_declares : (w : Setting) (s : Statement) → Kind w.fragment s → (x : List ℕ) → declared_name s ≡ Some x → ⊥
-loop_declares w _ (each at ty y e b) x h = some_name x h
-loop_declares w _ (counts at q b k e i z) x h = some_name x h
-
-same_statement : (a b : Site) → Some a ≡ Some b → a.statement ≡ b.statement
-same_statement a b e = let same : a ≡ b = cc in ap (λ (z : Site). z.statement) same
-
-module _ (w : Setting) (c : Frame) (checked : Checked w c) (unbroken : Unbroken w) where
-  -- what is declared in a loop stands in it
-  declared_inside : (d : ℕ) (s : Site) (x : List ℕ) → slice_get w.sites d ≡ Some s → declared_name s.statement ≡ Some x → (n : ℕ) × (length s.round.loops ≡ suc n)
-  declared_inside zero s x there name =
-      let first : Some (site_of outside None w.fragment.loop) ≡ Some s = sym (ap (λ z. slice_get z 0) checked.sites ∙ loop_first w.fragment.loop) ∙ there in
-      let same : w.fragment.loop ≡ s.statement = same_statement (site_of outside None w.fragment.loop) s first in
-      absurd (loop_declares w s.statement (subst (Kind w.fragment) same (loop_kind w unbroken)) x name)
-  declared_inside (suc d) s x there name = positive_next (length s.round.loops) (under_positive s.round (inside_loop_at w c checked (suc d) s (omega arith) there))
-
+module _ (w : Setting) (c : Frame) (is : Checked w c) (unbroken : Unbroken w) where
   flag_inner : (y : List ℕ) (r : Round) (o : Option Numbered) → (n : ℕ) × (length r.loops ≡ suc n) → AllByRecursion IsInLoop (accumulator_of w (numbers_of w) (conditions_at w) y (length r.loops) o)
   flag_inner y r None deep = tt
   flag_inner y r (Some u) deep = (deep, tt)
 
   here_inner : (d : ℕ) (s : Site) (o : Option (List ℕ)) → slice_get w.sites d ≡ Some s → declared_name s.statement ≡ o → AllByRecursion IsInLoop (flag_here w (numbers_of w) (conditions_at w) d s.round o)
   here_inner d s None there name = tt
-  here_inner d s (Some x) there name = flag_inner x s.round (update_of_flag w.sites d) (declared_inside d s x there name)
+  here_inner d s (Some x) there name = flag_inner x s.round (update_of_flag w.sites d) (positive_next (length s.round.loops) (declared_inside w c is d s x there name))
 
   flags_inner : (d : ℕ) (ss : List Site) → ((i m : ℕ) (s : Site) → d + i ≡ m → slice_get ss i ≡ Some s → slice_get w.sites m ≡ Some s) → AllByRecursion IsInLoop (flags_from w (numbers_of w) (conditions_at w) d ss)
   flags_inner d [] h = tt
@@ -160,6 +145,10 @@ module _ (w : Setting) (c : Frame) (checked : Checked w c) (unbroken : Unbroken 
     same_number : (i m : ℕ) (s : Site) → 0 + i ≡ m → slice_get w.sites i ≡ Some s → slice_get w.sites m ≡ Some s
     same_number i m s e there = let same : i ≡ m = omega arith in subst (λ k. slice_get w.sites k ≡ Some s) same there
 
-    -- The accumulators of a lowered fragment are those of its needed variables, and behind them flags.
-    pub accumulators_outer : AreOuter (needed_in_order w) (lowering w).fragment.accs
+    accumulators_outer : AreOuter (needed_in_order w) (lowering w).fragment.accs
     accumulators_outer = all_outer (needed_in_order w) (all_needed (needed_of w.fragment) w.fragment.run) (flags_inner 0 w.sites (λ i m s e there. same_number i m s e there))
+
+-- The accumulators of a lowered fragment are those of its needed variables, and behind them flags.
+pub accumulators_there : (schema : Schema) (read : List ℕ → Option PlainQuery) (p : PlainProgram) (path : List ℕ) (f : Fragment) (g : Types) → IsWellTyped schema read p → FragmentThere schema read p path f g → broken (setting_of schema read g f) ≡ None → AreOuter (needed_in_order (setting_of schema read g f)) (lowering (setting_of schema read g f)).fragment.accs
+accumulators_there schema read p path f g well there rules =
+    accumulators_outer (setting_of schema read g f) (frame_of schema read there.place.method) (checked schema read p path f g well there rules) (kernel_unbroken (setting_of schema read g f) rules) there.typed.loop (types_before schema p path f there.place) there.typed.run

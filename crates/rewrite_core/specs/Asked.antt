@@ -11,7 +11,7 @@ use Rattle.sql_ast.specs.Canonical.{canonical}
 use Rattle.sql_emit.specs.Numbered.{Emission, emitted}
 use Rattle.sql_emit.specs.Scopes.{def_of, table_name}
 use Rattle.java_ast.specs.Placed.{placed}
-use Rattle.java_ast.specs.Tree.{Spelled, ListOf, SetOf, Table, String, Expression, Query, QueryLong, QueryBoolean, NewList, NewSetOf, Expressions, NoMore, And, Statement, PlainProgram}
+use Rattle.java_ast.specs.Tree.{Spelled, Table, String, Expression, Query, QueryLong, QueryBoolean, NewList, NewSetOf, Expressions, NoMore, And, Statement, PlainProgram}
 use Rattle.loop_text.specs.Sites.Sites.{place_of}
 use Rattle.loop_text.specs.Statements.KeptStatements.{first_at}
 use Rattle.loop_text.specs.Statements.Names.{Names}
@@ -19,19 +19,18 @@ use Rattle.loop_text.specs.Statements.Setting.{first_touching}
 use Rattle.java_loops.specs.Kernel.Kernel.{lowering}
 use Rattle.java_loops.specs.Kernel.Setting.{Setting}
 use Rattle.java_loops.specs.Lowering.Lowered.{needed_in_order, names_read}
+use Rattle.java_loops.specs.Lowering.Spelling.{spelled_at, element_spelled}
 use Rattle.java_loops.specs.Meant.Asking.{spelled_by, rewritten_at}
 use Rattle.java_loops.specs.Meant.KeptNumbers.{kept_numbers}
 use Rattle.java_loops.specs.Walks.Replacing.{Ask}
 use Rattle.fragments.specs.Asked.{queries_in}
-use Rattle.rewrite_core.specs.Spelled.{spelled_at}
 
 -- ---- Expressions
 
 -- the element type of a list or set as it is spelled; no accumulator is added to that is neither
-abbrev pub element_of : Option Spelled → Spelled
-element_of (Some (ListOf e)) = e
-element_of (Some (SetOf e)) = e
-element_of _ = String
+abbrev pub spelled_or_text : Option Spelled → Spelled
+spelled_or_text (Some e) = e
+spelled_or_text None = String
 
 -- the expression of an entry value, where the loop stands; no parameter takes the value of an entry that isn't there
 abbrev pub entry_at : Span → Option Expression → Expression
@@ -80,7 +79,7 @@ table_taken w _ = []
 -- the value of the ask for a variable that is declared as spelled, by its update and the query that is emitted for it
 abbrev pub value_asked : Setting → Option Spelled → Update → Emission → Expression
 value_asked w ty u e =
-    value_by (place_of w.fragment.loop) u (table_taken w u) (element_of ty) (canonical e.query) (arguments_of (place_of w.fragment.loop) (lowering w).entries e.entries)
+    value_by (place_of w.fragment.loop) u (table_taken w u) (spelled_or_text (element_spelled ty)) (canonical e.query) (arguments_of (place_of w.fragment.loop) (lowering w).entries e.entries)
 
 -- the ask for a variable, where its accumulator is there and a query is emitted for it
 abbrev pub ask_with : Place → List ℕ → Option Accumulator → Option Emission → List Ask
