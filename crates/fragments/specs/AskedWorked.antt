@@ -8,9 +8,10 @@ use Rattle.sql_ast.specs.declared.tree.SqlColumn.TheVariants as columns
 use Rattle.sql_ast.specs.declared.tree.SqlItem.TheVariants as items
 use Rattle.sql_ast.specs.declared.tree.SqlOpnd.TheVariants as opnds
 use Rattle.sql_ast.specs.Tree.{Compare, Where, PlainQuery, Listing}
+use Rattle.sql_ast.specs.Worked.{staff_schema}
 use Rattle.java_ast.specs.declared.tree.Access.TheVariants as access
 use Rattle.java_ast.specs.Tree.{ListOf, BoxedLong, String, Var, Query, Contains, NewList, Fetch, NoMore, And, Add, If, PlainProgram}
-use Rattle.java_mean.specs.Worked.{User, Role, users, u, out, somewhere, staff_schema, block, field, declare, for_each, give}
+use Rattle.java_mean.specs.Worked.{User, Role, users, u, out, somewhere, block, field, declare, for_each, give}
 use Rattle.java_types.specs.Texts.{read_by}
 use Rattle.java_loops.specs.Kernel.Kernel.{lowering}
 use Rattle.java_loops.specs.Kernel.Setting.{Setting}

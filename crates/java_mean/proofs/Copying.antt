@@ -22,7 +22,8 @@ use Rattle.java_mean.specs.Statement.{State, Passed, GoesOn, Leaves, Returns, Do
 use Rattle.java_mean.specs.Store.{Store, Variable, put, plainly}
 use Rattle.java_mean.specs.Types.{JavaType, Types, with_type, type_spelled, types_of_params}
 use Rattle.java_mean.specs.WellTyped.{IsWellTyped}
-use Rattle.java_mean.specs.Worked.{User, staff_schema, users, u, out, somewhere}
+use Rattle.sql_ast.specs.Worked.{staff_schema}
+use Rattle.java_mean.specs.Worked.{User, users, u, out, somewhere}
 use Rattle.java_mean.specs.World.{World}
 use Rattle.java_mean.proofs.Fewer.{fewer_with}
 use Rattle.java_mean.proofs.Numbered.{rows_of_table}

@@ -11,10 +11,9 @@ use Rattle.qbs_base.specs.declared.scalar.Row.{Row}
 use Rattle.qbs_base.specs.declared.scalar.Value.TheVariants.{Many}
 use Rattle.qbs_base.specs.declared.columns.Column.{Column}
 use Rattle.qbs_base.specs.Values.{Schema, Database, HasTy, AreCells, IsRowOf}
-use Rattle.qbs_base.specs.Tables.{NamedRows}
+use Rattle.qbs_base.specs.Tables.{NamedRows, rows_of}
 use Rattle.std.specs.Option.{option_map}
 use Rattle.sql_ast.specs.Tree.{PlainQuery}
-use Rattle.sql_ast.specs.Meaning.{rows_of}
 use Rattle.java_ast.specs.Tree.{PlainMethod, PlainProgram}
 use Rattle.java_mean.specs.Queries.{Reader, HasQuery, Rows, query_answer}
 use Rattle.java_mean.specs.Outcome.{Done, world}

@@ -10,13 +10,14 @@ use Rattle.qbs_base.specs.declared.scalar.Row.{Row}
 use Rattle.qbs_base.specs.Scalar.{scalar_same, compared}
 use Rattle.qbs_base.specs.Sort.{put_in, stable_sort, Rises}
 use Rattle.qbs_base.specs.Values.{Schema, Database}
+use Rattle.qbs_base.specs.Tables.{rows_of}
 use Rattle.sql_ast.specs.declared.tree.SqlKey.{SqlKey}
 use Rattle.sql_ast.specs.declared.tree.SqlColumn.TheVariants as columns
 use Rattle.sql_ast.specs.declared.tree.SqlItem.TheVariants as items
 use Rattle.sql_ast.specs.declared.tree.Cmp.TheVariants as cmps
 use Rattle.sql_ast.specs.declared.tree.SqlOpnd.TheVariants as operands
 use Rattle.sql_ast.specs.Tree.{Where, Compare}
-use Rattle.sql_ast.specs.Meaning.{Place, Combination, Rows, before, key_before, passes, item_of, rows_of, true_ones, query_answer}
+use Rattle.sql_ast.specs.Meaning.{Place, Combination, Rows, before, key_before, passes, item_of, true_ones, query_answer}
 use Rattle.java_mean.specs.Expression.{cell}
 use Rattle.java_mean.specs.FirstForm.{selection, is_collected}
 

@@ -5,7 +5,8 @@ use Rattle.std.specs.declared.option.Option.TheVariants.{Some, None}
 use Rattle.java_ast.specs.Tree.{Var, Fetch, NewList, Add, Statements, PlainMethod, PlainProgram}
 use Rattle.java_mean.specs.Refines.{Hole, Here, with_part}
 use Rattle.java_mean.specs.Types.{Types, with_type, type_spelled}
-use Rattle.java_mean.specs.Worked.{User, staff_schema, users, u, out, somewhere, block, declare, for_each, give, method}
+use Rattle.sql_ast.specs.Worked.{staff_schema}
+use Rattle.java_mean.specs.Worked.{User, users, u, out, somewhere, block, declare, for_each, give, method}
 
 -- List<User> users = db.fetch(User.class); List<User> out = new ArrayList<>();
 -- for (User u : users) { out.add(u); }

@@ -1,5 +1,5 @@
 -- The type rules, each a definition of its own: where a place of a program breaks it.
-use Rattle.std.specs.Prelude.{ℕ, zero, suc, Bool, true, false, not, ◌&&◌, ◌||◌, List, [], ◌∷◌, ◌++◌, length, codes, nat_eq, bytes_eq, slice_get, if◌then◌else◌}
+use Rattle.std.specs.Prelude.{ℕ, Bool, true, false, not, ◌&&◌, ◌||◌, List, [], ◌∷◌, ◌++◌, codes, nat_eq, bytes_eq, slice_get, if◌then◌else◌}
 use Rattle.std.specs.List.{list_any}
 use Rattle.std.specs.Option.{option_map}
 use Rattle.std.specs.declared.option.Option.{Option}
@@ -11,8 +11,7 @@ use Rattle.qbs_base.specs.declared.scalar.Ty.{Ty}
 use Rattle.qbs_base.specs.declared.scalar.Ty.TheVariants as tys
 use Rattle.qbs_base.specs.declared.span.Span.{Span}
 use Rattle.qbs_base.specs.Values.{Schema}
-use Rattle.sql_ast.specs.declared.tree.SqlKey.{SqlKey}
-use Rattle.sql_ast.specs.Keys.{is_grouped, names_position}
+use Rattle.sql_ast.specs.Answers.{is_order_complete}
 use Rattle.sql_ast.specs.Tree.{PlainQuery, Listing, Number, Truth}
 use Rattle.java_ast.specs.declared.tree.Op.{Op}
 use Rattle.java_ast.specs.declared.tree.Op.TheVariants as ops
@@ -422,14 +421,9 @@ bad_query schema read _ = []
 
 -- ---- 8. UnorderedQuery: a query of a list is order complete
 
--- the keys name `_pos` of the first FROM items, as many as the number says
-abbrev pub name_positions : ℕ → List SqlKey → Bool
-name_positions zero keys = true
-name_positions (suc n) keys = list_any (names_position (suc n)) keys && name_positions n keys
-
 abbrev pub has_order : Option PlainQuery → Bool
-has_order (Some (Listing q)) = is_grouped q || name_positions (length q.from) q.keys
-has_order _ = true
+has_order (Some q) = is_order_complete q
+has_order None = true
 
 abbrev pub unordered_query : (List ℕ → Option PlainQuery) → Place → List Span
 unordered_query read (value vs (Query at ty text es)) = only_if (not (has_order (read text))) at

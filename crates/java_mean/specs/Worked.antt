@@ -9,7 +9,7 @@ use Rattle.qbs_base.specs.declared.scalar.Kind.TheVariants as kinds
 use Rattle.qbs_base.specs.declared.scalar.Row.{Row}
 use Rattle.qbs_base.specs.declared.scalar.Value.TheVariants.{One, Many}
 use Rattle.qbs_base.specs.declared.columns.Column.{Column}
-use Rattle.qbs_base.specs.Values.{Schema, Database}
+use Rattle.sql_ast.specs.Worked.{staff_schema, staff_tables}
 use Rattle.java_ast.specs.declared.tree.Access.TheVariants as access
 use Rattle.java_ast.specs.declared.tree.Op.{Op}
 use Rattle.java_ast.specs.declared.tree.Op.TheVariants as ops
@@ -34,45 +34,8 @@ Role = codes "Role"
 abbrev pub Pay : List ℕ
 Pay = codes "Pay"
 
-abbrev pub user : ℕ → List ℕ → ℕ → ℕ → Bool → Row
-user id name role age active =
-    record { kind = kinds.Table 0; cells = long id ∷ text name ∷ long role ∷ long age ∷ scalars.Bool active ∷ [] }
-
-abbrev pub role : ℕ → List ℕ → Row
-role id label = record { kind = kinds.Table 1; cells = long id ∷ text label ∷ [] }
-
-abbrev pub ann : Row
-ann = user 1 (codes "ann") 2 30 true
-
-abbrev pub bob : Row
-bob = user 2 (codes "bob") 1 25 false
-
-abbrev pub cat : Row
-cat = user 3 (codes "cat") 2 41 true
-
-abbrev pub ann_again : Row
-ann_again = user 4 (codes "ann") 3 19 true
-
-abbrev pub dan : Row
-dan = user 5 (codes "dan") 1 25 false
-
 abbrev column : List ℕ → Ty → Column
 column name ty = record { name = name; ty = ty }
-
-abbrev pub staff_schema : Schema
-staff_schema =
-    record {
-      name = User;
-      columns = column (codes "id") tys.Long ∷ column (codes "name") tys.Text ∷ column (codes "roleId") tys.Long ∷ column (codes "age") tys.Long ∷ column (codes "active") tys.Bool ∷ [];
-    }
-    ∷ record { name = Role; columns = column (codes "id") tys.Long ∷ column (codes "label") tys.Text ∷ [] }
-    ∷ []
-
-abbrev pub staff_tables : Database
-staff_tables =
-    (User, ann ∷ bob ∷ cat ∷ ann_again ∷ dan ∷ [])
-    ∷ (Role, role 1 (codes "admin") ∷ role 2 (codes "staff") ∷ role 2 (codes "crew") ∷ [])
-    ∷ []
 
 abbrev pub staff : World
 staff = record { schema = staff_schema; db = staff_tables; ask = λ text args. None }

@@ -15,7 +15,8 @@ ghost use Rattle.java_mean.specs.Queries.{Reader};
 ghost use Rattle.java_mean.specs.Refines.{GivesWay};
 ghost use Rattle.java_mean.specs.Types.{types_of_params, types_past};
 ghost use Rattle.java_mean.specs.WellTyped.{IsWellTyped};
-ghost use Rattle.java_mean.specs.Worked.{staff, payments, ann, bob, cat, ann_again, dan, long, text, sum_place, class_A, class_B, class_B_turned, class_C, class_D, class_E, class_H, class_J, class_W, forever, name_set, stops_early, user_at, literal, staff_schema, out, u, rows_done, scalar_done};
+ghost use Rattle.sql_ast.specs.Worked.{ann, bob, cat, ann_again, dan, staff_schema};
+ghost use Rattle.java_mean.specs.Worked.{staff, payments, long, text, sum_place, class_A, class_B, class_B_turned, class_C, class_D, class_E, class_H, class_J, class_W, forever, name_set, stops_early, user_at, literal, out, u, rows_done, scalar_done};
 ghost use Rattle.java_mean.specs.Asked.{asking, staff_text, staff_query, class_A_asking, sum_text, sum_query, loop_place, class_D_asking, count_text, count_query, class_J_asking, names_text, names_query, name_set_asking};
 
 /// Loops that collect, join, find the greatest and add up.

@@ -6,6 +6,5 @@ pub mod Found
 pub mod Kept
 pub mod Lent
 pub mod Nodes
-pub mod Orders
 pub mod Passed
 pub mod Scoped

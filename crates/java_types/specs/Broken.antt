@@ -9,7 +9,8 @@ use Rattle.java_ast.specs.Tree.{Spelled, Long, Boolean, String, Expression, Lit,
 use Rattle.java_mean.specs.declared.rule.TypeRule.{TypeRule}
 use Rattle.java_mean.specs.declared.rule.TypeFault.{TypeFault}
 use Rattle.java_mean.specs.WellTyped.{all_faults}
-use Rattle.java_mean.specs.Worked.{User, u, users, staff_schema, block}
+use Rattle.sql_ast.specs.Worked.{staff_schema}
+use Rattle.java_mean.specs.Worked.{User, u, users, block}
 use Rattle.java_types.specs.Texts.{read_by}
 
 -- ---- Places and faults

@@ -20,7 +20,7 @@ use Rattle.qbs_base.specs.Places.{first_place, next_place, place_after, between}
 use Rattle.java_lex.specs.Pieces.{checked, line_comment, comment_len, comment_up_to, block_comment, Body, closed, unclosed, bad, behind, body_from, literal_of, literal_behind, name_at, digits_len, integer_of, integer_at, sign_len, sign_of, sign_at, slashed, piece_of}
 use Rattle.java_lex.specs.Lexing.{token_at, with_token, tokens_by, tokens_from, ended, lexed}
 use Rattle.sql_ast.specs.Tokens.{is_name}
-use Rattle.sql_ast.specs.Tokens as sql
+use Rattle.qbs_base.specs.Bytes as sql
 use Rattle.qbs.specs.Form.{nodes_of}
 
 -- what a token says, where it is a word or a number

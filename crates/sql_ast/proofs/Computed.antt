@@ -7,19 +7,19 @@ use Rattle.sql_ast.specs.Lexer.{tokens_in}
 use Rattle.sql_ast.specs.Meaning.{Answered, query_answer}
 use Rattle.sql_ast.specs.Reader.{listed_at, atom_at, negation_in, joined_from, conjunction_at, condition_at, query_of_text}
 use Rattle.sql_ast.specs.Tree.{PlainQuery}
-use Rattle.sql_ast.specs.Worked.{schema, db, Answering, WorkedLists, WorkedNumbers, WorkedFaults, Worked}
+use Rattle.sql_ast.specs.Worked.{Answering, WorkedLists, WorkedNumbers, WorkedFaults, Worked, staff_schema, staff_tables}
 use Rattle.sql_ast.proofs.Judged.{query_exactly, rule_exactly}
 use Rattle.sql_ast.proofs.Tools.{some_is}
 
 abbrev answer_in : List Scalar → Result PlainQuery SqlRule → Option Answered
-answer_in params (Ok q) = Some (query_answer db params q)
+answer_in params (Ok q) = Some (query_answer staff_tables params q)
 answer_in params (Err rule) = None
 
-answering : (query : List ℕ) (params : List Scalar) (answer : Answered) → answer_in params (query_of_text schema query) ≡ Some answer → Answering query params answer
-answering query params answer e = go (query_of_text schema query) refl e
+answering : (query : List ℕ) (params : List Scalar) (answer : Answered) → answer_in params (query_of_text staff_schema query) ≡ Some answer → Answering query params answer
+answering query params answer e = go (query_of_text staff_schema query) refl e
   where
-    go : (r : Result PlainQuery SqlRule) → query_of_text schema query ≡ r → answer_in params r ≡ Some answer → Answering query params answer
-    go (Ok q) h e = record { q = q; has = (query_exactly schema query q).1 h; answers = some_is (query_answer db params q) answer e }
+    go : (r : Result PlainQuery SqlRule) → query_of_text staff_schema query ≡ r → answer_in params r ≡ Some answer → Answering query params answer
+    go (Ok q) h e = record { q = q; has = (query_exactly staff_schema query q).1 h; answers = some_is (query_answer staff_tables params q) answer e }
     go (Err rule) h e = absurd cc
 
 lists : WorkedLists
@@ -65,25 +65,25 @@ numbers = record {
 faults : WorkedFaults
 unfolding tokens_in listed_at atom_at negation_in joined_from conjunction_at condition_at
 faults = record {
-  two_counted = (rule_exactly schema (codes "SELECT COUNT(*) FROM User, Role") _).1 refl;
-  not_one = (rule_exactly schema (codes "SELECT EXISTS (SELECT 01 FROM User)") _).1 refl;
-  unbalanced = (rule_exactly schema (codes "SELECT * FROM User WHERE (age = 1 ORDER BY _pos") _).1 refl;
-  comment = (rule_exactly schema (codes "SELECT * FROM User -- all") _).1 refl;
-  open_quote = (rule_exactly schema (codes "SELECT * FROM User WHERE name = 'ann") _).1 refl;
-  large_limit = (rule_exactly schema (codes "SELECT * FROM User ORDER BY _pos LIMIT 9223372036854775808") _).1 refl;
-  least_down = (rule_exactly schema (codes "SELECT name FROM User GROUP BY name ORDER BY MIN(_pos) DESC") _).1 refl;
-  no_table = (rule_exactly schema (codes "SELECT * FROM Nobody") _).1 refl;
-  no_column = (rule_exactly schema (codes "SELECT label FROM User") _).1 refl;
-  two_items = (rule_exactly schema (codes "SELECT name FROM User, Role") _).1 refl;
-  equal_aliases = (rule_exactly schema (codes "SELECT u.name FROM User u, Role u") _).1 refl;
-  other_type = (rule_exactly schema (codes "SELECT * FROM User WHERE age = 'x'") _).1 refl;
-  no_order_of_truths = (rule_exactly schema (codes "SELECT * FROM User WHERE active < TRUE") _).1 refl;
-  no_truth = (rule_exactly schema (codes "SELECT * FROM User WHERE name") _).1 refl;
-  other_group = (rule_exactly schema (codes "SELECT name FROM User GROUP BY age ORDER BY MIN(_pos)") _).1 refl;
-  least_of_no_group = (rule_exactly schema (codes "SELECT name FROM User ORDER BY MIN(_pos)") _).1 refl;
-  gap = (rule_exactly schema (codes "SELECT * FROM User WHERE age = ?2") _).1 refl;
-  compared_with_none = (rule_exactly schema (codes "SELECT * FROM User WHERE ?1 = ?1") _).1 refl;
-  two_types = (rule_exactly schema (codes "SELECT * FROM User WHERE age = ?1 AND name = ?1") _).1 refl;
+  two_counted = (rule_exactly staff_schema (codes "SELECT COUNT(*) FROM User, Role") _).1 refl;
+  not_one = (rule_exactly staff_schema (codes "SELECT EXISTS (SELECT 01 FROM User)") _).1 refl;
+  unbalanced = (rule_exactly staff_schema (codes "SELECT * FROM User WHERE (age = 1 ORDER BY _pos") _).1 refl;
+  comment = (rule_exactly staff_schema (codes "SELECT * FROM User -- all") _).1 refl;
+  open_quote = (rule_exactly staff_schema (codes "SELECT * FROM User WHERE name = 'ann") _).1 refl;
+  large_limit = (rule_exactly staff_schema (codes "SELECT * FROM User ORDER BY _pos LIMIT 9223372036854775808") _).1 refl;
+  least_down = (rule_exactly staff_schema (codes "SELECT name FROM User GROUP BY name ORDER BY MIN(_pos) DESC") _).1 refl;
+  no_table = (rule_exactly staff_schema (codes "SELECT * FROM Nobody") _).1 refl;
+  no_column = (rule_exactly staff_schema (codes "SELECT label FROM User") _).1 refl;
+  two_items = (rule_exactly staff_schema (codes "SELECT name FROM User, Role") _).1 refl;
+  equal_aliases = (rule_exactly staff_schema (codes "SELECT u.name FROM User u, Role u") _).1 refl;
+  other_type = (rule_exactly staff_schema (codes "SELECT * FROM User WHERE age = 'x'") _).1 refl;
+  no_order_of_truths = (rule_exactly staff_schema (codes "SELECT * FROM User WHERE active < TRUE") _).1 refl;
+  no_truth = (rule_exactly staff_schema (codes "SELECT * FROM User WHERE name") _).1 refl;
+  other_group = (rule_exactly staff_schema (codes "SELECT name FROM User GROUP BY age ORDER BY MIN(_pos)") _).1 refl;
+  least_of_no_group = (rule_exactly staff_schema (codes "SELECT name FROM User ORDER BY MIN(_pos)") _).1 refl;
+  gap = (rule_exactly staff_schema (codes "SELECT * FROM User WHERE age = ?2") _).1 refl;
+  compared_with_none = (rule_exactly staff_schema (codes "SELECT * FROM User WHERE ?1 = ?1") _).1 refl;
+  two_types = (rule_exactly staff_schema (codes "SELECT * FROM User WHERE age = ?1 AND name = ?1") _).1 refl;
 }
 
 pub worked : Worked

@@ -1,13 +1,14 @@
 -- What a text's names stand for is known under the schema.
 use Rattle.std.proofs.Common.{◌≡◌, ℕ, zero, suc, ◌+◌, ◌<◌, ◌≤◌, ◌^◌, Bool, true, false, cond, List, [], ◌∷◌, ◌++◌, map, length, codes, Option, Some, None, refl, sym, ap, ◌∙◌, subst, arith, length-append}
 use Rattle.std.specs.List.{AllByRecursion}
-use Rattle.std.specs.Prelude.{slice_get, position}
+use Rattle.std.specs.Prelude.{slice_get}
 use Rattle.std.specs.Str.{bytes_eq}
 use Rattle.std.proofs.lemmas.Slice.Eq.{bytes_eq-Decides}
 use Rattle.std.proofs.lemmas.List.{map-append, length-map}
 use Rattle.qbs_base.specs.declared.columns.Column.{Column}
 use Rattle.qbs_base.specs.declared.columns.Table.{Table}
 use Rattle.qbs_base.specs.declared.scalar.Scalar.TheVariants as scalars
+use Rattle.qbs_base.specs.Columns.{table_number, column_number}
 use Rattle.qbs_base.specs.Values.{Schema}
 use Rattle.sql_ast.specs.declared.tree.Cmp.{Cmp}
 use Rattle.sql_ast.specs.declared.tree.Cmp.TheVariants as tests
@@ -120,9 +121,9 @@ nth_all P xs (suc n) x a e = all_at P xs n x a e
 column_is : (held : List Column) (name : List ℕ) (column : SqlColumn) → column_named held name ≡ Some column → column_text column ≡ name
 column_is held name column e = go (bytes_eq name (codes "_pos")) refl e
   where
-    go : (b : Bool) → bytes_eq name (codes "_pos") ≡ b → cond b (let x : Option SqlColumn = Some columns.Pos in x) (position (λ c. bytes_eq c.name name) held >>= λ number. (let x : Option SqlColumn = Some (columns.Named name number) in x)) ≡ Some column → column_text column ≡ name
+    go : (b : Bool) → bytes_eq name (codes "_pos") ≡ b → cond b (let x : Option SqlColumn = Some columns.Pos in x) (column_number held name >>= λ number. (let x : Option SqlColumn = Some (columns.Named name number) in x)) ≡ Some column → column_text column ≡ name
     go true h e = ap column_text (sym (some_is columns.Pos column e)) ∙ sym ((bytes_eq-Decides name (codes "_pos")).0 h)
-    go false h e = let r = bind_some (position (λ c. bytes_eq c.name name) held) (λ number. (let x : Option SqlColumn = Some (columns.Named name number) in x)) column e in ap column_text (sym (some_is (columns.Named name r.0) column r.2))
+    go false h e = let r = bind_some (column_number held name) (λ number. (let x : Option SqlColumn = Some (columns.Named name number) in x)) column e in ap column_text (sym (some_is (columns.Named name r.0) column r.2))
 
 col_word : (ts : List Token) (col : WrittenCol) → HasCol ts col → AreForms ts → IsWord col.name
 col_word ts col (plain_col f) forms = (forms.0, f)
@@ -167,7 +168,7 @@ part_word ts part (as_part f h g) forms = (forms.0, f)
 
 part_valid : (schema : Schema) (part : WrittenPart) (k : Known) → IsWord part.table → known_part schema part ≡ Some k → IsFromItem schema k.from × IsKnown schema k
 part_valid schema part k w e =
-    let a = bind_some (position (λ table. bytes_eq table.name part.table) schema) (λ number. slice_get schema number >>= λ table. (let x : Option Known = Some (record { alias = alias_of part; columns = table.columns; from = record { name = part.table; table = number } }) in x)) k e in
+    let a = bind_some (table_number schema part.table) (λ number. slice_get schema number >>= λ table. (let x : Option Known = Some (record { alias = alias_of part; columns = table.columns; from = record { name = part.table; table = number } }) in x)) k e in
     let b = bind_some (slice_get schema a.0) (λ table. (let x : Option Known = Some (record { alias = alias_of part; columns = table.columns; from = record { name = part.table; table = a.0 } }) in x)) k a.2 in
     let q = some_is (record { alias = alias_of part; columns = b.0.columns; from = record { name = part.table; table = a.0 } }) k b.2 in
     let here : IsFromItem schema (record { name = part.table; table = a.0 }) = record { table = b.0; number = a.1; held = b.1; word = w } in

@@ -8,7 +8,8 @@ use Rattle.sql_ast.specs.declared.tree.Cmp.TheVariants as tests
 use Rattle.sql_ast.specs.Canonical.{doubled}
 use Rattle.sql_ast.specs.Lexer.{onto, quoted_at, word_at, digits_at, negative_at, param_at, after_less, after_greater, after_mark, sign_at, token_at, tokens_in}
 use Rattle.sql_ast.specs.Names.{◌>>=◌}
-use Rattle.sql_ast.specs.Tokens.{Token, Word, Digits, Negative, Quoted, Param, Test, Open, Close, Comma, Dot, Star, is_blank, is_name_start, is_name_part, HasSpelling, word, digits, negative, quoted, param, test, unlike, opened, closed, comma, dot, star, first_is, goes_on, HasTokens, nothing, blank, token}
+use Rattle.qbs_base.specs.Bytes.{is_white, is_name_start, is_name_part}
+use Rattle.sql_ast.specs.Tokens.{Token, Word, Digits, Negative, Quoted, Param, Test, Open, Close, Comma, Dot, Star, HasSpelling, word, digits, negative, quoted, param, test, unlike, opened, closed, comma, dot, star, first_is, goes_on, HasTokens, nothing, blank, token}
 use Rattle.sql_ast.proofs.Tools.{some_is, bind_some, passed}
 
 prefix_all : (p : ℕ → Bool) (bs : List ℕ) → list_all p (take (prefix_len p bs) bs) ≡ true
@@ -200,9 +201,9 @@ pub tokens_found : (n : ℕ) (bs : List ℕ) (ts : List Token) → tokens_in n b
 unfolding tokens_in
 tokens_found n [] ts e = subst (HasTokens []) (some_is [] ts e) nothing
 tokens_found zero (b ∷ bs) ts e = absurd cc
-tokens_found (suc n) (b ∷ bs) ts e = go (is_blank b) refl e (tokens_found n)
+tokens_found (suc n) (b ∷ bs) ts e = go (is_white b) refl e (tokens_found n)
   where
-    go : (v : Bool) → is_blank b ≡ v → cond v (tokens_in n bs) (token_at b bs >>= λ x. tokens_in n x.1 >>= λ us. (let z : Option (List Token) = Some (x.0 ∷ us) in z)) ≡ Some ts → ((cs : List ℕ) (us : List Token) → tokens_in n cs ≡ Some us → HasTokens cs us) → HasTokens (b ∷ bs) ts
+    go : (v : Bool) → is_white b ≡ v → cond v (tokens_in n bs) (token_at b bs >>= λ x. tokens_in n x.1 >>= λ us. (let z : Option (List Token) = Some (x.0 ∷ us) in z)) ≡ Some ts → ((cs : List ℕ) (us : List Token) → tokens_in n cs ≡ Some us → HasTokens cs us) → HasTokens (b ∷ bs) ts
     go true h e later = blank h (later bs ts e)
     go false h e later =
         let a = bind_some (token_at b bs) (λ x. tokens_in n x.1 >>= λ us. (let z : Option (List Token) = Some (x.0 ∷ us) in z)) ts e in

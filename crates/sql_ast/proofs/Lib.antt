@@ -19,6 +19,7 @@ pub mod Parsed
 pub mod ParsedConditions
 pub mod ParsedQuery
 pub mod Parts
+pub mod Positions
 pub mod Printed
 pub mod Tools
 pub mod Views

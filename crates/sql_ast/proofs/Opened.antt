@@ -11,7 +11,8 @@ use Rattle.std.specs.Str.Parse.{AllDigits, digits_value}
 use Rattle.sql_ast.specs.declared.tree.Cmp.{Cmp}
 use Rattle.sql_ast.specs.declared.tree.Cmp.TheVariants as tests
 use Rattle.sql_ast.specs.Canonical.{doubled, alias_text, cmp_text}
-use Rattle.sql_ast.specs.Tokens.{Token, Word, Digits, Negative, Quoted, Test, Open, Close, Comma, Dot, Star, is_name_part, is_name, is_number, is_free, word, digits, negative, quoted, test, opened, closed, comma, dot, star, first_is, goes_on, HasTokens, blank, token}
+use Rattle.qbs_base.specs.Bytes.{is_name_part}
+use Rattle.sql_ast.specs.Tokens.{Token, Word, Digits, Negative, Quoted, Test, Open, Close, Comma, Dot, Star, is_name, is_number, is_free, word, digits, negative, quoted, test, opened, closed, comma, dot, star, first_is, goes_on, HasTokens, blank, token}
 
 -- nothing, or a space, a closing parenthesis, a comma or a dot
 abbrev pub is_stop : ℕ → Bool

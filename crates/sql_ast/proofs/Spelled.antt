@@ -9,7 +9,8 @@ use Rattle.sql_ast.specs.declared.tree.Cmp.TheVariants as tests
 use Rattle.sql_ast.specs.Canonical.{doubled}
 use Rattle.sql_ast.specs.Lexer.{onto, quoted_at, after_less, after_greater, token_at, tokens_in}
 use Rattle.sql_ast.specs.Names.{◌>>=◌}
-use Rattle.sql_ast.specs.Tokens.{Token, Word, Digits, Negative, Quoted, Param, Test, is_blank, is_name_start, is_name_part, is_name, is_number, sign_of, HasSpelling, word, digits, negative, quoted, param, test, unlike, opened, closed, comma, dot, star, first_is, goes_on, HasTokens, nothing, blank, token}
+use Rattle.qbs_base.specs.Bytes.{is_white, is_name_start, is_name_part}
+use Rattle.sql_ast.specs.Tokens.{Token, Word, Digits, Negative, Quoted, Param, Test, is_name, is_number, sign_of, HasSpelling, word, digits, negative, quoted, param, test, unlike, opened, closed, comma, dot, star, first_is, goes_on, HasTokens, nothing, blank, token}
 
 both_true : (s t : Bool) → (s && t) ≡ true → (s ≡ true) × (t ≡ true)
 both_true true true h = (refl, refl)
@@ -34,10 +35,10 @@ back p cs bs all stop = drop_at cs bs (prefix_len p (cs ++ bs)) (sym (span p cs 
 digit_starts_none : (b : ℕ) → is_ascii_digit b ≡ true → is_name_start b ≡ false
 digit_starts_none b h = grind (arith, nat_tests, h)
 
-start_no_blank : (b : ℕ) → is_name_start b ≡ true → is_blank b ≡ false
+start_no_blank : (b : ℕ) → is_name_start b ≡ true → is_white b ≡ false
 start_no_blank b h = grind (arith, nat_tests, h)
 
-digit_no_blank : (b : ℕ) → is_ascii_digit b ≡ true → is_blank b ≡ false
+digit_no_blank : (b : ℕ) → is_ascii_digit b ≡ true → is_white b ≡ false
 digit_no_blank b h = grind (arith, nat_tests, h)
 
 same_nat : (m n : ℕ) → nat_eq m n ≡ true → m ≡ n
@@ -62,7 +63,7 @@ pub record Begins (us bs : List ℕ) (t : Token) : Type 0 where
   pub first : ℕ
   pub rest : List ℕ
   pub parts : us ≡ first ∷ rest
-  pub no_blank : is_blank first ≡ false
+  pub no_blank : is_white first ≡ false
   pub read : token_at first (rest ++ bs) ≡ Some (t, bs)
 
 abbrev pub one_token : Token → List ℕ → Option (Token × List ℕ)
@@ -151,7 +152,7 @@ spelled_again us bs t comma stop = record { first = 44; rest = []; parts = refl;
 spelled_again us bs t dot stop = record { first = 46; rest = []; parts = refl; no_blank = refl; read = refl }
 spelled_again us bs t star stop = record { first = 42; rest = []; parts = refl; no_blank = refl; read = refl }
 
-token_step : (n first : ℕ) (r rest : List ℕ) (t : Token) (later : List Token) → is_blank first ≡ false → token_at first (r ++ rest) ≡ Some (t, rest) → tokens_in n rest ≡ Some later → tokens_in (suc n) ((first ∷ r) ++ rest) ≡ Some (t ∷ later)
+token_step : (n first : ℕ) (r rest : List ℕ) (t : Token) (later : List Token) → is_white first ≡ false → token_at first (r ++ rest) ≡ Some (t, rest) → tokens_in n rest ≡ Some later → tokens_in (suc n) ((first ∷ r) ++ rest) ≡ Some (t ∷ later)
 unfolding tokens_in
 token_step n first r rest t later no_blank read again =
     rw no_blank

@@ -10,6 +10,7 @@ use lib.Utf8.{scalar, scalars, encode, encodes, low_scalar}
 use Rattle.qbs_base.specs.declared.scalar.Scalar.{Scalar}
 use Rattle.qbs_base.specs.declared.scalar.Scalar.TheVariants as constants
 use Rattle.qbs_base.specs.Values.{Schema}
+use Rattle.qbs_base.specs.Bytes.{is_name_start, is_name_part}
 use Rattle.sql_ast.specs.declared.tree.Cmp.{Cmp}
 use Rattle.sql_ast.specs.declared.tree.Cmp.TheVariants as tests
 use Rattle.sql_ast.specs.declared.tree.FromItem.{FromItem}
@@ -22,7 +23,7 @@ use Rattle.sql_ast.specs.declared.tree.SqlKey.{SqlKey}
 use Rattle.sql_ast.specs.declared.tree.SqlOpnd.{SqlOpnd}
 use Rattle.sql_ast.specs.declared.tree.SqlOpnd.TheVariants as opnds
 use Rattle.sql_ast.specs.Canonical.{alias_text, col_text, column_text, doubled, scalar_text, opnd_text, cmp_text, from_item_text, further_items_text, from_text, opening, closing, in_text, condition_text, filter_text, item_text, group_text, down_text, least_text, key_text, keys_text, limit_text, kind_text, source_text, exists_text, canonical}
-use Rattle.sql_ast.specs.Tokens.{is_name_start, is_name_part, is_name}
+use Rattle.sql_ast.specs.Tokens.{is_name}
 use Rattle.sql_ast.specs.Tree.{Condition, Both, Either, Not, Compare, Bare, Exists, Within, Filter, Everything, Where, PlainQuery, Listing, Number, Truth}
 use Rattle.sql_ast.specs.Utf8.{ScalarIsUtf8, OperandIsUtf8, ConditionIsUtf8, FilterIsUtf8, LiteralsAreUtf8}
 use Rattle.sql_ast.specs.Valid.{IsFromItem, IsColOf, IsOpndOf, IsConditionOf, IsFilterOf, IsItemOf, IsGroupOf, IsKeyOf, IsKindOf, IsQueryOf}

@@ -7,7 +7,8 @@ use Rattle.std.specs.declared.option.Option.{Option}
 use Rattle.std.specs.declared.option.Option.TheVariants.{Some, None}
 use Rattle.sql_ast.specs.declared.tree.Cmp.TheVariants as tests
 use Rattle.sql_ast.specs.Names.{◌>>=◌}
-use Rattle.sql_ast.specs.Tokens.{Token, Word, Digits, Negative, Quoted, Param, Test, Open, Close, Comma, Dot, Star, is_blank, is_name_start, is_name_part}
+use Rattle.qbs_base.specs.Bytes.{is_white, is_name_start, is_name_part}
+use Rattle.sql_ast.specs.Tokens.{Token, Word, Digits, Negative, Quoted, Param, Test, Open, Close, Comma, Dot, Star}
 
 -- a byte before what was read
 abbrev pub onto : ℕ → Option (List ℕ × List ℕ) → Option (List ℕ × List ℕ)
@@ -83,4 +84,4 @@ token_at b bs =
 unfoldable pub tokens_in : ℕ → List ℕ → Option (List Token)
 tokens_in n [] = Some []
 tokens_in zero (b ∷ bs) = None
-tokens_in (suc n) (b ∷ bs) = if is_blank b then tokens_in n bs else (token_at b bs >>= λ x. tokens_in n x.1 >>= λ ts. Some (x.0 ∷ ts))
+tokens_in (suc n) (b ∷ bs) = if is_white b then tokens_in n bs else (token_at b bs >>= λ x. tokens_in n x.1 >>= λ ts. Some (x.0 ∷ ts))

@@ -1,10 +1,11 @@
 -- What the names of a query stand for under a schema: tables, aliases and columns by their numbers.
-use Rattle.std.specs.Prelude.{ℕ, suc, Bool, true, not, ◌&&◌, if◌then◌else◌, List, [], ◌∷◌, ◌++◌, map, length, slice_get, position, codes}
+use Rattle.std.specs.Prelude.{ℕ, suc, Bool, true, not, ◌&&◌, if◌then◌else◌, List, [], ◌∷◌, ◌++◌, map, length, slice_get, codes}
 use Rattle.std.specs.List.{list_any}
 use Rattle.std.specs.Str.{bytes_eq}
 use Rattle.std.specs.declared.option.Option.{Option}
 use Rattle.std.specs.declared.option.Option.TheVariants.{Some, None}
 use Rattle.qbs_base.specs.declared.columns.Column.{Column}
+use Rattle.qbs_base.specs.Columns.{table_number, column_number}
 use Rattle.qbs_base.specs.Values.{Schema}
 use Rattle.sql_ast.specs.declared.tree.FromItem.{FromItem}
 use Rattle.sql_ast.specs.declared.tree.NumberKind.{NumberKind}
@@ -49,7 +50,7 @@ alias_of part = elim part.alias as (λ _. List ℕ) [ Some alias ↦ alias | Non
 
 abbrev pub known_part : Schema → WrittenPart → Option Known
 known_part schema part =
-    position (λ table. bytes_eq table.name part.table) schema
+    table_number schema part.table
     >>= λ number. slice_get schema number
     >>= λ table. Some (record { alias = alias_of part; columns = table.columns; from = record { name = part.table; table = number } })
 
@@ -84,7 +85,7 @@ abbrev pub column_named : List Column → List ℕ → Option SqlColumn
 column_named held name =
     if bytes_eq name (codes "_pos")
     then Some columns.Pos
-    else (position (λ column. bytes_eq column.name name) held >>= λ number. Some (columns.Named name number))
+    else (column_number held name >>= λ number. Some (columns.Named name number))
 
 abbrev pub named_col : Scope → WrittenCol → Option SqlCol
 named_col scope col = item_named scope col.alias >>= λ found. column_named found.1.columns col.name >>= λ column. Some (record { item = found.0; column = column })

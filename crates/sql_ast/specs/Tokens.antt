@@ -1,8 +1,9 @@
 -- The tokens of a query's bytes.
 use Rattle.std.specs.Prelude.{◌≡◌, ℕ, suc, ◌+◌, ◌<◌, Bool, true, false, not, ◌&&◌, ◌||◌, nat_eq, List, [], ◌∷◌, ◌++◌, codes}
-use Rattle.std.specs.Char.{is_ascii_alphabetic, is_ascii_digit}
+use Rattle.std.specs.Char.{is_ascii_digit}
 use Rattle.std.specs.List.{list_all, list_any}
 use Rattle.std.specs.Str.{str_eq_ignore_ascii_case}
+use Rattle.qbs_base.specs.Bytes.{is_white, is_name_start, is_name_part}
 use Rattle.sql_ast.specs.declared.tree.Cmp.{Cmp}
 use Rattle.sql_ast.specs.declared.tree.Cmp.TheVariants as tests
 use Rattle.sql_ast.specs.Canonical.{doubled}
@@ -20,16 +21,6 @@ pub data Token : Type 0 where
   Comma : Token
   Dot : Token
   Star : Token
-
--- space, tab, carriage return and line feed
-abbrev pub is_blank : ℕ → Bool
-is_blank b = nat_eq b 32 || nat_eq b 9 || nat_eq b 13 || nat_eq b 10
-
-abbrev pub is_name_start : ℕ → Bool
-is_name_start b = is_ascii_alphabetic b || nat_eq b 95
-
-abbrev pub is_name_part : ℕ → Bool
-is_name_part b = is_name_start b || is_ascii_digit b
 
 -- an ASCII letter or `_`, and then ASCII letters, digits and `_`
 abbrev pub is_name : List ℕ → Bool
@@ -93,7 +84,7 @@ goes_on token bs = first_is (goes_on_with token) bs
 -- white space stands where it will, and a token is as long as it can be
 pub data HasTokens : List ℕ → List Token → Type 0 where
   nothing : HasTokens [] []
-  blank : {b : ℕ} {bs : List ℕ} {ts : List Token} → is_blank b ≡ true → HasTokens bs ts → HasTokens (b ∷ bs) ts
+  blank : {b : ℕ} {bs : List ℕ} {ts : List Token} → is_white b ≡ true → HasTokens bs ts → HasTokens (b ∷ bs) ts
   token : {us bs : List ℕ} {t : Token} {ts : List Token} → HasSpelling us t → goes_on t bs ≡ false → HasTokens bs ts → HasTokens (us ++ bs) (t ∷ ts)
 
 -- the words that are no name, in any letter case

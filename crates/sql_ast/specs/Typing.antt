@@ -8,6 +8,7 @@ use Rattle.qbs_base.specs.declared.scalar.Scalar.{Scalar}
 use Rattle.qbs_base.specs.declared.scalar.Scalar.TheVariants as scalars
 use Rattle.qbs_base.specs.declared.scalar.Ty.{Ty}
 use Rattle.qbs_base.specs.declared.scalar.Ty.TheVariants as tys
+use Rattle.qbs_base.specs.Columns.{same_ty}
 use Rattle.qbs_base.specs.Values.{Schema}
 use Rattle.sql_ast.specs.declared.tree.Cmp.{Cmp}
 use Rattle.sql_ast.specs.declared.tree.Cmp.TheVariants as tests
@@ -23,12 +24,6 @@ use Rattle.sql_ast.specs.Keys.{groups_by}
 use Rattle.sql_ast.specs.Meaning.{nth}
 use Rattle.sql_ast.specs.Names.{◌>>=◌}
 use Rattle.sql_ast.specs.Tree.{Condition, Both, Either, Not, Compare, Bare, Exists, Within, Filter, Everything, Where, PlainListing, PlainQuery, Listing, Number, Truth}
-
-abbrev pub same_ty : Ty → Ty → Bool
-same_ty tys.Long tys.Long = true
-same_ty tys.Bool tys.Bool = true
-same_ty tys.Text tys.Text = true
-same_ty _ _ = false
 
 abbrev pub ty_of_scalar : Scalar → Ty
 ty_of_scalar (scalars.Long n) = tys.Long

@@ -1,13 +1,13 @@
 -- The queries of a schema: plain queries that some text has, said of the plain query alone.
-use Rattle.std.specs.Prelude.{◌≡◌, ℕ, ◌<◌, ◌≤◌, ◌^◌, ℤ, pos, true, false, ◌&&◌, List, [], ◌++◌, length, slice_get, position}
+use Rattle.std.specs.Prelude.{◌≡◌, ℕ, ◌<◌, ◌≤◌, ◌^◌, ℤ, pos, true, false, ◌&&◌, List, [], ◌++◌, length, slice_get}
 use Rattle.std.specs.List.{AllByRecursion}
-use Rattle.std.specs.Str.{bytes_eq}
 use Rattle.std.specs.declared.option.Option.{Option}
 use Rattle.std.specs.declared.option.Option.TheVariants.{Some, None}
 use Rattle.qbs_base.specs.declared.columns.Table.{Table}
 use Rattle.qbs_base.specs.declared.scalar.Scalar.{Scalar}
 use Rattle.qbs_base.specs.declared.scalar.Scalar.TheVariants as scalars
 use Rattle.qbs_base.specs.declared.scalar.Ty.{Ty}
+use Rattle.qbs_base.specs.Columns.{table_number}
 use Rattle.qbs_base.specs.Values.{Schema, fits_long}
 use Rattle.sql_ast.specs.declared.tree.FromItem.{FromItem}
 use Rattle.sql_ast.specs.declared.tree.NumberKind.{NumberKind}
@@ -32,7 +32,7 @@ IsWord name = (is_name name ≡ true) × (is_free name ≡ true)
 -- the item's table has its name and its number
 pub record IsFromItem (schema : Schema) (from : FromItem) : Type 0 where
   pub table : Table
-  pub number : position (λ held. bytes_eq held.name from.name) schema ≡ Some from.table
+  pub number : table_number schema from.name ≡ Some from.table
   pub held : slice_get schema from.table ≡ Some table
   pub word : IsWord from.name
 

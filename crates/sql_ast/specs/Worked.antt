@@ -12,8 +12,8 @@ use Rattle.sql_ast.specs.Meaning.{Answered, Rows, One, query_answer}
 use Rattle.sql_ast.specs.Texts.{HasQuery, BreaksRule}
 use Rattle.sql_ast.specs.Tree.{PlainQuery}
 
-abbrev pub schema : Schema
-schema =
+abbrev pub staff_schema : Schema
+staff_schema =
     record {
       name = codes "User";
       columns = record { name = codes "id"; ty = tys.Long } ∷ record { name = codes "name"; ty = tys.Text } ∷ record { name = codes "roleId"; ty = tys.Long } ∷ record { name = codes "age"; ty = tys.Long } ∷ record { name = codes "active"; ty = tys.Bool } ∷ [];
@@ -34,8 +34,8 @@ abbrev pub cat : Row
 cat = user 3 (codes "cat") 2 41 true
 
 -- a second user called ann
-abbrev pub anna : Row
-anna = user 4 (codes "ann") 3 19 true
+abbrev pub ann_again : Row
+ann_again = user 4 (codes "ann") 3 19 true
 
 abbrev pub dan : Row
 dan = user 5 (codes "dan") 1 25 false
@@ -43,8 +43,8 @@ dan = user 5 (codes "dan") 1 25 false
 abbrev pub role : ℕ → List ℕ → Row
 role id label = record { kind = rows.Table 1; cells = scalars.Long (pos id) ∷ scalars.Text label ∷ [] }
 
-abbrev pub db : Database
-db = (codes "User", ann ∷ bob ∷ cat ∷ anna ∷ dan ∷ []) ∷ (codes "Role", role 1 (codes "admin") ∷ role 2 (codes "staff") ∷ role 2 (codes "crew") ∷ []) ∷ []
+abbrev pub staff_tables : Database
+staff_tables = (codes "User", ann ∷ bob ∷ cat ∷ ann_again ∷ dan ∷ []) ∷ (codes "Role", role 1 (codes "admin") ∷ role 2 (codes "staff") ∷ role 2 (codes "crew") ∷ []) ∷ []
 
 abbrev pub long : ℕ → Row
 long n = record { kind = rows.Plain; cells = scalars.Long (pos n) ∷ [] }
@@ -61,8 +61,8 @@ one_truth b = One (scalars.Bool b)
 -- the text has a query, which answers this on the tables with these parameters
 pub record Answering (query : List ℕ) (params : List Scalar) (answer : Answered) : Type 0 where
   pub q : PlainQuery
-  pub has : HasQuery schema query q
-  pub answers : query_answer db params q ≡ answer
+  pub has : HasQuery staff_schema query q
+  pub answers : query_answer staff_tables params q ≡ answer
 
 abbrev pub Gives : List ℕ → Answered → Type 0
 Gives query answer = Answering query [] answer
@@ -71,7 +71,7 @@ abbrev pub GivesAt : List ℕ → ℕ → Answered → Type 0
 GivesAt query n answer = Answering query (scalars.Long (pos n) ∷ []) answer
 
 abbrev pub Breaks : List ℕ → SqlRule → Type 0
-Breaks query rule = BreaksRule schema query rule
+Breaks query rule = BreaksRule staff_schema query rule
 
 pub record WorkedLists : Type 0 where
   pub filtered : Gives (codes "SELECT t1.* FROM User t1 WHERE t1.roleId = 2 ORDER BY t1._pos") (Rows (ann ∷ cat ∷ []))
@@ -81,11 +81,11 @@ pub record WorkedLists : Type 0 where
   pub column : Gives (codes "SELECT t2.label FROM User t1, Role t2 WHERE t1.roleId = t2.id ORDER BY t1._pos, t2._pos") (Rows (text (codes "staff") ∷ text (codes "crew") ∷ text (codes "admin") ∷ text (codes "staff") ∷ text (codes "crew") ∷ text (codes "admin") ∷ []))
   pub exists : Gives (codes "SELECT t1.* FROM User t1 WHERE EXISTS (SELECT 1 FROM Role t2 WHERE t1.roleId = t2.id) ORDER BY t1._pos") (Rows (ann ∷ bob ∷ cat ∷ dan ∷ []))
   pub within : Gives (codes "SELECT t1.* FROM User t1 WHERE t1.roleId IN (SELECT t2.id FROM Role t2 WHERE t2.label = 'staff') ORDER BY t1._pos") (Rows (ann ∷ cat ∷ []))
-  pub not_within : Gives (codes "SELECT t1.* FROM User t1 WHERE t1.roleId NOT IN (SELECT t2.id FROM Role t2 WHERE t2.label = 'staff') ORDER BY t1._pos") (Rows (bob ∷ anna ∷ dan ∷ []))
-  pub sorted : Gives (codes "SELECT t1.* FROM User t1 ORDER BY t1.name, t1._pos LIMIT 3") (Rows (ann ∷ anna ∷ bob ∷ []))
+  pub not_within : Gives (codes "SELECT t1.* FROM User t1 WHERE t1.roleId NOT IN (SELECT t2.id FROM Role t2 WHERE t2.label = 'staff') ORDER BY t1._pos") (Rows (bob ∷ ann_again ∷ dan ∷ []))
+  pub sorted : Gives (codes "SELECT t1.* FROM User t1 ORDER BY t1.name, t1._pos LIMIT 3") (Rows (ann ∷ ann_again ∷ bob ∷ []))
   pub sorted_down : Gives (codes "SELECT t1.* FROM User t1 ORDER BY t1.name DESC, t1._pos LIMIT 3") (Rows (dan ∷ cat ∷ bob ∷ []))
   pub limit_of_none : Gives (codes "SELECT t1.* FROM User t1 ORDER BY t1.name, t1._pos LIMIT 0") (Rows [])
-  pub limit_past_all : Gives (codes "SELECT t1.* FROM User t1 ORDER BY t1.name, t1._pos LIMIT 9") (Rows (ann ∷ anna ∷ bob ∷ cat ∷ dan ∷ []))
+  pub limit_past_all : Gives (codes "SELECT t1.* FROM User t1 ORDER BY t1.name, t1._pos LIMIT 9") (Rows (ann ∷ ann_again ∷ bob ∷ cat ∷ dan ∷ []))
   pub positions : Gives (codes "SELECT t1.* FROM User t1 WHERE t1._pos < 3 ORDER BY t1._pos") (Rows (ann ∷ bob ∷ cat ∷ []))
   pub grouped : Gives (codes "SELECT t1.name FROM User t1 GROUP BY t1.name ORDER BY MIN(t1._pos)") (Rows (text (codes "ann") ∷ text (codes "bob") ∷ text (codes "cat") ∷ text (codes "dan") ∷ []))
   pub no_aliases : Gives (codes "SELECT name FROM User WHERE age = 25 ORDER BY _pos") (Rows (text (codes "bob") ∷ text (codes "dan") ∷ []))
@@ -93,7 +93,7 @@ pub record WorkedLists : Type 0 where
   pub two_conjuncts : Gives (codes "SELECT t1.* FROM User t1 WHERE t1.active = TRUE AND t1.age > 20 ORDER BY t1._pos") (Rows (ann ∷ cat ∷ []))
   pub parameter : GivesAt (codes "SELECT t1.* FROM User t1 WHERE t1.roleId = ?1 AND t1.active = TRUE ORDER BY t1._pos") 2 (Rows (ann ∷ cat ∷ []))
   pub quote : Gives (codes "SELECT t1.* FROM User t1 WHERE t1.name = 'O''N' ORDER BY t1._pos") (Rows [])
-  pub unordered : Gives (codes "SELECT t1.* FROM User t1") (Rows (ann ∷ bob ∷ cat ∷ anna ∷ dan ∷ []))
+  pub unordered : Gives (codes "SELECT t1.* FROM User t1") (Rows (ann ∷ bob ∷ cat ∷ ann_again ∷ dan ∷ []))
   pub precedence : Gives (codes "SELECT * FROM User WHERE (NOT active AND age = 25 OR name = 'cat') AND id <> 5 ORDER BY _pos") (Rows (bob ∷ cat ∷ []))
 
 pub record WorkedNumbers : Type 0 where

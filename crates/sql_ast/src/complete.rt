@@ -1,8 +1,8 @@
 // Which queries have one answer.
-ghost use Rattle.std.specs.Prelude.{◌≡◌, ◌↔◌, IsTrue, length};
+ghost use Rattle.std.specs.Prelude.{◌≡◌, length};
 ghost use Rattle.std.specs.List.{list_any};
-ghost use Rattle.sql_ast.specs.Answers.{IsOrderComplete};
-ghost use Rattle.sql_ast.specs.Keys.{is_position, is_position_of, names_position, NamesEachPosition, same_column, same_col, takes_column, is_least_position, is_grouped};
+ghost use Rattle.sql_ast.specs.Answers.{is_order_complete};
+ghost use Rattle.sql_ast.specs.Keys.{is_position, is_position_of, names_position, name_positions, same_column, same_col, takes_column, is_least_position, is_grouped};
 ghost use Rattle.sql_ast.specs.Reading.{listing, query};
 
 use crate::tree::{ListQuery, Query, SqlCol, SqlColumn, SqlItem, SqlKey};
@@ -32,7 +32,7 @@ fn some_names_position(item: usize, keys: &[SqlKey]) -> bool
 }
 
 fn names_each_position(q: &ListQuery) -> bool
-    ensures { IsTrue result ↔ NamesEachPosition (listing q.now) }
+    ensures { result ≡ name_positions (length (listing q.now).from) (listing q.now).keys }
 {
     for i in 0..q.from.len() {
         if !some_names_position(i + 1, q.keys.as_slice()) {
@@ -98,7 +98,7 @@ pub fn is_grouped(q: &ListQuery) -> bool
 /// Whether a query has exactly one answer: a list query that is grouped or whose keys name `_pos`
 /// of every FROM item, and every query for a number or a truth value.
 pub fn order_complete(q: &Query) -> bool
-    ensures { IsTrue result ↔ IsOrderComplete (query q.now) }
+    ensures { result ≡ is_order_complete (query q.now) }
 {
     match q {
         Query::Listing(q) => is_grouped(q) || names_each_position(q),

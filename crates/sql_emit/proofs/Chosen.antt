@@ -1,5 +1,5 @@
 -- The product of sorted tables is in the order of the keys, and so it is what the query's sort gives.
-use Rattle.std.proofs.Common.{◌≡◌, ℕ, zero, suc, ◌+◌, pos, Bool, true, false, cond, not, ◌&&◌, ◌||◌, IsTrue, List, [], ◌∷◌, ◌++◌, map, length, slice_get, refl, sym, ap, ap₂, ◌∙◌, subst, arith, inr}
+use Rattle.std.proofs.Common.{◌≡◌, ℕ, zero, suc, ◌+◌, pos, Bool, true, false, cond, not, ◌&&◌, ◌||◌, IsTrue, List, [], ◌∷◌, ◌++◌, map, length, slice_get, refl, sym, ap, ap₂, ◌∙◌, subst, arith}
 use Rattle.std.specs.Prelude.{◌<◌}
 use mathlib.Core.Path.{fun_ext}
 use Rattle.std.specs.Cmp.{IsStrictWeakOrder}
@@ -15,6 +15,7 @@ use Rattle.qbs_base.specs.declared.scalar.Scalar.TheVariants as scalars
 use Rattle.qbs_base.specs.Scalar.{value_before}
 use Rattle.qbs_base.specs.Sort.{put_in, stable_sort, Rises, then_by, turned, choices}
 use Rattle.qbs_base.specs.Values.{Database}
+use Rattle.qbs_base.specs.Tables.{rows_of}
 use Rattle.qbs_base.proofs.Moves.{Moves, AllMove, moves_sort, moves_choices, moves_filter, permutation_from_moves}
 use Rattle.qbs_base.proofs.Order.{not_below_itself, all_put_in, rises_filter, sorted_from_rises}
 use Rattle.qbs_base.proofs.Scalars.{value_order}
@@ -24,10 +25,11 @@ use Rattle.kernel_lang.specs.Given.{key_before as row_key_before, before as rows
 use Rattle.sql_ast.specs.declared.tree.SqlItem.{SqlItem}
 use Rattle.sql_ast.specs.declared.tree.SqlKey.{SqlKey}
 use Rattle.sql_ast.specs.Answers.{AreOrdered, IsOrderComplete}
-use Rattle.sql_ast.specs.Keys.{names_position}
-use Rattle.sql_ast.specs.Meaning.{Place, Combination, column_of, row_of, rows_of, places_of, product, passes, true_ones, key_before, before, item_of, cut, listing_rows}
+use Rattle.sql_ast.specs.Keys.{names_position, name_positions}
+use Rattle.sql_ast.specs.Meaning.{Place, Combination, column_of, row_of, places_of, product, passes, true_ones, key_before, before, item_of, cut, listing_rows}
 use Rattle.sql_ast.specs.Tree.{Filter, PlainListing, Listing}
 use Rattle.sql_ast.proofs.Combinations.{all_append, all_map, all_flat_map}
+use Rattle.sql_ast.proofs.Marks.{positions_decided}
 use Rattle.sql_ast.proofs.OneAnswer.{has_one_answer}
 use Rattle.sql_ast.proofs.Order.{before_order}
 use Rattle.sql_emit.specs.Scopes.{Ground, list_of, from_item, from_items, column, position}
@@ -230,11 +232,14 @@ keys_complete g m (j ∷ js) (suc i) h =
     (or_right (names_position (suc (m + suc i)) (position_key false (suc m))) (list_any (names_position (suc (m + suc i))) (keys g (suc m) js))
     (let e : suc (suc m + i) ≡ suc (m + suc i) = omega arith in subst (λ n. list_any (names_position n) (keys g (suc m) js) ≡ true) e (keys_complete g (suc m) js i (omega arith))))
 
-pub names_each : (g : Ground) (js : List ℕ) (i : ℕ) → i < length (from_items g js) → IsTrue (list_any (names_position (suc i)) (keys g 0 js))
+names_each : (g : Ground) (js : List ℕ) (i : ℕ) → i < length (from_items g js) → IsTrue (list_any (names_position (suc i)) (keys g 0 js))
 names_each g js i h =
     let n : 0 + i ≡ i = omega arith in
     let l : length (from_items g js) ≡ length js = length_map (from_item g) js in
     subst (λ k. list_any (names_position (suc k)) (keys g 0 js) ≡ true) n (keys_complete g 0 js i (omega (arith, h, l)))
+
+pub names_all : (g : Ground) (js : List ℕ) → IsTrue (name_positions (length (from_items g js)) (keys g 0 js))
+names_all g js = (positions_decided (keys g 0 js) (length (from_items g js))).1 (names_each g js)
 
 -- ---- what is listed
 
@@ -249,7 +254,7 @@ abbrev pub rows_listing : Ground → List ℕ → SqlItem → Filter → Option 
 rows_listing g js item filter_ limit = record { item = item; from = from_items g js; filter = filter_; group = None; keys = keys g 0 js; limit = limit; params = [] }
 
 pub listing_complete : (g : Ground) (js : List ℕ) (item : SqlItem) (filter_ : Filter) (limit : Option ℕ) → IsOrderComplete (Listing (rows_listing g js item filter_ limit))
-listing_complete g js item filter_ limit = inr (names_each g js)
+listing_complete g js item filter_ limit = names_all g js
 
 -- a list query's rows are the items of the sorted tables' combinations
 pub listed_rows : (g : Ground) (db : Database) (params : List Scalar) (js : List ℕ) (item : SqlItem) (filter_ : Filter) (limit : Option ℕ)

@@ -1,5 +1,5 @@
 -- Emitted list queries are order complete.
-use Rattle.std.proofs.Common.{◌≡◌, ℕ, true, ◌&&◌, List, [], ◌∷◌, length, slice_get, refl, ap₂, inl, inr, nat_eq}
+use Rattle.std.proofs.Common.{◌≡◌, ℕ, true, ◌&&◌, List, [], ◌∷◌, length, slice_get, refl, ap₂, nat_eq}
 use Rattle.std.specs.Str.{bytes_eq}
 use Rattle.std.specs.declared.option.Option.TheVariants.{Some, None}
 use Rattle.std.proofs.lemmas.Slice.Eq.{bytes_eq-Decides}
@@ -19,10 +19,10 @@ use Rattle.sql_ast.specs.Tree.{Filter, PlainQuery}
 use Rattle.sql_emit.specs.Scopes.{Ground, ground, outermost, numbered, number_in, name_of, from_items}
 use Rattle.sql_emit.specs.Emitted.{elem_col, item, query_by, query_of}
 use Rattle.sql_emit.specs.Numbered.{with_filter, in_order}
-use Rattle.sql_emit.proofs.Chosen.{names_each}
+use Rattle.sql_emit.proofs.Chosen.{names_all}
 use Rattle.sql_emit.proofs.Flags.{column_taken}
 use Rattle.sql_emit.proofs.Suited.{loops_few}
-use Rattle.sql_emit.proofs.Tools.{all_at, eq_itself}
+use Rattle.sql_emit.proofs.Tools.{all_at, eq_itself, or_left}
 use Rattle.sql_emit.proofs.Valid.{IsValidMember, all_members}
 
 pub one_loop : (f : Fragment) (js : List ℕ) → one_unsorted_loop f js ≡ true → (j : ℕ) × (js ≡ j ∷ [])
@@ -38,14 +38,14 @@ takes_itself g js (elems.Whole j) h = absurd cc
 takes_itself g js (elems.Field j k) h = same_itself (number_in (numbered 0 js) j) (name_of g j k) k
 
 by_update : (g : Ground) (f : Fragment) (m : Member) (u : Update) (filter_ filter' : Filter) (types : List Ty) → loops_are_few f m.0.chain u ≡ true → takes_a_column u ≡ true → IsOrderComplete (with_filter (query_by u g m filter_) filter' types)
-by_update g f m (updates.Push e) filter_ filter' types few takes = inr (names_each g m.0.chain)
+by_update g f m (updates.Push e) filter_ filter' types few takes = names_all g m.0.chain
 by_update g f m (updates.PushNew e) filter_ filter' types few takes =
     let one = one_loop f m.0.chain few in
-    inl (ap₂ (λ (js : List ℕ) b. nat_eq (length (from_items g js)) 1 && b && true) one.1 (takes_itself g m.0.chain e takes))
-by_update g f m updates.Tick filter_ filter' types few takes = tt
-by_update g f m (updates.Plus e) filter_ filter' types few takes = tt
-by_update g f m (updates.Best way e) filter_ filter' types few takes = tt
-by_update g f m updates.Mark filter_ filter' types few takes = tt
+    or_left _ _ (ap₂ (λ (js : List ℕ) b. nat_eq (length (from_items g js)) 1 && b && true) one.1 (takes_itself g m.0.chain e takes))
+by_update g f m updates.Tick filter_ filter' types few takes = refl
+by_update g f m (updates.Plus e) filter_ filter' types few takes = refl
+by_update g f m (updates.Best way e) filter_ filter' types few takes = refl
+by_update g f m updates.Mark filter_ filter' types few takes = refl
 
 pub complete : (schema : Schema) (f : Fragment) (cand : List ℕ) (known : List PlainQuery) (args : List (List ℕ)) (acc : ℕ) (m : Member) → broken f ≡ None → slice_get (members f cand) acc ≡ Some m
     → IsOrderComplete (in_order f.entries (query_of (ground schema f cand known args) m)).query

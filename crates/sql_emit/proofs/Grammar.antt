@@ -8,6 +8,7 @@ use Rattle.qbs_base.specs.Folded.{is_some}
 use Rattle.qbs_base.specs.declared.scalar.Ty.{Ty}
 use Rattle.qbs_base.specs.declared.scalar.Ty.TheVariants as tys
 use Rattle.qbs_base.specs.Values.{Schema}
+use Rattle.qbs_base.specs.Columns.{same_ty}
 use Rattle.sql_ast.specs.declared.tree.Cmp.{Cmp}
 use Rattle.sql_ast.specs.declared.tree.Cmp.TheVariants as tests
 use Rattle.sql_ast.specs.declared.tree.FromItem.{FromItem}
@@ -15,7 +16,7 @@ use Rattle.sql_ast.specs.declared.tree.SqlCol.{SqlCol}
 use Rattle.sql_ast.specs.declared.tree.SqlOpnd.{SqlOpnd}
 use Rattle.sql_ast.specs.declared.tree.SqlOpnd.TheVariants as opnds
 use Rattle.sql_ast.specs.Tree.{Condition, Both, Either, Not, Compare, Bare, Exists, Within, Filter, Everything, Where}
-use Rattle.sql_ast.specs.Typing.{same_ty, ty_of_scalar, ty_of_col, ty_beside, tys_beside, filter_tys, is_compared_by, pair_fits, ty_of_opnd, is_of, condition_fits, filter_fits}
+use Rattle.sql_ast.specs.Typing.{ty_of_scalar, ty_of_col, ty_beside, tys_beside, filter_tys, is_compared_by, pair_fits, ty_of_opnd, is_of, condition_fits, filter_fits}
 use Rattle.sql_ast.specs.Valid.{AreItems, IsColOf, FitsScalar, IsOpndOf, IsConditionOf, IsFilterOf}
 use Rattle.sql_emit.specs.Numbered.{opnd_uses, uses, filter_uses, number_among, renumbered_opnd, renumbered, renumbered_filter}
 use Rattle.sql_emit.proofs.Numbering.{IsIn, front_of, back_of}

@@ -10,10 +10,11 @@ use Rattle.qbs_base.specs.declared.scalar.Row.{Row}
 use Rattle.qbs_base.specs.declared.scalar.Scalar.{Scalar}
 use Rattle.qbs_base.specs.Sort.{put_in, stable_sort}
 use Rattle.qbs_base.specs.Values.{Database}
+use Rattle.qbs_base.specs.Tables.{rows_of}
 use Rattle.tor_terms.specs.Plain.{Form}
 use Rattle.kernel_lang.specs.declared.parts.Col.{Col}
 use Rattle.kernel_lang.specs.Given.{before as rows_before}
-use Rattle.sql_ast.specs.Meaning.{Place, Combination, cut, truth_of, rows_of}
+use Rattle.sql_ast.specs.Meaning.{Place, Combination, cut, truth_of}
 use Rattle.sql_emit.specs.Scopes.{Ground, list_of, from_item}
 use Rattle.sql_emit.specs.Emitted.{limit_tests, limits, sorted_limit, limit_of}
 use Rattle.sql_emit.proofs.Chosen.{chosen, sorted_places}

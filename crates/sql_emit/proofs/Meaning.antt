@@ -49,13 +49,14 @@ use Rattle.sql_ast.specs.Tree.{Condition, Compare, PlainQuery}
 use Rattle.sql_emit.specs.Scopes.{Ground, ground, Scope, numbered, number_in, outermost, def_of, list_of, from_item, from_items}
 use Rattle.sql_emit.specs.Emitted.{formula, limits, limit_of, elem_col, way_test, best_tests, best_kind, conditions, flag_condition, where_of, item, query_by, query_of}
 use Rattle.sql_emit.specs.Given.{AreKnownTo, IsGiven, scalar_answered, answered}
+use Rattle.sql_ast.proofs.Positions.{one_item}
 use Rattle.sql_emit.proofs.Chosen.{chosen, chosen_moves, listed_rows}
 use Rattle.sql_emit.proofs.Flags.{start_valid, false_start, column_taken}
 use Rattle.sql_emit.proofs.Limits.{Uncut, limited, uncut, uncut_is, no_sort}
 use Rattle.sql_emit.proofs.Literals.{OneType, one_type, joined_is}
 use Rattle.sql_emit.proofs.Nest.{ListsAre, lists_are, tuple_of, body_is, seen, rows_typed, seen_typed, typed_length}
 use Rattle.sql_emit.proofs.Rows.{IsScalarOf, columns_at, column_is, place_typed, cell_typed}
-use Rattle.sql_emit.proofs.Sets.{element, same_plain, one_item, first_ones_are}
+use Rattle.sql_emit.proofs.Sets.{element, same_plain, first_ones_are}
 use Rattle.sql_emit.proofs.Suited.{is_limited, is_uncut, loops_few}
 use Rattle.sql_emit.proofs.Tables.{TypedFor}
 use Rattle.sql_emit.proofs.Tools.{and_assoc, and_true, map_map, filter_of_map, filter_agree_on, filter_both, map_agree_on, any_is_some, some_map, length_map}

@@ -11,6 +11,7 @@ use Rattle.qbs_base.specs.declared.columns.Column.{Column}
 use Rattle.qbs_base.specs.declared.scalar.Ty.{Ty}
 use Rattle.qbs_base.specs.declared.scalar.Ty.TheVariants as tys
 use Rattle.qbs_base.specs.Values.{Schema}
+use Rattle.qbs_base.specs.Columns.{same_ty}
 use Rattle.sql_ast.specs.declared.tree.Cmp.{Cmp}
 use Rattle.sql_ast.specs.declared.tree.Cmp.TheVariants as tests
 use Rattle.sql_ast.specs.declared.tree.FromItem.{FromItem}
@@ -23,7 +24,7 @@ use Rattle.sql_ast.specs.Canonical.{column_text}
 use Rattle.sql_ast.specs.Meaning.{nth}
 use Rattle.sql_ast.specs.Names.{◌>>=◌, column_named}
 use Rattle.sql_ast.specs.Tree.{Condition, Both, Either, Not, Compare, Bare, Exists, Within, Filter, Everything, Where}
-use Rattle.sql_ast.specs.Typing.{same_ty, ty_of_scalar, ty_of_column, ty_of_col, ty_beside, tys_beside, filter_tys, is_compared_by, pair_fits, ty_of_opnd, is_of, condition_fits, filter_fits, opnd_param, last_param, filter_param}
+use Rattle.sql_ast.specs.Typing.{ty_of_scalar, ty_of_column, ty_of_col, ty_beside, tys_beside, filter_tys, is_compared_by, pair_fits, ty_of_opnd, is_of, condition_fits, filter_fits, opnd_param, last_param, filter_param}
 use Rattle.sql_ast.specs.Valid.{AreItems, IsColOf, IsOpndOf, IsConditionOf, IsFilterOf}
 use Rattle.sql_emit.specs.Emitted.{moved_col, entry_param, moved_opnd, moved, moved_filter}
 use Rattle.sql_emit.specs.Given.{AreCounted, FilterIsCounted}

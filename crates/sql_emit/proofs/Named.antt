@@ -1,16 +1,13 @@
 -- The tables and columns of a schema are named as queries name them.
-use Rattle.std.proofs.Common.{◌≡◌, ℕ, zero, suc, ◌+◌, ◌<◌, Bool, true, false, cond, not, ◌&&◌, ◌||◌, List, [], ◌∷◌, map, length, slice_get, codes, position, refl, sym, ap, ap₂, ◌∙◌, subst, arith, nat_lt}
-use Rattle.std.specs.Char.{is_ascii_digit}
-use Rattle.std.specs.List.{AllByRecursion, IsDistinct, list_all, list_any, prefix_len}
+use Rattle.std.proofs.Common.{◌≡◌, ℕ, zero, suc, ◌+◌, ◌<◌, Bool, true, false, cond, not, ◌||◌, List, [], ◌∷◌, map, length, slice_get, codes, position, refl, sym, ap, ap₂, ◌∙◌, subst, arith, nat_lt}
+use Rattle.std.specs.List.{AllByRecursion, IsDistinct, list_any, prefix_len}
 use Rattle.std.specs.Str.{bytes_eq, str_eq_ignore_ascii_case, str_to_ascii_lowercase}
 use Rattle.std.specs.declared.option.Option.TheVariants.{Some, None}
-use Rattle.std.proofs.lemmas.Bool.Decides.{nat_tests}
 use Rattle.std.proofs.lemmas.Slice.Eq.{bytes_eq-Decides}
 use Rattle.qbs_base.specs.declared.columns.Column.{Column}
 use Rattle.qbs_base.specs.declared.columns.Table.{Table}
 use Rattle.qbs_base.specs.declared.scalar.Ty.TheVariants as tys
 use Rattle.qbs_base.specs.Values.{Schema}
-use Rattle.qbs_base.specs.Bytes as kinds
 use Rattle.schema.specs.Bytes.{begins_with}
 use Rattle.schema.specs.Bytes as ddl
 use Rattle.schema.specs.Rules.{AreColumns, IsSchema, AreNamed}
@@ -19,7 +16,7 @@ use Rattle.sql_ast.specs.declared.tree.FromItem.{FromItem}
 use Rattle.sql_ast.specs.declared.tree.SqlColumn.TheVariants as columns
 use Rattle.sql_ast.specs.Meaning.{nth}
 use Rattle.sql_ast.specs.Names.{◌>>=◌}
-use Rattle.sql_ast.specs.Tokens.{is_name_start, is_name_part, is_name}
+use Rattle.sql_ast.specs.Tokens.{is_name}
 use Rattle.sql_ast.specs.Typing.{ty_of_column, ty_of_col}
 use Rattle.sql_ast.specs.Valid.{IsWord, IsFromItem, IsColOf}
 use Rattle.sql_emit.specs.Scopes.{column}
@@ -28,22 +25,9 @@ use Rattle.sql_emit.proofs.Tools.{some_eq, all_at, get_map, lt_true}
 
 -- ---- words
 
-start_same : (b : ℕ) → kinds.is_name_start b ≡ is_name_start b
-start_same b = grind (arith, nat_tests)
-
-part_same : (b : ℕ) → kinds.is_name_part b ≡ is_name_part b
-part_same b = ap₂ (λ x y. x || y) (start_same b) (digit_same b)
-  where
-    digit_same : (b : ℕ) → kinds.is_digit b ≡ is_ascii_digit b
-    digit_same b = grind (arith, nat_tests)
-
-parts_same : (bs : List ℕ) → list_all kinds.is_name_part bs ≡ list_all is_name_part bs
-parts_same [] = refl
-parts_same (b ∷ bs) = ap₂ (λ x y. x && y) (part_same b) (parts_same bs)
-
 name_same : (bs : List ℕ) → ddl.is_name bs ≡ is_name bs
 name_same [] = refl
-name_same (b ∷ bs) = ap₂ (λ x y. x && y) (start_same b) (parts_same bs)
+name_same (b ∷ bs) = refl
 
 or_false : (a b : Bool) → (a || b) ≡ false → (a ≡ false) × (b ≡ false)
 or_false false b h = (refl, h)

@@ -7,6 +7,7 @@ use Rattle.std.proofs.lemmas.List.{append-nil}
 use Rattle.qbs_base.specs.declared.scalar.Row.{Row}
 use Rattle.qbs_base.specs.Sort.{stable_sort, choices}
 use Rattle.qbs_base.specs.Values.{Schema, Database, AreCells, IsDatabaseOf}
+use Rattle.qbs_base.specs.Tables.{rows_of}
 use Rattle.qbs_base.proofs.Mapped.{map_sort}
 use Rattle.tor_terms.specs.declared.term.Atom.{Atom}
 use Rattle.tor_terms.specs.Plain.{Form, Tree, Walk}
@@ -16,7 +17,7 @@ use Rattle.kernel_lang.specs.declared.parts.ListDef.{ListDef}
 use Rattle.kernel_lang.specs.Given.{before as rows_before, cut as cut_rows, list_at}
 use Rattle.kernel_lang.specs.Postcondition.{nest_ones, nest_walks, body}
 use Rattle.sql_ast.specs.declared.tree.FromItem.{FromItem}
-use Rattle.sql_ast.specs.Meaning.{Place, Combination, row_of, places_of, rows_of, cut}
+use Rattle.sql_ast.specs.Meaning.{Place, Combination, row_of, places_of, cut}
 use Rattle.sql_ast.proofs.Combinations.{all_map, all_flat_map}
 use Rattle.sql_emit.specs.Scopes.{Ground, numbered, number_in, def_of, list_of, from_item, from_items}
 use Rattle.sql_emit.proofs.Chosen.{by_row, by_row_order, sorted_places, chosen, all_sorted}

@@ -9,13 +9,14 @@ use Rattle.qbs_base.specs.Folded.{is_some}
 use Rattle.qbs_base.specs.declared.scalar.Ty.{Ty}
 use Rattle.qbs_base.specs.declared.scalar.Ty.TheVariants as tys
 use Rattle.qbs_base.specs.Values.{Schema}
+use Rattle.qbs_base.specs.Columns.{same_ty}
 use Rattle.sql_ast.specs.declared.tree.FromItem.{FromItem}
 use Rattle.sql_ast.specs.declared.tree.SqlCol.{SqlCol}
 use Rattle.sql_ast.specs.declared.tree.SqlOpnd.{SqlOpnd}
 use Rattle.sql_ast.specs.declared.tree.SqlOpnd.TheVariants as opnds
 use Rattle.sql_ast.specs.Names.{◌>>=◌}
 use Rattle.sql_ast.specs.Tree.{Condition, Both, Either, Not, Compare, Bare, Exists, Within, Filter, Everything, Where}
-use Rattle.sql_ast.specs.Typing.{same_ty, ty_of_col, ty_beside, tys_beside, filter_tys, one_ty, ty_of_param, source_fits, opnd_param, last_param, filter_param, tys_up_to, source_params}
+use Rattle.sql_ast.specs.Typing.{ty_of_col, ty_beside, tys_beside, filter_tys, one_ty, ty_of_param, source_fits, opnd_param, last_param, filter_param, tys_up_to, source_params}
 use Rattle.sql_ast.specs.Valid.{IsFilterOf}
 use Rattle.sql_emit.specs.Numbered.{opnd_uses, uses, filter_uses, entered, first_uses, number_among, renumbered_opnd, renumbered, renumbered_filter, type_of}
 use Rattle.sql_emit.proofs.Grammar.{HasType, Good, GoodFilter, IsOrder, place_of, filter_named, all_tys_same, all_fits}

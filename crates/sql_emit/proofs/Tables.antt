@@ -11,6 +11,7 @@ use Rattle.qbs_base.specs.declared.scalar.Scalar.TheVariants as scalars
 use Rattle.qbs_base.specs.declared.scalar.Ty.{Ty}
 use Rattle.qbs_base.specs.declared.scalar.Ty.TheVariants as tys
 use Rattle.qbs_base.specs.Values.{Schema, Database, AreCells, IsRowOf, AreTables, IsDatabaseOf}
+use Rattle.qbs_base.specs.Tables.{rows_of}
 use Rattle.qbs_base.proofs.Order.{all_more}
 use Rattle.kernel_lang.specs.Fitting.{is_of}
 use Rattle.kernel_lang.specs.Typed.{column_type}
@@ -18,7 +19,7 @@ use Rattle.sql_ast.specs.declared.tree.FromItem.{FromItem}
 use Rattle.sql_ast.specs.declared.tree.SqlCol.{SqlCol}
 use Rattle.sql_ast.specs.declared.tree.SqlColumn.{SqlColumn}
 use Rattle.sql_ast.specs.declared.tree.SqlColumn.TheVariants as columns
-use Rattle.sql_ast.specs.Meaning.{Place, Combination, nth, cell_of, column_of, rows_of, places_of, product}
+use Rattle.sql_ast.specs.Meaning.{Place, Combination, nth, cell_of, column_of, places_of, product}
 use Rattle.sql_ast.specs.Names.{◌>>=◌}
 use Rattle.sql_ast.specs.Typing.{ty_of_column, ty_of_col}
 use Rattle.sql_ast.proofs.Combinations.{all_map, all_flat_map}

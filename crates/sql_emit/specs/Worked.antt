@@ -22,7 +22,7 @@ use Rattle.sql_ast.specs.declared.tree.SqlOpnd.{SqlOpnd}
 use Rattle.sql_ast.specs.declared.tree.SqlOpnd.TheVariants as opnds
 use Rattle.sql_ast.specs.Canonical.{canonical}
 use Rattle.sql_ast.specs.Tree.{PlainQuery, Listing, Compare, Where}
-use Rattle.sql_ast.specs.Worked.{schema}
+use Rattle.sql_ast.specs.Worked.{staff_schema}
 use Rattle.sql_emit.specs.Emitted.{position_key}
 use Rattle.sql_emit.specs.Given.{TextsAreUtf8}
 use Rattle.sql_emit.specs.Numbered.{Emission, emitted}
@@ -37,8 +37,8 @@ entries_of (Some e) = e.entries
 
 -- the text and the entries of the query for the accumulator 0
 pub record Has (f : Fragment) (cand : List ℕ) (known : List PlainQuery) (args : List (List ℕ)) (text entries : List ℕ) : Type 0 where
-  pub text_is : text_of (emitted schema f cand 0 known args) ≡ text
-  pub entries_are : entries_of (emitted schema f cand 0 known args) ≡ entries
+  pub text_is : text_of (emitted staff_schema f cand 0 known args) ≡ text
+  pub entries_are : entries_of (emitted staff_schema f cand 0 known args) ≡ entries
 
 -- without known queries and entries
 abbrev pub Emits : Fragment → List ℕ → List ℕ → Type 0

@@ -6,7 +6,8 @@ use Rattle.std.specs.Str.{IsAscii, IsUtf8, IsCharBoundary}
 use Rattle.std.proofs.lemmas.Bool.Decides.{nat_tests}
 use Rattle.std.proofs.lemmas.List.Sums.{prefix_len-le-length}
 use Rattle.std.proofs.lemmas.Str.{IsUtf8-from_ascii, IsCharBoundary-from_take}
-use Rattle.sql_ast.specs.Tokens.{is_name_part, is_number}
+use Rattle.qbs_base.specs.Bytes.{is_name_part}
+use Rattle.sql_ast.specs.Tokens.{is_number}
 
 nil_is_ascii : IsAscii []
 nil_is_ascii i = omega arith

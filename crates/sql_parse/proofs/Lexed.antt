@@ -5,7 +5,8 @@ use Rattle.std.specs.List.{prefix_len, position_or_len, before_first, after_firs
 use Rattle.std.proofs.lemmas.Bool.Decides.{nat_tests}
 use Rattle.sql_ast.specs.Lexer.{onto, quoted_at, token_at, tokens_in}
 use Rattle.sql_ast.specs.Names.{◌>>=◌}
-use Rattle.sql_ast.specs.Tokens.{Token, is_blank}
+use Rattle.qbs_base.specs.Bytes.{is_white}
+use Rattle.sql_ast.specs.Tokens.{Token}
 use Rattle.sql_parse.specs.Pieces.{piece_at, kept, all_read, quote_behind}
 use Rattle.sql_parse.specs.declared.fault.Stop.{Stop}
 use Rattle.sql_parse.specs.declared.fault.Stop.TheVariants as stops
@@ -140,7 +141,7 @@ behind_piece n x = tokens_in n x.1 >>= λ ts. Some (kept x.0 ++ ts)
 
 one_piece : (n i b : ℕ) (bs : List ℕ) → i < n → tokens_in (n - i) (b ∷ bs) ≡ (piece_at b bs >>= behind_piece (n - (i + 1)))
 unfolding piece_at tokens_in
-one_piece n i b bs h = rw (one_less n i h) (by (is_blank b) refl)
+one_piece n i b bs h = rw (one_less n i h) (by (is_white b) refl)
   where
     again : (m : ℕ) (read : Option (List Token)) → read ≡ (read >>= λ ts. Some ts)
     again m None = refl
@@ -150,7 +151,7 @@ one_piece n i b bs h = rw (one_less n i h) (by (is_blank b) refl)
     split m None = refl
     split m (Some x) = refl
 
-    by : (v : Bool) → is_blank b ≡ v → tokens_in (suc (n - (i + 1))) (b ∷ bs) ≡ (piece_at b bs >>= behind_piece (n - (i + 1)))
+    by : (v : Bool) → is_white b ≡ v → tokens_in (suc (n - (i + 1))) (b ∷ bs) ≡ (piece_at b bs >>= behind_piece (n - (i + 1)))
     by true e = rw e (again 0 (tokens_in (n - (i + 1)) bs))
     by false e = rw e (split (n - (i + 1)) (token_at b bs))
 
@@ -185,7 +186,7 @@ no_more : (w : List Token) → w ++ [] ≡ w
 no_more [] = refl
 no_more (t ∷ w) = ap (λ (v : List Token). t ∷ v) (no_more w)
 
-no_token : (b : ℕ) (bs : List ℕ) → nat_lt b 128 ≡ false → (is_blank b ≡ false) × (token_at b bs ≡ None)
+no_token : (b : ℕ) (bs : List ℕ) → nat_lt b 128 ≡ false → (is_white b ≡ false) × (token_at b bs ≡ None)
 no_token b bs h =
     let large : 128 ≤ b = grind (arith, nat_tests, h) in
     (grind (arith, nat_tests, h), grind (arith, nat_tests, h))

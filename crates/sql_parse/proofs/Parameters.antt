@@ -6,12 +6,13 @@ use Rattle.std.specs.List.{list_all}
 use Rattle.std.proofs.lemmas.Bool.Decides.{nat_tests}
 use Rattle.qbs_base.specs.declared.scalar.Ty.{Ty}
 use Rattle.qbs_base.specs.Values.{Schema}
+use Rattle.qbs_base.specs.Columns.{same_ty}
 use Rattle.sql_ast.specs.declared.tree.FromItem.{FromItem}
 use Rattle.sql_ast.specs.declared.tree.SqlOpnd.{SqlOpnd}
 use Rattle.sql_ast.specs.declared.tree.SqlOpnd.TheVariants as opnds
 use Rattle.sql_ast.specs.Names.{◌>>=◌}
 use Rattle.sql_ast.specs.Tree.{Condition, Both, Either, Not, Compare, Bare, Exists, Within, Filter, Everything, Where}
-use Rattle.sql_ast.specs.Typing.{same_ty, one_ty, ty_beside, tys_beside, filter_tys, ty_of_param, opnd_param, last_param, filter_param, tys_up_to}
+use Rattle.sql_ast.specs.Typing.{one_ty, ty_beside, tys_beside, filter_tys, ty_of_param, opnd_param, last_param, filter_param, tys_up_to}
 use Rattle.sql_parse.specs.declared.typing.Seen.{Seen}
 use Rattle.sql_parse.specs.declared.typing.Seen.TheVariants as seens
 use Rattle.sql_parse.specs.Types.{seen_ty, seen_all, only_ty, param_at, tys_below}

@@ -4,7 +4,8 @@ use Rattle.std.specs.declared.option.Option.{Option}
 use Rattle.std.specs.declared.option.Option.TheVariants.{Some, None}
 use Rattle.sql_ast.specs.Lexer.{quoted_at, negative_at, param_at, sign_at, token_at}
 use Rattle.sql_ast.specs.Names.{◌>>=◌}
-use Rattle.sql_ast.specs.Tokens.{Token, Quoted, is_blank}
+use Rattle.qbs_base.specs.Bytes.{is_white}
+use Rattle.sql_ast.specs.Tokens.{Token, Quoted}
 
 -- what is no word and no number without a sign, behind its first byte
 abbrev pub other_at : ℕ → List ℕ → Option (Token × List ℕ)
@@ -15,7 +16,7 @@ other_at b bs =
 
 -- white space, which is no token, or a token
 unfoldable pub piece_at : ℕ → List ℕ → Option (Option Token × List ℕ)
-piece_at b bs = if is_blank b then Some (None, bs) else (token_at b bs >>= λ x. Some (Some x.0, x.1))
+piece_at b bs = if is_white b then Some (None, bs) else (token_at b bs >>= λ x. Some (Some x.0, x.1))
 
 abbrev pub kept : Option Token → List Token
 kept None = []

@@ -4,10 +4,10 @@ use Rattle.std.specs.Borrow.{Bor}
 use Rattle.std.specs.declared.option.Option.{Option}
 use Rattle.std.specs.declared.option.Option.TheVariants.{Some, None}
 use Rattle.qbs_base.specs.declared.scalar.Ty.{Ty}
+use Rattle.qbs_base.specs.Columns.{same_ty}
 use Rattle.sql_ast.specs.declared.tree.FromItem.{FromItem}
 use Rattle.sql_ast.specs.Names.{◌>>=◌}
 use Rattle.sql_ast.specs.Tree.{Filter, PlainQuery, Listing, Number, Truth}
-use Rattle.sql_ast.specs.Typing.{same_ty}
 use Rattle.sql_parse.specs.declared.typing.Seen.{Seen}
 use Rattle.sql_parse.specs.declared.typing.Seen.TheVariants as seens
 

@@ -3,7 +3,7 @@ ghost use Rattle.std.specs.Prelude.{◌≡◌, ◌≤◌, length, option_map};
 ghost use Rattle.std.specs.Char.{is_ascii_digit};
 ghost use Rattle.std.specs.List.{prefix_len};
 ghost use Rattle.std.specs.Str.{IsCharBoundary};
-ghost use Rattle.sql_ast.specs.Tokens.{is_blank as is_blank_byte, is_name_start as is_name_start_byte, is_name_part as is_name_part_byte};
+ghost use Rattle.qbs_base.specs.Bytes.{is_white as is_blank_byte, is_name_start as is_name_start_byte, is_name_part as is_name_part_byte};
 ghost use Rattle.sql_parse.specs.Seen.{ascii_front};
 
 pub fn is_blank(byte: u8) -> bool

@@ -6,9 +6,9 @@ use Rattle.sql_ast.specs.Lexer.{tokens_in}
 use Rattle.sql_ast.specs.Reader.{listed_at, atom_at, negation_in, joined_from, conjunction_at, condition_at}
 use Rattle.sql_ast.specs.Tree.{PlainQuery}
 use Rattle.sql_ast.specs.Valid.{IsQueryOf}
+use Rattle.sql_ast.specs.Worked.{staff_schema}
 use Rattle.sql_ast.proofs.InvertedQuery.{has_query_valid}
 use Rattle.java_ast.specs.Path.{found_in}
-use Rattle.java_mean.specs.Worked.{staff_schema}
 use Rattle.java_types.specs.Texts.{read_by}
 use Rattle.java_types.proofs.Found.{found_exactly}
 use Rattle.loop_text.specs.Statements.Setting.{is_found}

@@ -8,9 +8,10 @@ use Rattle.java_mean.specs.declared.types.Single.TheVariants.{ScalarOf, RowOf}
 use Rattle.java_mean.specs.Asks.{frame_of}
 use Rattle.java_mean.specs.Refines.{Hole, Here, Past, types_at}
 use Rattle.java_mean.specs.Types.{Types, types_of_params}
-use Rattle.java_mean.specs.Worked.{somewhere, staff_schema, User, out, class_C, class_E, class_H}
+use Rattle.java_mean.specs.Worked.{somewhere, User, out, class_C, class_E, class_H}
 use Rattle.java_mean.proofs.TypedPlaces.{places_typed}
 use Rattle.sql_ast.specs.Tree.{PlainQuery}
+use Rattle.sql_ast.specs.Worked.{staff_schema}
 use Rattle.loop_text.specs.Statements.Fragment.{Fragment, fragment_in}
 use Rattle.java_loops.specs.Kernel.Setting.{Setting, setting_of}
 use Rattle.loop_text.specs.Sites.Sites.{is_some}

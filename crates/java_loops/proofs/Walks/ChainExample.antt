@@ -11,7 +11,8 @@ use Rattle.qbs_base.specs.declared.scalar.Ty.TheVariants as tys
 use Rattle.java_ast.specs.Tree as tree
 use Rattle.java_ast.specs.Tree.{Expression, Statement, Statements, Nothing, Then}
 use Rattle.java_mean.specs.Expression.{columns_at, table_number}
-use Rattle.java_mean.specs.Worked.{somewhere, staff, staff_schema, User, Role, block, field, u, out, long}
+use Rattle.sql_ast.specs.Worked.{staff_schema}
+use Rattle.java_mean.specs.Worked.{somewhere, staff, User, Role, block, field, u, out, long}
 use Rattle.java_mean.proofs.Puts.{names_equal}
 use Rattle.tor_terms.specs.declared.term.Elem.TheVariants as elems
 use Rattle.tor_terms.specs.declared.term.Operand.TheVariants as operands

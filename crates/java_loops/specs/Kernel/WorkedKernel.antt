@@ -7,7 +7,8 @@ use Rattle.qbs_base.specs.declared.span.Span.{Span}
 use Rattle.qbs_base.specs.declared.scalar.Scalar.TheVariants as scalars
 use Rattle.java_ast.specs.declared.tree.Op.TheVariants as ops
 use Rattle.java_ast.specs.Tree.{Long, Boolean, Table, Expression, Lit, Var, Field, Binary, Fetch, Statement, Declare, Assign, If, ForEach, While, Print, Break, PlainMethod}
-use Rattle.java_mean.specs.Worked.{staff_schema, block, give, method}
+use Rattle.sql_ast.specs.Worked.{staff_schema}
+use Rattle.java_mean.specs.Worked.{block, give, method}
 use Rattle.kernel_lang.specs.Plain.{Fragment}
 use Rattle.java_loops.specs.Kernel.Kernel.{Broken, outside_at, lowered_at}
 use Rattle.java_loops.specs.Lowering.Lowered.{Lowering}

@@ -12,7 +12,8 @@ use Rattle.java_ast.specs.Tree as tree
 use Rattle.java_ast.specs.Tree.{Expression, Statement, Statements}
 use Rattle.java_mean.specs.Expression.{alone}
 use Rattle.java_mean.specs.Store.{Store, plainly}
-use Rattle.java_mean.specs.Worked.{somewhere, staff, staff_schema, role, User, Role, block, field, for_each, u, out, long}
+use Rattle.sql_ast.specs.Worked.{staff_schema, role}
+use Rattle.java_mean.specs.Worked.{somewhere, staff, User, Role, block, field, for_each, u, out, long}
 use Rattle.tor_terms.specs.declared.term.Atom.TheVariants as atoms
 use Rattle.tor_terms.specs.declared.term.Elem.TheVariants as elems
 use Rattle.tor_terms.specs.declared.term.Operand.TheVariants as operands

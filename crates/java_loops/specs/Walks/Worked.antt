@@ -4,7 +4,8 @@ use Rattle.qbs_base.specs.declared.scalar.Scalar.TheVariants as scalars
 use Rattle.qbs_base.specs.declared.scalar.Value.TheVariants.{Many}
 use Rattle.java_ast.specs.Tree.{Lit, Fetch, Not, Statement, Assign, If, ForEach, Break, Statements, Nothing, Then}
 use Rattle.java_mean.specs.Store.{Store, put, plainly}
-use Rattle.java_mean.specs.Worked.{User, u, role, somewhere, block, field, for_each}
+use Rattle.sql_ast.specs.Worked.{role}
+use Rattle.java_mean.specs.Worked.{User, u, somewhere, block, field, for_each}
 
 -- the first for-each of a block
 abbrev pub first_loop : Statements → Statement

@@ -4,10 +4,9 @@ use Rattle.std.specs.declared.option.Option.{Option}
 use Rattle.sql_ast.specs.declared.tree.Query.{Query}
 use Rattle.sql_ast.specs.Reading.{query}
 use Rattle.java_mean.specs.Rules.{has_order}
-use Rattle.java_types.proofs.Orders.{order_decided}
 use Rattle.java_types.proofs.queries.has_order.Goals as goal
 
 pub returns-in-Some : goal.returns-in-Some
 returns-in-Some c =
-    order_decided c.order_complete.result (query c.in-Some.q.now) c.order_complete.ensures
+    c.order_complete.ensures
     ∙ ap (λ (o : Option (Bor Query)). has_order (option_map query (option_copied o))) (sym c.in-Some.is)

@@ -1,7 +1,6 @@
-use Rattle.std.proofs.Common.{ℕ, suc, ◌<◌, IsTrue}
-use Rattle.std.specs.List.{list_any}
-use Rattle.sql_ast.specs.Keys.{names_position}
+use Rattle.std.proofs.Common.{◌≡◌, true}
+use Rattle.sql_ast.specs.Keys.{name_positions}
 use Rattle.sql_ast.proofs.complete.names_each_position.Given as goal
 
 abbrev pub invariant-loop-i : goal.invariant-loop-i
-invariant-loop-i l = (k : ℕ) → k < l.i → IsTrue (list_any (names_position (suc k)) l.q.keys)
+invariant-loop-i l = name_positions l.i l.q.keys ≡ true
