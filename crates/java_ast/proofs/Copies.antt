@@ -10,8 +10,7 @@ use Rattle.java_ast.specs.declared.tree.StmtNode.{If, ForEach, While}
 use Rattle.java_ast.specs.Reading.{spelled, expression, expressions, statement, statements}
 use Rattle.java_ast.specs.Tree as plain
 use Rattle.java_ast.specs.Tree.{Expression, Statement, Statements}
-use Rattle.java_ast.proofs.Nodes.{query_is, query_long_is, query_boolean_is}
-use Rattle.java_ast.proofs.Bodies.{if_is, if_else_is, for_each_is, while_is}
+use Rattle.java_ast.proofs.Nodes.{query_is, query_long_is, query_boolean_is, if_is, if_else_is, for_each_is, while_is}
 
 pub expression_in : (xs : List Expr) (c e : Expr) (rest : List Expr) → expression c ≡ expression e → expressions ((xs ++ c ∷ []) ++ rest) ≡ expressions (xs ++ e ∷ rest)
 expression_in [] c e rest h = ap (λ (x : Expression). plain.And x (expressions rest)) h

@@ -11,7 +11,7 @@ use Rattle.java_ast.specs.Reading.{spelled, expression, statement, statements, m
 use Rattle.java_ast.specs.Tree as plain
 use Rattle.java_ast.specs.Tree.{Statement, Statements, Nothing, Then, PlainMethod, PlainProgram}
 use Rattle.java_ast.specs.Path.{numbered, and_then, first_of, behind_of, with_range, with_numbered, with_branch, replaced_in, with_body, with_methods, with_method, replaced_at}
-use Rattle.java_ast.proofs.Bodies.{if_is, if_else_is, for_each_is, while_is}
+use Rattle.java_ast.proofs.Nodes.{if_is, if_else_is, for_each_is, while_is}
 
 -- ---- lists of statements
 

@@ -6,24 +6,8 @@ ghost use Rattle.java_ast.specs.Tree as plain;
 
 use crate::build::{for_each, if_else, if_only, query, query_boolean, query_long, while_loop};
 use crate::{Expr, ExprNode, JTy, Param, Params, Stmt, StmtNode};
-use qbs_base::{Bools, Name, Names, NoMemory, Scalar, Span, Text};
+use qbs_base::{Bools, Name, NoMemory, Scalar, Span, Text, copy_names};
 use std::alloc::Global;
-
-pub fn copy_text(text: &Text) -> Result<Text, NoMemory>
-    ensures { IfOk result (λ c. c ≡ text.now) }
-{
-    Ok(text.clone()?)
-}
-
-pub fn copy_names(alloc: Global, names: &[Name]) -> Result<Names, NoMemory>
-    ensures { IfOk result (λ c. c ≡ names.now) }
-{
-    let mut all = Names::new(alloc);
-    for name in names {
-        all.push(name.clone()?)?;
-    }
-    Ok(all)
-}
 
 fn copy_bools(alloc: Global, bools: &[bool]) -> Result<Bools, NoMemory>
     ensures { IfOk result (λ c. c ≡ bools.now) }
@@ -149,7 +133,7 @@ pub fn copy_query(
 ) -> Result<Expr, NoMemory>
     ensures { IfOk result (λ c. expression c ≡ plain.Query span (spelled element.now) text.now (expressions arguments.items)) }
 {
-    let text = copy_text(text)?;
+    let text = text.clone()?;
     let element = copy_type(alloc, element)?;
     Ok(query(span, element, text, arguments))
 }
@@ -157,14 +141,14 @@ pub fn copy_query(
 pub fn copy_query_long(span: Span, text: &Text, arguments: Vec<Expr>) -> Result<Expr, NoMemory>
     ensures { IfOk result (λ c. expression c ≡ plain.QueryLong span text.now (expressions arguments.items)) }
 {
-    let text = copy_text(text)?;
+    let text = text.clone()?;
     Ok(query_long(span, text, arguments))
 }
 
 pub fn copy_query_boolean(span: Span, text: &Text, arguments: Vec<Expr>) -> Result<Expr, NoMemory>
     ensures { IfOk result (λ c. expression c ≡ plain.QueryBoolean span text.now (expressions arguments.items)) }
 {
-    let text = copy_text(text)?;
+    let text = text.clone()?;
     Ok(query_boolean(span, text, arguments))
 }
 
@@ -355,7 +339,7 @@ pub fn for_each_copied(
 ) -> Result<Stmt, NoMemory>
     ensures { IfOk result (λ c. statement c ≡ plain.ForEach span (spelled ty.now) name.now (expression list.now) (statements body.items)) }
 {
-    let name = copy_text(name)?;
+    let name = name.clone()?;
     let ty = copy_type(alloc, ty)?;
     let list = copy_expression(alloc, list)?;
     Ok(for_each(span, ty, name, list, body))

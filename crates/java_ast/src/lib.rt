@@ -11,7 +11,7 @@ mod replace;
 mod tree;
 
 pub use copy::{copy_expression, copy_statement, copy_statements};
-pub use path::at_path;
+pub use path::{at_path, branch};
 pub use placed::{copy_placed, the_last_place_stays};
 pub use programs::copy_program;
 pub use put::put_at;

@@ -34,8 +34,9 @@ fn one_branch<'a>(number: u64, first: &'a [Stmt], other: &'a [Stmt]) -> Option<&
     }
 }
 
-/// The branch of a statement with this number.
-fn branch(s: &Stmt, number: u64) -> Option<&[Stmt]>
+/// The branch of a statement with this number, None where it has none: 0 is its body, or what is done
+/// where its condition holds, 1 what is done else.
+pub fn branch(s: &Stmt, number: u64) -> Option<&[Stmt]>
     ensures { option_map statements (option_copied result) ≡ branch_of number (statement s.now) }
 {
     match &s.node {

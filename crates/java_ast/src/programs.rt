@@ -3,9 +3,9 @@ ghost use Rattle.std.specs.Prelude.{◌≡◌, ◌++◌, IfOk, OnOk, map};
 ghost use Rattle.java_ast.specs.Reading.{statements, method as plain_method, program as plain_program};
 ghost use Rattle.java_ast.specs.Path.{with_body, with_methods};
 
-use crate::copy::{copy_names, copy_params, copy_result, copy_statements, copy_text};
+use crate::copy::{copy_params, copy_result, copy_statements};
 use crate::{Method, Methods, Program, Stmt, Stmts};
-use qbs_base::{NoMemory, Text};
+use qbs_base::{NoMemory, Text, copy_names};
 use std::alloc::Global;
 
 /// The method with another body.
@@ -16,7 +16,7 @@ pub fn method_with(alloc: Global, m: &Method, body: Vec<Stmt>) -> Result<Method,
         access: m.access,
         fixed: m.fixed,
         result: copy_result(alloc, &m.result)?,
-        name: copy_text(&m.name)?,
+        name: m.name.clone()?,
         params: copy_params(alloc, m.params.as_slice())?,
         body: Stmts::from_vec(body),
         span: m.span,
@@ -44,7 +44,7 @@ fn copy_package(name: &Option<Text>) -> Result<Option<Text>, NoMemory>
 {
     match name {
         None => Ok(None),
-        Some(name) => Ok(Some(copy_text(name)?)),
+        Some(name) => Ok(Some(name.clone()?)),
     }
 }
 
@@ -56,7 +56,7 @@ pub fn program_with(alloc: Global, p: &Program, methods: Methods) -> Result<Prog
         package: copy_package(&p.package)?,
         imports: copy_names(alloc, p.imports.as_slice())?,
         public: p.public,
-        name: copy_text(&p.name)?,
+        name: p.name.clone()?,
         methods,
     })
 }

@@ -1,18 +1,5 @@
--- Columns by number, and lists item by item.
-use Rattle.std.proofs.Common.{◌≡◌, ℕ, zero, suc, ◌+◌, ◌<◌, ◌≤◌, List, [], ◌∷◌, ◌++◌, length, drop, take, refl, sym, ap, get_or, drop-cons, add-one, arith}
-use Rattle.qbs_base.specs.declared.columns.Table.{Table}
-use Rattle.qbs_base.specs.Values.{Schema}
-use Rattle.java_mean.specs.Expression.{columns_at}
-
-pub columns_some : (schema : Schema) (n : ℕ) (t d : Table) → n < length schema → t ≡ get_or schema n d → t.columns ≡ columns_at schema n
-columns_some [] n t d below e = absurd (omega arith)
-columns_some (u ∷ ts) zero t d below e = ap (λ (x : Table). x.columns) e
-columns_some (u ∷ ts) (suc n) t d below e = columns_some ts n t d (omega arith) e
-
-pub columns_none : (schema : Schema) (n : ℕ) → length schema ≤ n → [] ≡ columns_at schema n
-columns_none [] n above = refl
-columns_none (u ∷ ts) zero above = absurd (omega arith)
-columns_none (u ∷ ts) (suc n) above = columns_none ts n (omega arith)
+-- Lists item by item.
+use Rattle.std.proofs.Common.{◌≡◌, ℕ, zero, suc, ◌+◌, ◌<◌, List, [], ◌∷◌, ◌++◌, length, drop, take, sym, ap, get_or, drop-cons, add-one, arith}
 
 pub next_item : {A : Type 0} (xs : List A) (i : ℕ) (x : A) → i < length xs → x ≡ get_or xs i x → drop i xs ≡ x ∷ drop (i + 1) xs
 next_item {A} xs i x h e = rw (drop-cons xs i x, add-one) (ap (λ (y : A). y ∷ drop (suc i) xs) (sym e))

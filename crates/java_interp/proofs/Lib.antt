@@ -4,7 +4,6 @@ pub mod Changed
 pub mod Columns
 pub mod Placing
 pub mod Readings
-pub mod Nodes
 pub mod Occurring
 pub mod Seen
 pub mod Sorted

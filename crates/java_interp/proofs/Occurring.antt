@@ -25,7 +25,7 @@ use Rattle.java_interp.specs.Held.{value_in}
 use Rattle.java_interp.specs.Words.{asked_in, prefixed}
 use Rattle.java_interp.proofs.Columns.{next_item, take_next}
 use Rattle.java_interp.proofs.Stopped.{stops_same}
-use Rattle.java_interp.proofs.Nodes.{query_is, query_long_is, query_boolean_is}
+use Rattle.java_ast.proofs.Nodes.{query_is, query_long_is, query_boolean_is}
 
 pub firsts_step : (rows : List Row) (i : ℕ) (row : Row) (before old new : List Row) → i < length rows → row ≡ get_or rows i row → before ≡ take i rows → old ≡ firsts same_member (take i rows) → new ≡ (if list_any (λ b. same_member b row) before then old else old ++ row ∷ []) → new ≡ firsts same_member (take (i + 1) rows)
 firsts_step rows i row before old new lt at b o n =

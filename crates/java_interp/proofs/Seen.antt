@@ -2,21 +2,19 @@
 use Rattle.std.proofs.Common.{◌≡◌, ℕ, ℤ, ◌+◌, ◌<◌, length, take, get_or, Bool, true, false, cond, not, ◌&&◌, ◌||◌, List, [], ◌∷◌, ◌++◌, map, refl, sym, ap, ap₂, ◌∙◌}
 use Rattle.std.specs.Bool.{OnFalse}
 use Rattle.std.specs.BTreeSet.{BTreeSet, contains, Updates, IsUnchanged}
-use Rattle.std.specs.Cmp.{IsTotalOrder, int_cmp_total, bool_cmp_total}
-use Rattle.std.specs.Cmp.Lexicographic.{slice_cmp, nat_list_cmp_total}
+use Rattle.std.specs.Cmp.Lexicographic.{slice_cmp}
 use Rattle.std.specs.List.{list_any}
-use Rattle.std.specs.Ordering.{is_eq, int_cmp, bool_cmp, nat_cmp, ordering_then, ordering_reverse}
+use Rattle.std.specs.Ordering.{is_eq, int_cmp, bool_cmp, nat_cmp, ordering_then}
 use Rattle.std.specs.declared.cmp.Ordering.{Ordering}
 use Rattle.std.specs.declared.cmp.Ordering.TheVariants.{Less, Equal, Greater}
 use Rattle.qbs_base.specs.declared.scalar.Row.{Row}
-use Rattle.qbs_base.specs.declared.scalar.Scalar.{Scalar}
-use Rattle.qbs_base.specs.declared.scalar.Scalar.TheVariants as scalars
 use Rattle.qbs_base.specs.Scalar.{scalar_same, same_cells}
 use Rattle.sql_ast.specs.Grouped.{firsts}
 use Rattle.sql_exec.proofs.Finding.{any_append}
 use Rattle.sql_ast.proofs.FirstOnes.{firsts_more}
 use Rattle.java_mean.specs.Expression.{same_member, is_among}
 use Rattle.java_mean.specs.Statement.{added}
+use Rattle.java_mean.proofs.Members.{cells_back}
 use Rattle.java_interp.specs.declared.met.Atom.{Atom}
 use Rattle.java_interp.specs.declared.met.Atom.TheVariants as atoms
 use Rattle.java_interp.proofs.Columns.{take_next}
@@ -57,33 +55,6 @@ same_atoms cmp h [] [] = refl
 same_atoms cmp h [] (y ∷ ys) = refl
 same_atoms cmp h (x ∷ xs) [] = refl
 same_atoms cmp h (x ∷ xs) (y ∷ ys) = eq_then (cmp x y) (slice_cmp cmp xs ys) ∙ ap₂ (λ (a b : Bool). a && b) (same_atom cmp h x y) (same_atoms cmp h xs ys)
-
--- ---- Equality goes both ways
-
-eq_reversed : (o : Ordering) → is_eq (ordering_reverse o) ≡ is_eq o
-eq_reversed Less = refl
-eq_reversed Equal = refl
-eq_reversed Greater = refl
-
-same_back : {K : Type 0} (R : K → K → Ordering) → IsTotalOrder R → (x y : K) → is_eq (R x y) ≡ is_eq (R y x)
-same_back R o x y = ap is_eq (o.antisymm x y) ∙ eq_reversed (R y x)
-
-scalars_back : (x y : Scalar) → scalar_same x y ≡ scalar_same y x
-scalars_back (scalars.Long x) (scalars.Long y) = same_back int_cmp int_cmp_total x y
-scalars_back (scalars.Long x) (scalars.Bool y) = refl
-scalars_back (scalars.Long x) (scalars.Text y) = refl
-scalars_back (scalars.Bool x) (scalars.Long y) = refl
-scalars_back (scalars.Bool x) (scalars.Bool y) = same_back bool_cmp bool_cmp_total x y
-scalars_back (scalars.Bool x) (scalars.Text y) = refl
-scalars_back (scalars.Text x) (scalars.Long y) = refl
-scalars_back (scalars.Text x) (scalars.Bool y) = refl
-scalars_back (scalars.Text x) (scalars.Text y) = same_back (slice_cmp nat_cmp) nat_list_cmp_total x y
-
-cells_back : (xs ys : List Scalar) → same_cells xs ys ≡ same_cells ys xs
-cells_back [] [] = refl
-cells_back [] (y ∷ ys) = refl
-cells_back (x ∷ xs) [] = refl
-cells_back (x ∷ xs) (y ∷ ys) = ap₂ (λ (a b : Bool). a && b) (scalars_back x y) (cells_back xs ys)
 
 -- ---- What was met
 

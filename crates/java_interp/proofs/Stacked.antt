@@ -16,7 +16,7 @@ use Rattle.java_mean.specs.Expression.{element}
 use Rattle.java_mean.specs.Statement.{State, Passed, GoesOn, Leaves, Returns, Does, then_do, then_turn, turn, with_variable, each, test_of, meaning, meanings}
 use Rattle.java_mean.specs.Store.{plainly}
 use Rattle.java_mean.specs.World.{World}
-use Rattle.java_interp.proofs.Nodes.{if_is, if_else_is}
+use Rattle.java_ast.proofs.Nodes.{if_is, if_else_is}
 use Rattle.java_interp.proofs.Columns.{next_item}
 use Rattle.java_interp.specs.declared.frame.Frame.{Frame}
 use Rattle.java_interp.specs.declared.frame.Frame.TheVariants as frames

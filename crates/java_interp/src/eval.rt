@@ -13,7 +13,6 @@ ghost use Rattle.java_interp.specs.Running.{world};
 ghost use Rattle.java_interp.specs.Words.{held_at, list_at, member_at, cell_in, field_in, asked_in, fetched as fetched_in};
 
 use crate::asked::{bool_of, list_in, long_of, row_of, scalar_of};
-use crate::copying::copy_scalar;
 use crate::firsts::first_rows;
 use crate::held::{Held, List, Variable, held_again, list_again, rows};
 use crate::operators::{applied, same_texts, settled, size_number};
@@ -24,7 +23,7 @@ use crate::stop::Stop;
 use crate::store::Store;
 use java_ast::{Expr, ExprNode};
 use java_mean::{Ending, RunFault};
-use qbs_base::{Name, Row, Scalar, Scalars, Span, Text};
+use qbs_base::{Name, Row, Scalar, Scalars, Span, Text, copy_scalar};
 use std::alloc::Global;
 
 // What the variable of this name holds.
@@ -96,7 +95,7 @@ fn field(row: &Expr, source: &Source, store: &Store, name: &Name) -> Result<Scal
 ///
 /// It calls itself for the parts of an expression, as deep as the tree is, which the grammar limits.
 #[cycle(eval)]
-#[tactic(auto, using(crate::proofs::Nodes::nodes, crate::proofs::Occurring::query_asked, crate::proofs::Occurring::query_long_asked, crate::proofs::Occurring::query_boolean_asked))]
+#[tactic(auto, using(java_ast::proofs::Nodes::nodes, crate::proofs::Occurring::query_asked, crate::proofs::Occurring::query_long_asked, crate::proofs::Occurring::query_boolean_asked))]
 pub fn eval<'a>(e: &Expr, source: &Source<'a>, store: &Store<'a>) -> Result<Held<'a>, Stop>
     ensures { GivesBy value_in result (meant.value_of (expression e.now) (world source.now) store.now) }
 {

@@ -5,10 +5,9 @@ ghost use Rattle.java_mean.specs.Expression.{same_member};
 ghost use Rattle.java_interp.specs.Held.{rows_in};
 ghost use Rattle.java_interp.specs.Met.{Takes};
 
-use crate::copying::copy_row;
 use crate::held::{List, list_of, rows};
 use crate::met::{Key, meet};
-use qbs_base::{NoMemory, Row, Rows};
+use qbs_base::{NoMemory, Row, Rows, copy_row};
 use std::alloc::Global;
 use std::collections::BTreeSet;
 

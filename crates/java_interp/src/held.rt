@@ -2,9 +2,8 @@
 ghost use Rattle.std.specs.Prelude.{◌≡◌, IfOk};
 ghost use Rattle.java_interp.specs.Held.{rows_in, value_in};
 
-use crate::copying::{copy_row, copy_rows, copy_scalar};
 use crate::members::Members;
-use qbs_base::{NoMemory, Row, Rows, Scalar, Value};
+use qbs_base::{NoMemory, Row, Rows, Scalar, Value, copy_row, copy_rows, copy_scalar};
 use std::alloc::Global;
 use std::rc::Rc;
 

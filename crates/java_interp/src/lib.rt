@@ -2,7 +2,6 @@
 #![tactic(auto)]
 
 mod asked;
-mod copying;
 mod eval;
 mod firsts;
 mod frame;

@@ -1,37 +1,28 @@
 // Rows: their cells, and which are members of a list.
 ghost use Rattle.std.specs.Prelude.{◌≡◌, ℤ, IfOk, option_copied};
 ghost use Rattle.std.specs.List.{list_any};
+ghost use Rattle.qbs_base.specs.Columns.{column_number};
 ghost use Rattle.qbs_base.specs.Scalar as scalars;
 ghost use Rattle.java_mean.specs.Expression as meant;
 ghost use Rattle.java_interp.specs.Held.{value_in};
 
-use crate::copying::{copy_row, copy_scalar};
 use crate::held::Held;
 use crate::operators::same;
-use qbs_base::{Column, Kind, Name, NoMemory, Row, Scalar};
+use qbs_base::{Column, Kind, Name, NoMemory, Row, Scalar, columns_at, copy_row, copy_scalar};
 use schema::Schema;
 use std::alloc::Global;
-
-fn columns_at(schema: &Schema, n: u32) -> &[Column]
-    ensures { result.now ≡ meant.columns_at schema.now n }
-{
-    match schema.tables().get(n as usize) {
-        Some(table) => table.columns.as_slice(),
-        None => &[],
-    }
-}
 
 fn columns_of(schema: &Schema, kind: Kind) -> &[Column]
     ensures { result.now ≡ meant.columns_of schema.now kind }
 {
     match kind {
         Kind::Plain => &[],
-        Kind::Table(n) => columns_at(schema, n),
+        Kind::Table(n) => columns_at(schema.tables(), n),
     }
 }
 
 fn column_number(columns: &[Column], name: &Name) -> Option<usize>
-    ensures { result ≡ meant.column_number columns.now name.now }
+    ensures { result ≡ column_number columns.now name.now }
 {
     columns.iter().position(|column| column.name == *name)
 }

@@ -10,7 +10,6 @@ ghost use Rattle.java_interp.specs.Held.{value_in};
 ghost use Rattle.java_interp.specs.Running.{world};
 ghost use Rattle.java_interp.specs.Reached.{reached, outcome_in};
 
-use crate::copying::copy_scalar;
 use crate::gather::gather;
 use crate::held::{Held, Variable, value};
 use crate::known::Queries;
@@ -23,7 +22,7 @@ use crate::store::Store;
 use java_ast::{Method, Param};
 use java_mean::{Ending, RunFault};
 use java_types::Typed;
-use qbs_base::{Db, NoMemory, Scalar, Scalars, Span, Texts, Value};
+use qbs_base::{Db, NoMemory, Scalar, Scalars, Span, Texts, Value, copy_scalar};
 use schema::Schema;
 use std::alloc::Global;
 

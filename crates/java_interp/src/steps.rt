@@ -11,7 +11,6 @@ ghost use Rattle.java_interp.specs.Stack.{Moves, weight_next, count, count_all};
 ghost use Rattle.java_interp.specs.Words.{assigned, added_to, sorted_at};
 
 use crate::asked::{bool_of, list_in, member_of, scalar_of};
-use crate::copying::copy_text;
 use crate::eval::eval;
 use crate::frame::{Frame, Next};
 use crate::held::{Held, List, Variable, list_of, list_of_members, own_members, own_rows};
@@ -22,7 +21,7 @@ use crate::source::Source;
 use crate::stop::Stop;
 use java_ast::{Expr, JTy, Stmt, StmtNode};
 use java_mean::Ending;
-use qbs_base::{Name, NoMemory, Row, Scalar, Text};
+use qbs_base::{Name, NoMemory, Row, Scalar, Text, copy_text};
 use std::alloc::Global;
 
 /// The truth value of a condition.
@@ -188,7 +187,7 @@ fn choose<'a>(
 }
 
 /// Begins a statement, and says how it goes on.
-#[tactic(auto, using(crate::proofs::Nodes::nodes, crate::proofs::Stacked::meaning_if, crate::proofs::Stacked::count_if))]
+#[tactic(auto, using(java_ast::proofs::Nodes::nodes, crate::proofs::Stacked::meaning_if, crate::proofs::Stacked::count_if))]
 pub fn start<'a>(source: &Source<'a>, s: &'a Stmt, m: &mut Machine<'a>) -> Result<Next<'a>, Stop>
     ensures moves { Moves (world source.now) result (state m.new) (meaning (statement s.now) (world source.now) (state m.old)) }
     ensures falls { IfOk result (λ next. weight_next next ≤ count (statement s.now)) }

@@ -20,14 +20,15 @@ use Rattle.sql_ast.specs.declared.tree.SqlItem.{SqlItem}
 use Rattle.sql_ast.specs.declared.tree.SqlItem.TheVariants as items
 use Rattle.qbs_base.specs.Sort.{stable_sort}
 use Rattle.qbs_base.specs.Tables.{rows_of}
+use Rattle.qbs_base.specs.Columns.{columns_at}
 use Rattle.java_ast.specs.Tree.{PlainMethod}
 use Rattle.sql_ast.specs.Grouped.{firsts, least_position, sooner, grouped}
 use Rattle.sql_ast.specs.Meaning.{Place, Combination, places_of, product, nth, cell_of, column_of, row_of, item_of, cut, plain_row, passes, true_ones, before, ordered_rows, position_of, same_value, grouped_rows, rows_from, whole_number, Rows, One, TooLarge, query_answer}
 use Rattle.sql_ast.specs.Names.{◌>>=◌}
 use Rattle.sql_ast.specs.Tree.{Filter, PlainListing, PlainQuery, Listing, Number, Truth}
 use Rattle.sql_ast.specs.Typing.{ty_of_column, ty_of_col}
-use Rattle.java_mean.specs.Asks.{item_type, element_type, answer_type, params_in, type_of_found, frame_of}
-use Rattle.java_mean.specs.Expression.{columns_at}
+use Rattle.sql_ast.specs.Valid.{params_in}
+use Rattle.java_mean.specs.Asks.{item_type, element_type, answer_type, type_of_found, frame_of}
 use Rattle.java_mean.specs.Outcome.{world_with}
 use Rattle.java_mean.specs.Types.{Single, ScalarOf, RowOf, JavaType, Of, Listed, made_of, IsMember}
 use Rattle.java_mean.specs.Typing.{QueryType, IsAnswer, IsWorld}

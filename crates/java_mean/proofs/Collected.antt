@@ -10,6 +10,7 @@ use Rattle.qbs_base.specs.declared.scalar.Value.TheVariants.{Whole, Many}
 use Rattle.qbs_base.specs.Named.{at_name}
 use Rattle.java_ast.specs.declared.tree.Op.TheVariants as ops
 use Rattle.java_ast.specs.Tree.{Lit, Var, Field, Binary, Add, If, Return, Statements, Nothing, Then, PlainMethod}
+use Rattle.java_ast.specs.Path.{with_body}
 use Rattle.java_mean.specs.declared.ending.Ending.{Ending}
 use Rattle.java_mean.specs.declared.ending.Ending.TheVariants as endings
 use Rattle.java_mean.specs.Endings.{◌>>=◌}
@@ -19,7 +20,6 @@ use Rattle.java_mean.specs.World.{World}
 use Rattle.java_mean.specs.Expression.{element, cell}
 use Rattle.java_mean.specs.Statement.{State, Passed, GoesOn, Leaves, Returns, Does, then_do, then_turn, branch, fewer, with_variable, with_value, each, test_of, meanings}
 use Rattle.java_mean.specs.Outcome.{Done, finished, start, outcome}
-use Rattle.java_mean.specs.Keeps.{with_body}
 use Rattle.java_mean.specs.FirstForm.{FormPlaces, collecting, QueryPlaces, selecting, is_collected}
 use Rattle.java_mean.proofs.Puts.{put_same, put_other}
 

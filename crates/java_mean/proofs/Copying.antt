@@ -7,13 +7,14 @@ use Rattle.qbs_base.specs.declared.scalar.Row.{Row}
 use Rattle.qbs_base.specs.declared.scalar.Value.TheVariants.{Whole, Many}
 use Rattle.qbs_base.specs.Named.{at_name}
 use Rattle.qbs_base.specs.Values.{IsRowOf}
+use Rattle.qbs_base.specs.Columns.{columns_at}
 use Rattle.java_ast.specs.Tree.{ListOf, Table, Var, Fetch, NewList, Declare, Add, ForEach, Statements, Nothing, Then}
 use Rattle.java_mean.specs.declared.ending.Ending.{Ending}
 use Rattle.java_mean.specs.declared.ending.Ending.TheVariants as endings
 use Rattle.java_mean.specs.Asks.{frame_of}
 use Rattle.java_mean.specs.Copied.{copied, fetched, only_out, before_return, copying, staff_program}
 use Rattle.java_mean.specs.Endings.{◌>>=◌}
-use Rattle.java_mean.specs.Expression.{element, element_in, columns_at}
+use Rattle.java_mean.specs.Expression.{element, element_in}
 use Rattle.java_mean.specs.Keeps.{Keeps}
 use Rattle.java_mean.specs.Mentions.{EachMentioned}
 use Rattle.java_mean.specs.Queries.{Reader}

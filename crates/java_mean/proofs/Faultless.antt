@@ -6,13 +6,14 @@ use Rattle.qbs_base.specs.declared.span.Span.{Span}
 use Rattle.qbs_base.specs.declared.scalar.Ty.{Ty}
 use Rattle.qbs_base.specs.declared.scalar.Ty.TheVariants as tys
 use Rattle.qbs_base.specs.Values.{Schema}
+use Rattle.qbs_base.specs.Columns.{same_ty}
 use Rattle.sql_ast.specs.Tree.{PlainQuery}
 use Rattle.java_ast.specs.Tree.{Spelled, PlainParam}
 use Rattle.java_mean.specs.declared.rule.TypeRule.{TypeRule}
 use Rattle.java_mean.specs.declared.rule.TypeFault.{TypeFault}
 use Rattle.java_mean.specs.Places.{Place, param, in_params}
 use Rattle.java_mean.specs.Rules as broken
-use Rattle.java_mean.specs.Rules.{only_if, is_none, same_ty, same_single, same_type, taken}
+use Rattle.java_mean.specs.Rules.{only_if, is_none, same_single, same_type, taken}
 use Rattle.java_mean.specs.Types.{Single, ScalarOf, RowOf, JavaType, Of, Listed, Distinct, Types, with_type, type_spelled, types_of_params}
 use Rattle.java_mean.specs.Visible.{Visible, is_visible, type_at, declared_in, with_params}
 use Rattle.java_mean.specs.WellTyped.{marked, faults_at, faults_in}

@@ -12,14 +12,16 @@ use Rattle.qbs_base.specs.declared.scalar.Value.TheVariants.{Many}
 use Rattle.qbs_base.specs.declared.columns.Column.{Column}
 use Rattle.qbs_base.specs.Values.{Schema, Database, HasTy, AreCells, IsRowOf}
 use Rattle.qbs_base.specs.Tables.{NamedRows, rows_of}
+use Rattle.qbs_base.specs.Columns.{columns_at, column_number}
 use Rattle.std.specs.Option.{option_map}
 use Rattle.sql_ast.specs.Tree.{PlainQuery}
 use Rattle.java_ast.specs.Tree.{PlainMethod, PlainProgram}
+use Rattle.java_ast.specs.Path.{with_body, with_methods}
 use Rattle.java_mean.specs.Queries.{Reader, HasQuery, Rows, query_answer}
 use Rattle.java_mean.specs.Outcome.{Done, world}
-use Rattle.java_mean.specs.Keeps.{IsDoneAlike, Keeps, with_body, with_methods}
+use Rattle.java_mean.specs.Keeps.{IsDoneAlike, Keeps}
 use Rattle.java_mean.specs.World.{World}
-use Rattle.java_mean.specs.Expression.{element_in, cell_at, columns_at, columns_of, column_number}
+use Rattle.java_mean.specs.Expression.{element_in, cell_at, columns_of}
 use Rattle.java_mean.specs.FirstForm.{HasLongColumn, FormPlaces, QueryPlaces, collecting, selecting, selection, is_collected}
 use Rattle.java_mean.proofs.Collected.{HasNumber, collected_done, selected_done}
 use Rattle.java_mean.proofs.Kept.{keeps_replaced}

@@ -2,8 +2,9 @@
 use Rattle.std.proofs.Common.{List, [], ◌∷◌, ◌++◌, refl, ◌∙◌, subst}
 use Rattle.qbs_base.specs.Values.{Schema}
 use Rattle.java_ast.specs.Tree.{PlainParam, PlainMethod, PlainProgram, Statements}
+use Rattle.java_ast.specs.Path.{with_body, with_methods}
 use Rattle.java_mean.specs.Types.{AreArguments}
-use Rattle.java_mean.specs.Keeps.{IsDoneAlike, KeepsMethod, KeepsMethods, Keeps, with_body, with_methods}
+use Rattle.java_mean.specs.Keeps.{IsDoneAlike, KeepsMethod, KeepsMethods, Keeps}
 
 method_kept : (schema : Schema) (m : PlainMethod) → KeepsMethod schema m m
 method_kept schema m = record { name = refl; params = refl; result = refl; done = λ reader db d args a n lines value e. e }

@@ -37,7 +37,7 @@ scalars_back (scalars.Text x) (scalars.Long y) = refl
 scalars_back (scalars.Text x) (scalars.Bool y) = refl
 scalars_back (scalars.Text x) (scalars.Text y) = same_back (slice_cmp nat_cmp) nat_list_cmp_total x y
 
-cells_back : (xs ys : List Scalar) → same_cells xs ys ≡ same_cells ys xs
+pub cells_back : (xs ys : List Scalar) → same_cells xs ys ≡ same_cells ys xs
 cells_back [] [] = refl
 cells_back [] (y ∷ ys) = refl
 cells_back (x ∷ xs) [] = refl

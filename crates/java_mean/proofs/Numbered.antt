@@ -8,7 +8,7 @@ use Rattle.qbs_base.specs.declared.columns.Table.{Table}
 use Rattle.qbs_base.specs.Named.{at_name}
 use Rattle.qbs_base.specs.Tables.{NamedRows}
 use Rattle.qbs_base.specs.Values.{Schema, Database, AreTables, IsRowOf}
-use Rattle.java_mean.specs.Expression.{table_number, columns_at}
+use Rattle.qbs_base.specs.Columns.{table_number, columns_at}
 
 -- where the first element passes, its place is 0; else the place is one more than that in the rest
 pub data Found {X : Type 0} (test : X → Bool) (x : X) (xs : List X) (n : ℕ) : Type 0 where

@@ -8,9 +8,10 @@ use Rattle.qbs_base.specs.Named.{at_name}
 use Rattle.qbs_base.specs.Values.{Schema}
 use Rattle.java_ast.specs.Tree as tree
 use Rattle.java_ast.specs.Tree.{Spelled, ListOf, SetOf, Statement, Statements, PlainParam, PlainMethod, PlainProgram}
+use Rattle.java_ast.specs.Path.{with_body, with_methods}
 use Rattle.java_mean.specs.declared.ending.Ending.{Ending}
 use Rattle.java_mean.specs.declared.ending.Ending.TheVariants as endings
-use Rattle.java_mean.specs.Keeps.{Keeps, with_body, with_methods}
+use Rattle.java_mean.specs.Keeps.{Keeps}
 use Rattle.java_mean.specs.Outcome.{Done, Stuck, finished, start, store_of, outcome, world}
 use Rattle.java_mean.specs.Queries.{Reader}
 use Rattle.java_mean.specs.Asks.{frame_of}

@@ -4,8 +4,9 @@ use Rattle.std.specs.Prelude.{slice_get}
 use Rattle.qbs_base.specs.Values.{Schema}
 use Rattle.sql_ast.specs.Tree.{PlainQuery}
 use Rattle.java_ast.specs.Tree.{Statements, PlainMethod, PlainProgram}
+use Rattle.java_ast.specs.Path.{with_body, with_methods}
 use Rattle.java_mean.specs.Asks.{frame_of}
-use Rattle.java_mean.specs.Keeps.{Keeps, with_body, with_methods}
+use Rattle.java_mean.specs.Keeps.{Keeps}
 use Rattle.java_mean.specs.Numbers.{NumbersFit}
 use Rattle.java_mean.specs.Queries.{Reader}
 use Rattle.java_mean.specs.Refines.{Hole, fill, types_at, loop_at, IsTypedPlace, Replaces, MayReplace, GivesWay, with_part}

@@ -9,6 +9,7 @@ use Rattle.qbs_base.specs.declared.scalar.Ty.{Ty}
 use Rattle.qbs_base.specs.declared.scalar.Ty.TheVariants as tys
 use Rattle.qbs_base.specs.declared.columns.Column.{Column}
 use Rattle.qbs_base.specs.Values.{Schema, HasTy}
+use Rattle.qbs_base.specs.Columns.{table_number, column_number, columns_at, same_ty}
 use Rattle.sql_ast.specs.Meaning.{query_answer}
 use Rattle.sql_ast.specs.Tree.{PlainQuery, Listing, Number, Truth}
 use Rattle.java_ast.specs.declared.tree.Op.{Op}
@@ -16,10 +17,9 @@ use Rattle.java_ast.specs.declared.tree.Op.TheVariants as ops
 use Rattle.java_ast.specs.Tree as tree
 use Rattle.java_ast.specs.Tree.{Spelled, Expression, Expressions}
 use Rattle.java_mean.specs.Asks.{element_type, type_of_found, result_type}
-use Rattle.java_mean.specs.Expression.{table_number, column_number, columns_at}
 use Rattle.java_mean.specs.Numbers.{literal_fits, expression_fits, expressions_fit}
 use Rattle.java_mean.specs.Places.{value, in_expression, in_expressions}
-use Rattle.java_mean.specs.Rules.{of_long, of_bool, of_text, ty_of, type_of_op, type_at_number, column_in, listed_in, set_of, lists_scalars, type_of, at_of, only_if, is_none, same_ty, same_type, unless, unless_both, unless_single, unless_scalar, is_many, is_listed, scalars_of, unless_passes, unknown_variable, unknown_column, both_operands, scalar_ty, unless_alike, compared, operands, arguments, params_of, is_text, two_texts, text_identity, is_single, lists, is_number, is_truth, same_length, fits_query}
+use Rattle.java_mean.specs.Rules.{of_long, of_bool, of_text, ty_of, type_of_op, type_at_number, column_in, listed_in, set_of, lists_scalars, type_of, at_of, only_if, is_none, same_type, unless, unless_both, unless_single, unless_scalar, is_many, is_listed, scalars_of, unless_passes, unknown_variable, unknown_column, both_operands, scalar_ty, unless_alike, compared, operands, arguments, params_of, is_text, two_texts, text_identity, is_single, lists, is_number, is_truth, same_length, fits_query}
 use Rattle.java_mean.specs.Types.{Single, ScalarOf, RowOf, JavaType, Of, Listed, Distinct, Types, single_spelled, made_of}
 use Rattle.java_mean.specs.Typing.{Frame, Takes, or_takes, and_takes, eq_longs, eq_bools, ne_longs, ne_bools, lt_takes, le_takes, gt_takes, ge_takes, add_takes, sub_takes, mul_takes, Has, listed, distinct, IsNew, is_new_list, is_new_set, HasType, lit, var, field, binary, negated, equals, size, get, contains, fetch, query, query_long, query_boolean, new_list, new_set, new_set_of, HaveTypes, no_more, and}
 use Rattle.java_mean.specs.Visible.{Visible, is_visible, type_at}

@@ -15,6 +15,7 @@ use Rattle.qbs_base.specs.declared.scalar.Value.TheVariants.{One, Whole, Many}
 use Rattle.qbs_base.specs.declared.columns.Column.{Column}
 use Rattle.qbs_base.specs.Named.{at_name}
 use Rattle.qbs_base.specs.Values.{Schema, HasTy, AreOf, AreCells, IsRowOf, fits_long}
+use Rattle.qbs_base.specs.Columns.{table_number, column_number, columns_at}
 use Rattle.java_ast.specs.declared.tree.Op.{Op}
 use Rattle.java_ast.specs.declared.tree.Op.TheVariants as ops
 use Rattle.java_ast.specs.Tree.{Expression, Expressions}
@@ -22,7 +23,7 @@ use Rattle.java_mean.specs.declared.ending.Ending.{Ending}
 use Rattle.java_mean.specs.declared.ending.Ending.TheVariants as endings
 use Rattle.java_mean.specs.declared.ending.RunFault.TheVariants.{Overflow}
 use Rattle.java_mean.specs.Endings.{◌>>=◌, found}
-use Rattle.java_mean.specs.Expression.{value_of, scalars_of, as_scalar, as_row, as_rows, as_long, as_bool, as_member, truth, number, cell, cell_at, table_number, column_number, columns_at, columns_of, element, element_in, alone, nth, in_range, settled, or_else, applied, same_text, answered, same_member, is_among}
+use Rattle.java_mean.specs.Expression.{value_of, scalars_of, as_scalar, as_row, as_rows, as_long, as_bool, as_member, truth, number, cell, cell_at, columns_of, element, element_in, alone, nth, in_range, settled, or_else, applied, same_text, answered, same_member, is_among}
 use Rattle.java_mean.specs.Queries.{Answered}
 use Rattle.java_mean.specs.Queries as answers
 use Rattle.java_mean.specs.Store.{Store}

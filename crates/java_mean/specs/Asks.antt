@@ -3,7 +3,6 @@ use Rattle.std.specs.Prelude.{ℕ, List}
 use Rattle.std.specs.Option.{option_map}
 use Rattle.std.specs.declared.option.Option.{Option}
 use Rattle.std.specs.declared.option.Option.TheVariants.{Some, None}
-use Rattle.qbs_base.specs.declared.scalar.Ty.{Ty}
 use Rattle.qbs_base.specs.declared.scalar.Ty.TheVariants as tys
 use Rattle.qbs_base.specs.Values.{Schema}
 use Rattle.java_ast.specs.Tree.{Spelled, PlainMethod}
@@ -14,6 +13,7 @@ use Rattle.sql_ast.specs.declared.tree.SqlItem.TheVariants as items
 use Rattle.sql_ast.specs.Meaning.{nth, query_answer}
 use Rattle.sql_ast.specs.Tree.{PlainListing, PlainQuery, Listing, Number, Truth}
 use Rattle.sql_ast.specs.Typing.{ty_of_col}
+use Rattle.sql_ast.specs.Valid.{params_in}
 use Rattle.java_mean.specs.Types.{Single, ScalarOf, RowOf, JavaType, Of, Listed, made_of, type_spelled}
 use Rattle.java_mean.specs.Typing.{QueryType, Frame}
 
@@ -33,11 +33,6 @@ abbrev pub answer_type : Schema → PlainQuery → Option JavaType
 answer_type schema (Listing q) = made_of Listed (element_type schema q q.group)
 answer_type schema (Number q) = Some (Of (ScalarOf tys.Long))
 answer_type schema (Truth q) = Some (Of (ScalarOf tys.Bool))
-
-abbrev pub params_in : PlainQuery → List Ty
-params_in (Listing q) = q.params
-params_in (Number q) = q.params
-params_in (Truth q) = q.params
 
 abbrev pub query_type : Schema → PlainQuery → Option QueryType
 query_type schema q = option_map (λ k. record { params = params_in q; answer = k }) (answer_type schema q)

@@ -1,5 +1,5 @@
 -- The value of an expression.
-use Rattle.std.specs.Prelude.{ℕ, zero, suc, ℤ, pos, negsuc, ◌+ℤ◌, ◌-ℤ◌, ◌*ℤ◌, Bool, true, false, not, ◌&&◌, ◌||◌, List, [], ◌∷◌, length, Option, Some, None, Result, Ok, Err, bytes_eq, slice_get, position, if◌then◌else◌}
+use Rattle.std.specs.Prelude.{ℕ, ℤ, pos, negsuc, ◌+ℤ◌, ◌-ℤ◌, ◌*ℤ◌, Bool, true, false, not, ◌&&◌, ◌||◌, List, [], ◌∷◌, length, Option, Some, None, Result, Ok, Err, slice_get, if◌then◌else◌}
 use Rattle.std.specs.List.{list_any}
 use Rattle.qbs_base.specs.declared.span.Span.{Span}
 use Rattle.qbs_base.specs.declared.scalar.Scalar.{Scalar}
@@ -11,6 +11,7 @@ use Rattle.qbs_base.specs.declared.scalar.Value.{Value}
 use Rattle.qbs_base.specs.declared.scalar.Value.TheVariants.{One, Whole, Many}
 use Rattle.qbs_base.specs.declared.columns.Column.{Column}
 use Rattle.qbs_base.specs.declared.columns.Table.{Table}
+use Rattle.qbs_base.specs.Columns.{column_number, columns_at}
 use Rattle.qbs_base.specs.Named.{at_name}
 use Rattle.qbs_base.specs.Scalar.{scalar_less, scalar_same, same_cells}
 use Rattle.qbs_base.specs.Values.{Schema, fits_long}
@@ -62,18 +63,6 @@ abbrev pub number : Span → ℤ → Result Value Ending
 number at n = if fits_long n then Ok (One (scalars.Long n)) else Err (Faulted Overflow at)
 
 -- ---- Rows and members
-
--- the number of a table, and of a column, by its name
-abbrev pub table_number : Schema → List ℕ → Option ℕ
-table_number schema name = position (λ (t : Table). bytes_eq t.name name) schema
-
-abbrev pub column_number : List Column → List ℕ → Option ℕ
-column_number columns name = position (λ (c : Column). bytes_eq c.name name) columns
-
-abbrev pub columns_at : Schema → ℕ → List Column
-columns_at [] n = []
-columns_at (t ∷ ts) zero = t.columns
-columns_at (t ∷ ts) (suc n) = columns_at ts n
 
 abbrev pub columns_of : Schema → Kind → List Column
 columns_of schema kinds.Plain = []

@@ -8,6 +8,7 @@ use Rattle.qbs_base.specs.declared.scalar.Row.{Row}
 use Rattle.qbs_base.specs.declared.columns.Column.{Column}
 use Rattle.qbs_base.specs.Scalar.{scalar_same, compared}
 use Rattle.qbs_base.specs.Values.{Schema}
+use Rattle.qbs_base.specs.Columns.{table_number, column_number, columns_at}
 use Rattle.java_ast.specs.declared.tree.Op.TheVariants as ops
 use Rattle.java_ast.specs.Tree.{Table, ListOf, Lit, Var, Field, Binary, Fetch, Query, NewList, NoMore, Declare, Add, If, ForEach, Return, Statements, Nothing, Then}
 use Rattle.sql_ast.specs.declared.tree.Cmp.TheVariants as cmps
@@ -15,7 +16,7 @@ use Rattle.sql_ast.specs.declared.tree.SqlColumn.TheVariants as columns
 use Rattle.sql_ast.specs.declared.tree.SqlItem.TheVariants as items
 use Rattle.sql_ast.specs.declared.tree.SqlOpnd.TheVariants as operands
 use Rattle.sql_ast.specs.Tree.{PlainQuery, Listing, Where, Compare}
-use Rattle.java_mean.specs.Expression.{cell, table_number, column_number, columns_at}
+use Rattle.java_mean.specs.Expression.{cell}
 
 -- where the nodes of the form stand
 pub record FormPlaces : Type 0 where

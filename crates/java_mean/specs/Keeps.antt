@@ -3,7 +3,7 @@ use Rattle.std.specs.Prelude.{◌≡◌, ℕ, List, [], ◌∷◌, Option}
 use Rattle.qbs_base.specs.declared.scalar.Scalar.{Scalar}
 use Rattle.qbs_base.specs.declared.scalar.Value.{Value}
 use Rattle.qbs_base.specs.Values.{Schema, Database, IsDatabaseOf}
-use Rattle.java_ast.specs.Tree.{PlainMethod, PlainProgram, Statements}
+use Rattle.java_ast.specs.Tree.{PlainMethod, PlainProgram}
 use Rattle.java_mean.specs.Queries.{Reader}
 use Rattle.java_mean.specs.Types.{AreArguments}
 use Rattle.java_mean.specs.Outcome.{Done, outcome, world}
@@ -33,9 +33,3 @@ KeepsMethods schema _ _ = ⊥
 -- the second program does what the first does, wherever the first is done
 abbrev pub Keeps : PlainProgram → PlainProgram → Schema → Type 0
 Keeps p q schema = KeepsMethods schema p.methods q.methods
-
-abbrev pub with_body : PlainMethod → Statements → PlainMethod
-with_body m body = record m { body = body }
-
-abbrev pub with_methods : PlainProgram → List PlainMethod → PlainProgram
-with_methods p methods = record p { methods = methods }

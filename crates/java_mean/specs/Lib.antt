@@ -13,6 +13,7 @@ pub mod Places
 pub mod Queries
 pub mod Reaches
 pub mod Refines
+pub mod RuleNames
 pub mod Rules
 pub mod Statement
 pub mod Store

@@ -7,9 +7,9 @@ use Rattle.qbs_base.specs.declared.scalar.Value.{Value}
 use Rattle.qbs_base.specs.Named.{at_name}
 use Rattle.qbs_base.specs.Values.{Schema}
 use Rattle.java_ast.specs.Tree.{Spelled, Expression, Statement, If, IfElse, ForEach, While, Statements, Nothing, Then, PlainMethod, PlainProgram}
+use Rattle.java_ast.specs.Path.{with_body, with_methods}
 use Rattle.java_mean.specs.declared.ending.Ending.{Ending}
 use Rattle.java_mean.specs.declared.ending.Ending.TheVariants as endings
-use Rattle.java_mean.specs.Keeps.{with_body, with_methods}
 use Rattle.java_mean.specs.Mentions.{EachMentioned}
 use Rattle.java_mean.specs.Statement.{State, Passed, GoesOn, Leaves, Returns, Does, meanings}
 use Rattle.java_mean.specs.Store.{Variable}

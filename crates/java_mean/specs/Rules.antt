@@ -11,13 +11,14 @@ use Rattle.qbs_base.specs.declared.scalar.Ty.{Ty}
 use Rattle.qbs_base.specs.declared.scalar.Ty.TheVariants as tys
 use Rattle.qbs_base.specs.declared.span.Span.{Span}
 use Rattle.qbs_base.specs.Values.{Schema}
+use Rattle.qbs_base.specs.Columns.{table_number, column_number, columns_at, same_ty}
 use Rattle.sql_ast.specs.Answers.{is_order_complete}
 use Rattle.sql_ast.specs.Tree.{PlainQuery, Listing, Number, Truth}
+use Rattle.sql_ast.specs.Valid.{params_in}
 use Rattle.java_ast.specs.declared.tree.Op.{Op}
 use Rattle.java_ast.specs.declared.tree.Op.TheVariants as ops
 use Rattle.java_ast.specs.Tree.{Spelled, Table, SetOf, Expression, Lit, Var, Field, Binary, Not, Equals, Size, Get, Contains, Fetch, Query, QueryLong, QueryBoolean, NewList, NewSet, NewSetOf, Expressions, NoMore, And, Statement, Declare, Assign, Add, Sort, If, IfElse, ForEach, While, Print, Return, Break, Statements, Nothing, Then}
-use Rattle.java_mean.specs.Asks.{element_type, params_in}
-use Rattle.java_mean.specs.Expression.{table_number, column_number, columns_at}
+use Rattle.java_mean.specs.Asks.{element_type}
 use Rattle.java_mean.specs.Types.{Single, ScalarOf, RowOf, JavaType, Of, Listed, Distinct, single_spelled, type_spelled}
 pub use Rattle.java_mean.specs.declared.types.Kindred.{Kindred}
 pub use Rattle.java_mean.specs.declared.types.Kindred.TheVariants.{Only, AnyList, AnySet}
@@ -120,12 +121,6 @@ only_if b at = if b then at ∷ [] else []
 abbrev pub is_none : {A : Type 0} → Option A → Bool
 is_none None = true
 is_none (Some x) = false
-
-abbrev pub same_ty : Ty → Ty → Bool
-same_ty tys.Long tys.Long = true
-same_ty tys.Bool tys.Bool = true
-same_ty tys.Text tys.Text = true
-same_ty _ _ = false
 
 abbrev pub same_single : Single → Single → Bool
 same_single (ScalarOf a) (ScalarOf b) = same_ty a b

@@ -9,13 +9,14 @@ use Rattle.qbs_base.specs.declared.scalar.Value.{Value}
 use Rattle.qbs_base.specs.declared.scalar.Value.TheVariants.{One, Whole, Many}
 use Rattle.qbs_base.specs.Named.{at_name}
 use Rattle.qbs_base.specs.Values.{Schema, HasTy, AreOf, IsRowOf}
+use Rattle.qbs_base.specs.Columns.{table_number, columns_at}
 use Rattle.java_ast.specs.Tree.{Spelled, Int, Long, Boolean, String, BoxedInteger, BoxedLong, BoxedBoolean, Table, ListOf, SetOf, Statement, Declare, If, IfElse, ForEach, While, Statements, Nothing, Then, PlainParam, PlainMethod}
 pub use Rattle.java_mean.specs.declared.types.Single.{Single}
 pub use Rattle.java_mean.specs.declared.types.Single.TheVariants.{ScalarOf, RowOf}
 pub use Rattle.java_mean.specs.declared.types.JavaType.{JavaType}
 pub use Rattle.java_mean.specs.declared.types.JavaType.TheVariants.{Of, Listed, Distinct}
 use Rattle.java_mean.specs.Store.{Store, Variable}
-use Rattle.java_mean.specs.Expression.{table_number, columns_at, same_member}
+use Rattle.java_mean.specs.Expression.{same_member}
 
 -- ---- Spelled types
 

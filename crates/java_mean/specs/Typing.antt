@@ -9,11 +9,11 @@ use Rattle.qbs_base.specs.declared.scalar.Ty.TheVariants as tys
 use Rattle.qbs_base.specs.declared.scalar.Value.TheVariants.{One, Many}
 use Rattle.qbs_base.specs.declared.columns.Column.{Column}
 use Rattle.qbs_base.specs.Values.{Schema, Database, HasTy, AreOf, IsDatabaseOf}
+use Rattle.qbs_base.specs.Columns.{table_number, column_number, columns_at}
 use Rattle.java_ast.specs.declared.tree.Op.{Op}
 use Rattle.java_ast.specs.declared.tree.Op.TheVariants as ops
 use Rattle.java_ast.specs.Tree as tree
 use Rattle.java_ast.specs.Tree.{Spelled, Expression, Expressions, Statement, Statements}
-use Rattle.java_mean.specs.Expression.{table_number, column_number, columns_at}
 use Rattle.java_mean.specs.Queries.{Answered}
 use Rattle.java_mean.specs.Queries as answers
 use Rattle.java_mean.specs.Types.{Single, ScalarOf, RowOf, JavaType, Of, Listed, Distinct, Types, with_type, type_spelled, IsOf}

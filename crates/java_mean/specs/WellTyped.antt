@@ -11,6 +11,7 @@ use Rattle.java_mean.specs.declared.rule.TypeRule.{TypeRule}
 use Rattle.java_mean.specs.declared.rule.TypeRule.TheVariants as rules
 use Rattle.java_mean.specs.declared.rule.TypeFault.{TypeFault}
 use Rattle.java_mean.specs.Places.{Place, whole, in_method}
+use Rattle.java_mean.specs.RuleNames.{rule_number}
 use Rattle.java_mean.specs.Rules.{unknown, mismatch, double_name, text_identity, list_alias, modified_in_loop, bad_query, unordered_query, return_place, arity, break_place}
 use Rattle.java_mean.specs.Visible.{Visible, is_visible, declared_in}
 
@@ -54,22 +55,9 @@ IsWellTyped schema read p = all_faults schema read p ≡ []
 
 -- ---- The fault that is kept
 
-abbrev pub number : TypeRule → ℕ
-number rules.Unknown = 1
-number rules.Mismatch = 2
-number rules.DoubleName = 3
-number rules.TextIdentity = 4
-number rules.ListAlias = 5
-number rules.ModifiedInLoop = 6
-number rules.BadQuery = 7
-number rules.UnorderedQuery = 8
-number rules.ReturnPlace = 9
-number rules.Arity = 10
-number rules.BreakPlace = 11
-
 -- a place that comes first, or the same place with a lesser number
 abbrev pub is_before : TypeFault → TypeFault → Bool
-is_before f g = if nat_lt f.at.start g.at.start then true else (nat_eq f.at.start g.at.start && nat_lt (number f.rule) (number g.rule))
+is_before f g = if nat_lt f.at.start g.at.start then true else (nat_eq f.at.start g.at.start && nat_lt (rule_number f.rule) (rule_number g.rule))
 
 abbrev pub NoneBefore : TypeFault → List TypeFault → Type 0
 NoneBefore f [] = Unit {0}

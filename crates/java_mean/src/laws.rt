@@ -6,6 +6,7 @@ ghost use Rattle.qbs_base.specs.declared.scalar.Value.{Value};
 ghost use Rattle.qbs_base.specs.Values.{Schema, Database, IsDatabaseOf};
 ghost use Rattle.java_ast.specs.Placed.{placed, placed_all};
 ghost use Rattle.java_ast.specs.Tree.{Expression, Expressions, PlainMethod, PlainProgram, Statements};
+ghost use Rattle.java_ast.specs.Path.{with_body, with_methods};
 ghost use Rattle.sql_ast.specs.Tree.{PlainQuery};
 ghost use Rattle.java_mean.specs.Asks.{frame_of, result_type};
 ghost use Rattle.java_mean.specs.declared.ending.RunFault.{RunFault};
@@ -22,7 +23,7 @@ ghost use Rattle.java_mean.specs.Refines.{Hole, fill, first_of, path_of, types_a
 ghost use Rattle.java_mean.specs.Reaches.{Reaches};
 ghost use Rattle.java_mean.specs.Statement.{State, meanings};
 ghost use Rattle.java_mean.specs.Queries.{HasQuery, Reader};
-ghost use Rattle.java_mean.specs.Keeps.{Keeps, IsDoneAlike, with_body, with_methods};
+ghost use Rattle.java_mean.specs.Keeps.{Keeps, IsDoneAlike};
 ghost use Rattle.java_mean.specs.FirstForm.{FormPlaces, QueryPlaces, HasLongColumn, collecting, selecting, selection};
 
 /// More turns change nothing of a method that is done or faulted.

@@ -1,4 +1,7 @@
 // The rules that a program may break.
+ghost use Rattle.std.specs.Prelude.{◌≡◌};
+ghost use Rattle.java_mean.specs.RuleNames.{rule_number, rule_name};
+
 use qbs_base::Span;
 use thiserror::Error;
 
@@ -38,6 +41,46 @@ pub enum TypeRule {
     /// A `break` stands in no loop, or isn't the last statement of its block.
     #[error("break at a wrong place")]
     BreakPlace,
+}
+
+impl TypeRule {
+    /// Its number, from 1 to 11.
+    pub fn number(self) -> u64
+        ensures { result ≡ rule_number self }
+    {
+        match self {
+            TypeRule::Unknown => 1,
+            TypeRule::Mismatch => 2,
+            TypeRule::DoubleName => 3,
+            TypeRule::TextIdentity => 4,
+            TypeRule::ListAlias => 5,
+            TypeRule::ModifiedInLoop => 6,
+            TypeRule::BadQuery => 7,
+            TypeRule::UnorderedQuery => 8,
+            TypeRule::ReturnPlace => 9,
+            TypeRule::Arity => 10,
+            TypeRule::BreakPlace => 11,
+        }
+    }
+
+    /// Its name, as lines of refusals have it.
+    pub fn name(self) -> &'static str
+        ensures { result.now ≡ rule_name self }
+    {
+        match self {
+            TypeRule::Unknown => "Unknown",
+            TypeRule::Mismatch => "Mismatch",
+            TypeRule::DoubleName => "DoubleName",
+            TypeRule::TextIdentity => "TextIdentity",
+            TypeRule::ListAlias => "ListAlias",
+            TypeRule::ModifiedInLoop => "ModifiedInLoop",
+            TypeRule::BadQuery => "BadQuery",
+            TypeRule::UnorderedQuery => "UnorderedQuery",
+            TypeRule::ReturnPlace => "ReturnPlace",
+            TypeRule::Arity => "Arity",
+            TypeRule::BreakPlace => "BreakPlace",
+        }
+    }
 }
 
 /// A type rule that is broken, and the place where it is.

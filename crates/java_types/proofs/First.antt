@@ -3,7 +3,8 @@ use Rattle.std.proofs.Common.{◌≡◌, ℕ, List, [], ◌∷◌, Bool, true, f
 use Rattle.std.specs.Prelude.{if◌then◌else◌}
 use Rattle.std.proofs.lemmas.Bool.Decides.{nat_tests}
 use Rattle.java_mean.specs.declared.rule.TypeFault.{TypeFault}
-use Rattle.java_mean.specs.WellTyped.{is_before, number, Has, IsLeast, NoneBefore}
+use Rattle.java_mean.specs.RuleNames.{rule_number}
+use Rattle.java_mean.specs.WellTyped.{is_before, Has, IsLeast, NoneBefore}
 use Rattle.java_types.specs.Least.{least}
 
 abbrev lex : ℕ → ℕ → ℕ → ℕ → Bool
@@ -29,13 +30,13 @@ not_itself f = grind (arith, nat_tests)
 chosen : (b : Bool) (g h f : TypeFault) (hs : List TypeFault) → is_before h g ≡ b → From (if b then h else g) f hs → From g f (h ∷ hs)
 chosen true g h f hs p i = record {
   member = inr i.member;
-  start = lex_less h.at.start (number h.rule) g.at.start (number g.rule) f.at.start (number f.rule) p i.start;
+  start = lex_less h.at.start (rule_number h.rule) g.at.start (rule_number g.rule) f.at.start (rule_number f.rule) p i.start;
   first = (i.start, i.first);
 }
 chosen false g h f hs p i = record {
   member = elim i.member [ inl e ↦ inl e | inr m ↦ inr (inr m) ];
   start = i.start;
-  first = (lex_more h.at.start (number h.rule) g.at.start (number g.rule) f.at.start (number f.rule) p i.start, i.first);
+  first = (lex_more h.at.start (rule_number h.rule) g.at.start (rule_number g.rule) f.at.start (rule_number f.rule) p i.start, i.first);
 }
 
 some_if : (b : Bool) (h g : TypeFault) → (if b then Some h else Some g) ≡ Some (if b then h else g)

@@ -1,60 +1,11 @@
--- The plain trees of nodes that hold lists, and lists inside a tree.
-use Rattle.std.specs.Prelude.{ℕ, List, Vec, Option, Some, None}
-use Rattle.std.proofs.Common.{◌≡◌, refl, ap, ◌∙◌}
-use Rattle.std.specs.declared.alloc.Global.{Global}
+-- The place of an expression is that of its node.
+use Rattle.std.proofs.Common.{◌≡◌, refl}
 use Rattle.qbs_base.specs.declared.span.Span.{Span}
-use Rattle.java_ast.specs.declared.tree.JTy.{JTy}
 use Rattle.java_ast.specs.declared.tree.Expr.{Expr, out-Expr}
-use Rattle.java_ast.specs.declared.tree.ExprNode.{ExprNode, Query, QueryLong, QueryBoolean, Row_of-Expr, end_of-Expr, more_of-Expr, items-the_row-Expr, items_hidden-the_row-Expr-0}
+use Rattle.java_ast.specs.declared.tree.ExprNode.{ExprNode}
 use Rattle.java_ast.specs.declared.tree.ExprNode as exprs
-use Rattle.java_ast.specs.declared.tree.ExprNode.TheBlock.{hidden-the_row-Expr-0}
-use Rattle.java_ast.specs.declared.tree.Stmt.{Stmt, out-Stmt}
-use Rattle.java_ast.specs.declared.tree.StmtNode.{If, ForEach, While, Row_of-Stmt, end_of-Stmt, more_of-Stmt, items-the_row-Stmt, items_hidden-the_row-Stmt-0}
-use Rattle.java_ast.specs.declared.tree.StmtNode.TheBlock.{hidden-the_row-Stmt-0}
-use Rattle.java_ast.specs.Reading.{spelled, row_expressions, expressions, expression, node_expression, row_statements, statements, statement, node_statement}
-use Rattle.java_ast.specs.Tree as plain
-use Rattle.java_ast.specs.Tree.{Statements, And, Then}
+use Rattle.java_ast.specs.Reading.{expression, node_expression}
 use Rattle.java_mean.specs.Rules.{at_of}
-
-expressions_row : {n : _} (row : Row_of-Expr n) → row_expressions row ≡ expressions (items-the_row-Expr n row)
-expressions_row end_of-Expr = refl
-expressions_row (more_of-Expr at node rest) = ap (And (node_expression node at)) (expressions_row rest)
-
-pub expressions_hidden : (v : Vec Expr Global) → row_expressions (hidden-the_row-Expr-0 v) ≡ expressions v.items
-expressions_hidden v = expressions_row (hidden-the_row-Expr-0 v) ∙ ap expressions (items_hidden-the_row-Expr-0 v)
-
-statements_row : {n : _} (row : Row_of-Stmt n) → row_statements row ≡ statements (items-the_row-Stmt n row)
-statements_row end_of-Stmt = refl
-statements_row (more_of-Stmt at node rest) = ap (Then (node_statement node at)) (statements_row rest)
-
-pub statements_hidden : (v : Vec Stmt Global) → row_statements (hidden-the_row-Stmt-0 v) ≡ statements v.items
-statements_hidden v = statements_row (hidden-the_row-Stmt-0 v) ∙ ap statements (items_hidden-the_row-Stmt-0 v)
-
-pub query_is : (e : Expr) (ty : JTy) (text : List ℕ) (v : Vec Expr Global) → (out-Expr e).node ≡ Query ty text v → expression e ≡ plain.Query (out-Expr e).span (spelled ty) text (expressions v.items)
-query_is e ty text v is = ap (λ n. node_expression n (out-Expr e).span) is ∙ ap (plain.Query (out-Expr e).span (spelled ty) text) (expressions_hidden v)
-
-pub query_long_is : (e : Expr) (text : List ℕ) (v : Vec Expr Global) → (out-Expr e).node ≡ QueryLong text v → expression e ≡ plain.QueryLong (out-Expr e).span text (expressions v.items)
-query_long_is e text v is = ap (λ n. node_expression n (out-Expr e).span) is ∙ ap (plain.QueryLong (out-Expr e).span text) (expressions_hidden v)
-
-pub query_boolean_is : (e : Expr) (text : List ℕ) (v : Vec Expr Global) → (out-Expr e).node ≡ QueryBoolean text v → expression e ≡ plain.QueryBoolean (out-Expr e).span text (expressions v.items)
-query_boolean_is e text v is = ap (λ n. node_expression n (out-Expr e).span) is ∙ ap (plain.QueryBoolean (out-Expr e).span text) (expressions_hidden v)
-
-pub if_is : (s : Stmt) (cond : Expr) (v : Vec Stmt Global) (o : Option (Vec Stmt Global)) → (out-Stmt s).node ≡ If cond v o → o ≡ None → statement s ≡ plain.If (out-Stmt s).span (expression cond) (statements v.items)
-if_is s cond v o is none = ap (λ n. node_statement n (out-Stmt s).span) (is ∙ ap (λ (p : Option (Vec Stmt Global)). If cond v p) none) ∙ ap (plain.If (out-Stmt s).span (expression cond)) (statements_hidden v)
-
-pub if_else_is : (s : Stmt) (cond : Expr) (v w : Vec Stmt Global) (o : Option (Vec Stmt Global)) → (out-Stmt s).node ≡ If cond v o → o ≡ Some w → statement s ≡ plain.IfElse (out-Stmt s).span (expression cond) (statements v.items) (statements w.items)
-if_else_is s cond v w o is some =
-    ap (λ n. node_statement n (out-Stmt s).span) (is ∙ ap (λ (p : Option (Vec Stmt Global)). If cond v p) some)
-    ∙ ap (λ (ss : Statements). plain.IfElse (out-Stmt s).span (expression cond) ss (row_statements (hidden-the_row-Stmt-0 w))) (statements_hidden v)
-    ∙ ap (plain.IfElse (out-Stmt s).span (expression cond) (statements v.items)) (statements_hidden w)
-
-pub for_each_is : (s : Stmt) (ty : JTy) (name : List ℕ) (list : Expr) (v : Vec Stmt Global) → (out-Stmt s).node ≡ ForEach ty name list v → statement s ≡ plain.ForEach (out-Stmt s).span (spelled ty) name (expression list) (statements v.items)
-for_each_is s ty name list v is = ap (λ n. node_statement n (out-Stmt s).span) is ∙ ap (plain.ForEach (out-Stmt s).span (spelled ty) name (expression list)) (statements_hidden v)
-
-pub while_is : (s : Stmt) (cond : Expr) (v : Vec Stmt Global) → (out-Stmt s).node ≡ While cond v → statement s ≡ plain.While (out-Stmt s).span (expression cond) (statements v.items)
-while_is s cond v is = ap (λ n. node_statement n (out-Stmt s).span) is ∙ ap (plain.While (out-Stmt s).span (expression cond)) (statements_hidden v)
-
-pub ruleset nodes = (query_is, query_long_is, query_boolean_is, if_is, if_else_is, for_each_is, while_is)
 
 placed : (n : ExprNode) (at : Span) → at_of (node_expression n at) ≡ at
 placed (exprs.Lit value) at = refl
@@ -74,6 +25,5 @@ placed exprs.NewList at = refl
 placed (exprs.NewSet' exprs.None') at = refl
 placed (exprs.NewSet' (exprs.Some' _ s e)) at = refl
 
--- the place of an expression is that of its node
 pub place_is : (e : Expr) → at_of (expression e) ≡ (out-Expr e).span
 place_is e = placed (out-Expr e).node (out-Expr e).span

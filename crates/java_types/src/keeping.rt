@@ -1,30 +1,11 @@
 // The fault that is kept while a program is walked.
 ghost use Rattle.std.specs.Prelude.{◌≡◌};
 ghost use Rattle.java_mean.specs.Rules.{only_if};
-ghost use Rattle.java_mean.specs.WellTyped.{number, is_before, marked};
+ghost use Rattle.java_mean.specs.WellTyped.{is_before, marked};
 ghost use Rattle.java_types.specs.Least.{lesser, least};
 
 use java_mean::{TypeFault, TypeRule};
 use qbs_base::Span;
-
-/// The number of a rule, from 1 to 11.
-pub fn rule_number(rule: TypeRule) -> u8
-    ensures { result ≡ number rule }
-{
-    match rule {
-        TypeRule::Unknown => 1,
-        TypeRule::Mismatch => 2,
-        TypeRule::DoubleName => 3,
-        TypeRule::TextIdentity => 4,
-        TypeRule::ListAlias => 5,
-        TypeRule::ModifiedInLoop => 6,
-        TypeRule::BadQuery => 7,
-        TypeRule::UnorderedQuery => 8,
-        TypeRule::ReturnPlace => 9,
-        TypeRule::Arity => 10,
-        TypeRule::BreakPlace => 11,
-    }
-}
 
 // Whether a fault is kept rather than another: its place comes first, or it stands at the same place
 // and its rule has the smaller number.
@@ -34,7 +15,7 @@ fn is_earlier(f: TypeFault, g: TypeFault) -> bool
     if f.at.start < g.at.start {
         return true;
     }
-    f.at.start == g.at.start && rule_number(f.rule) < rule_number(g.rule)
+    f.at.start == g.at.start && f.rule.number() < g.rule.number()
 }
 
 // Keeps a fault, where none before it is kept.

@@ -19,7 +19,7 @@ fn read_literal(x: &Scalar)
 }
 
 #[cycle(expr)]
-#[tactic(auto, using(crate::proofs::Nodes::nodes))]
+#[tactic(auto, using(java_ast::proofs::Nodes::nodes))]
 fn read_expression(e: &Expr)
     ensures { expression_fits (expression e.now) ≡ true }
 {
@@ -59,7 +59,7 @@ fn read_expressions(es: &[Expr])
 }
 
 #[cycle(statement)]
-#[tactic(auto, using(crate::proofs::Nodes::nodes))]
+#[tactic(auto, using(java_ast::proofs::Nodes::nodes))]
 fn read_statement(s: &Stmt)
     ensures { statement_fits (statement s.now) ≡ true }
 {

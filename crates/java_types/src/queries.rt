@@ -40,23 +40,13 @@ pub fn query_of(alloc: Global, schema: &Schema, text: &Text) -> Result<Option<Bo
     }
 }
 
-fn params_in(q: &Query) -> &[Ty]
-    ensures { result.now ≡ asks.params_in (query q.now) }
-{
-    match q {
-        Query::Listing(q) => q.params.as_slice(),
-        Query::Number(q) => q.params.as_slice(),
-        Query::Truth(q) => q.params.as_slice(),
-    }
-}
-
 /// The types of a query's parameters, none where there is no query.
 pub fn params_of(q: Option<&Query>) -> &[Ty]
     ensures { result.now ≡ rules.params_of (option_map query (option_copied q.entry)) }
 {
     match q {
         None => &[],
-        Some(q) => params_in(q),
+        Some(q) => q.params(),
     }
 }
 
@@ -168,6 +158,6 @@ pub fn fits_query(q: Option<&Query>, args: &[Expr]) -> bool
 {
     match q {
         None => true,
-        Some(q) => params_in(q).len() == args.len(),
+        Some(q) => q.params().len() == args.len(),
     }
 }

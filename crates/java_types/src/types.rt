@@ -1,25 +1,13 @@
 // Types: which are the same, and those that are spelled.
 ghost use Rattle.std.specs.Prelude.{◌≡◌};
 ghost use Rattle.java_ast.specs.Reading.{spelled};
-ghost use Rattle.java_mean.specs.Expression.{columns_at};
 ghost use Rattle.java_mean.specs.Rules as rules;
 ghost use Rattle.java_mean.specs.Types as types;
 
 use java_ast::JTy;
 use java_mean::{JavaType, Kindred, Single};
-use qbs_base::{Column, Name, Ty};
+use qbs_base::{Column, Name, Ty, columns_at, same_ty};
 use schema::Schema;
-
-pub fn same_ty(a: Ty, b: Ty) -> bool
-    ensures { result ≡ rules.same_ty a b }
-{
-    match (a, b) {
-        (Ty::Long, Ty::Long) => true,
-        (Ty::Bool, Ty::Bool) => true,
-        (Ty::Text, Ty::Text) => true,
-        _ => false,
-    }
-}
 
 pub fn same_single(a: Single, b: Single) -> bool
     ensures { result ≡ rules.same_single a b }
@@ -95,16 +83,6 @@ pub fn type_spelled(schema: &Schema, ty: &JTy) -> Option<JavaType>
     }
 }
 
-// The columns of the table with this number.
-fn columns_at(schema: &Schema, n: u32) -> &[Column]
-    ensures { result.now ≡ columns_at schema.now n }
-{
-    match schema.tables().get(n as usize) {
-        Some(table) => table.columns.as_slice(),
-        None => &[],
-    }
-}
-
 fn type_at_number(columns: &[Column], place: Option<u32>) -> Option<Ty>
     ensures { result ≡ rules.type_at_number columns.now place }
 {
@@ -124,7 +102,7 @@ pub fn column_in(schema: &Schema, k: Option<Kindred>, name: &Name) -> Option<Ty>
 {
     match k {
         Some(Kindred::Only(JavaType::Of(Single::RowOf(n)))) => {
-            type_at_number(columns_at(schema, n), schema.column(n, name))
+            type_at_number(columns_at(schema.tables(), n), schema.column(n, name))
         }
         _ => None,
     }

@@ -328,7 +328,7 @@ fn at_truth(
 }
 
 /// The rules at an expression.
-#[tactic(auto, using(crate::proofs::Kept::parts, crate::proofs::Nodes::nodes))]
+#[tactic(auto, using(crate::proofs::Kept::parts, java_ast::proofs::Nodes::nodes))]
 pub fn at_value(
     alloc: Global,
     e: &Expr,

@@ -23,7 +23,7 @@ use std::alloc::Global;
 
 /// The faults of an expression and of its parts.
 #[cycle(expr)]
-#[tactic(auto, using(crate::proofs::Kept::parts, crate::proofs::Nodes::nodes))]
+#[tactic(auto, using(crate::proofs::Kept::parts, java_ast::proofs::Nodes::nodes))]
 pub fn walk_expr(
     e: &Expr,
     alloc: Global,
@@ -101,7 +101,7 @@ pub fn returns(block: &[Stmt]) -> bool
 }
 
 #[cycle(returns)]
-#[tactic(auto, using(crate::proofs::Nodes::nodes))]
+#[tactic(auto, using(java_ast::proofs::Nodes::nodes))]
 fn returns_in(s: &Stmt) -> bool
     ensures { result ≡ rules.returns_in (statement s.now) }
 {

@@ -9,9 +9,9 @@ ghost use Rattle.java_mean.specs.declared.rule.TypeRule.TheVariants as broken;
 ghost use Rattle.java_types.specs.Least.{least};
 
 use crate::keeping::note_if;
-use crate::types::{column_in, may_be, same_ty, same_type};
+use crate::types::{column_in, may_be, same_type};
 use java_mean::{JavaType, Kindred, Single, TypeFault, TypeRule};
-use qbs_base::{Name, Span, Ty};
+use qbs_base::{Name, Span, Ty, same_ty};
 use schema::Schema;
 
 pub fn unless(kept: &mut Option<TypeFault>, k: Option<Kindred>, j: JavaType, at: Span)

@@ -3,7 +3,6 @@ pub mod Claimed
 pub mod Kept
 pub mod Locations
 pub mod Mentions
-pub mod Nodes
 pub mod Rounds
 pub mod SameNames
 pub mod Started

@@ -2,7 +2,7 @@
 use Rattle.std.proofs.Common.{◌≡◌, ℕ, zero, suc, ◌≤◌, ◌<◌, Bool, if◌then◌else◌, List, [], ◌∷◌, length, get_or, refl, ap, sym, ◌∙◌, arith, Some, None}
 use Rattle.std.specs.declared.option.Option.{Option}
 use Rattle.qbs_base.specs.declared.columns.Table.{Table}
-use Rattle.java_mean.specs.Expression.{table_number, column_number, columns_at}
+use Rattle.qbs_base.specs.Columns.{table_number, column_number, columns_at}
 use Rattle.schema.specs.Numbers.{column_number as number_of_column}
 use Rattle.qbs.specs.declared.form.FirstForm.{FirstForm}
 use Rattle.qbs.specs.Form.{with}

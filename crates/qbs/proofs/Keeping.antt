@@ -12,10 +12,10 @@ use Rattle.qbs_base.specs.declared.scalar.Ty.{Ty}
 use Rattle.qbs_base.specs.declared.scalar.Ty.TheVariants as tys
 use Rattle.qbs_base.specs.declared.span.Span.{Span}
 use Rattle.qbs_base.specs.Values.{fits_long}
+use Rattle.qbs_base.specs.Columns.{table_number, column_number, columns_at}
 use Rattle.java_lex.specs.declared.token.TokenNode.{TokenNode}
 use Rattle.java_lex.specs.declared.token.Tokens.{Tokens}
 use Rattle.java_lex.specs.Lexing.{lexed}
-use Rattle.java_mean.specs.Expression.{table_number, column_number, columns_at}
 use Rattle.java_mean.specs.FirstForm.{HasLongColumn, collecting, selection}
 use Rattle.java_mean.specs.Keeps.{Keeps}
 use Rattle.java_mean.proofs.First.{first_form_kept}

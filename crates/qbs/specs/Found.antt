@@ -7,8 +7,8 @@ use Rattle.qbs_base.specs.declared.columns.Table.{Table}
 use Rattle.qbs_base.specs.declared.scalar.Ty.{Ty}
 use Rattle.qbs_base.specs.declared.scalar.Ty.TheVariants as tys
 use Rattle.qbs_base.specs.declared.span.Span.{Span}
+use Rattle.qbs_base.specs.Columns.{table_number, column_number, columns_at}
 use Rattle.java_lex.specs.declared.token.Token.{Token}
-use Rattle.java_mean.specs.Expression.{table_number, column_number, columns_at}
 use Rattle.qbs.specs.declared.form.FirstForm.{FirstForm}
 use Rattle.qbs.specs.Form.{with}
 use Rattle.qbs.specs.Lines.{nowhere}

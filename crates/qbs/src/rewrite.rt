@@ -2,12 +2,12 @@
 ghost use Rattle.std.specs.Prelude.{◌≡◌, IfOk, Some};
 ghost use Rattle.java_lex.specs.Lexing.{lexed};
 ghost use Rattle.qbs_base.specs.Outside.{Rose};
+ghost use Rattle.qbs_base.specs.Columns.{columns_at};
 ghost use Rattle.qbs.specs.Fetch.{OrMemory};
 ghost use Rattle.qbs.specs.Form.{nodes_of, first_form};
 ghost use Rattle.qbs.specs.Plan.{Due, given};
 ghost use Rattle.qbs.specs.Program.{rewrite, rewriting, with_tokens, with_program, with_types, fault_of, with_form, with_column, loop_place, long_column, is_long_at, is_long_type as type_is_long};
 ghost use Rattle.java_ast.specs.Reading.{program as program_of};
-ghost use Rattle.java_mean.specs.Expression.{columns_at};
 ghost use Rattle.java_parser.specs.Parsed.{parsed};
 
 use crate::Plan;

@@ -4,7 +4,6 @@ ghost use Rattle.qbs_base.specs.Outside.{Rose};
 ghost use Rattle.java_mean.specs.Rules.{has_order as query_has_order};
 ghost use Rattle.sql_ast.specs.Reading.{query as query_of};
 ghost use Rattle.sql_ast.specs.Meaning.{Answered, query_answer};
-ghost use Rattle.sql_ast.specs.Valid.{params_in as params_of};
 ghost use Rattle.sql_exec.specs.Answered.{answered as meaning_of, IsAnswerable};
 ghost use Rattle.qbs.specs.Asking.{sql, over_schema, asked, with_order, with_params, over_rows, answered};
 ghost use Rattle.qbs.specs.Fetch.{OrMemory};
@@ -74,32 +73,15 @@ fn plan_query(alloc: Global, schema: &Schema, texts: &TableTexts, text: &Text) -
     }
 }
 
-// Whether a list query has a complete order.
-fn has_order(q: &Query) -> bool
-    ensures { result ≡ query_has_order (Some (query_of q.now)) }
-{
-    order_complete(q)
-}
-
-fn params_in(q: &Query) -> &[Ty]
-    ensures { result.now ≡ params_of (query_of q.now) }
-{
-    match q {
-        Query::Listing(q) => q.params.as_slice(),
-        Query::Number(q) => q.params.as_slice(),
-        Query::Truth(q) => q.params.as_slice(),
-    }
-}
-
 fn plan_ordered(alloc: Global, schema: &Schema, texts: &TableTexts, q: &Query) -> Result<Plan, Stop>
     requires tables { length texts.now ≡ length schema.now }
     requires answerable { IsAnswerable (query_of q.now) }
     ensures { OrMemory result (λ plan. plan ≡ with_order schema.now texts.now (query_of q.now) (query_has_order (Some (query_of q.now)))) }
 {
-    if !has_order(q) {
+    if !order_complete(q) {
         return Err(word_refused(alloc, TypeRule::UnorderedQuery));
     }
-    if !params_in(q).is_empty() {
+    if !q.params().is_empty() {
         return Err(word_refused(alloc, TypeRule::Arity));
     }
     let db = load_tables(alloc, schema, texts.as_slice())?;

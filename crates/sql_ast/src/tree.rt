@@ -1,5 +1,9 @@
 // The tree of a query. FROM items are numbered from 1, on through inner SELECTs, parameters from 1.
-use qbs_base::{Items, Name, Scalar, Tys};
+ghost use Rattle.std.specs.Prelude.{◌≡◌};
+ghost use Rattle.sql_ast.specs.Reading.{query};
+ghost use Rattle.sql_ast.specs.Valid.{params_in};
+
+use qbs_base::{Items, Name, Scalar, Ty, Tys};
 
 /// A query: a list of rows or scalars, a number, or a truth value.
 #[derive(Drop)]
@@ -10,6 +14,19 @@ pub enum Query {
 }
 
 pub type Queries = Items<Query>;
+
+impl Query {
+    /// The types of its parameters in order.
+    pub fn params(&self) -> &[Ty]
+        ensures { result.now ≡ params_in (query self.now) }
+    {
+        match self {
+            Query::Listing(q) => q.params.as_slice(),
+            Query::Number(q) => q.params.as_slice(),
+            Query::Truth(q) => q.params.as_slice(),
+        }
+    }
+}
 
 /// A table in FROM, by its name and its number in the schema.
 #[derive(Clone, Drop)]

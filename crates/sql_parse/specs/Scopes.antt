@@ -1,10 +1,9 @@
 -- FROM items in sight.
-use Rattle.std.specs.Prelude.{ℕ, suc, Bool, false, List, [], ◌∷◌, map, length, take, drop, slice_get, position}
-use Rattle.std.specs.List.{list_any}
-use Rattle.std.specs.Str.{bytes_eq}
+use Rattle.std.specs.Prelude.{ℕ, suc, List, map, length, take, drop, slice_get}
 use Rattle.std.specs.declared.option.Option.{Option}
 use Rattle.std.specs.declared.option.Option.TheVariants.{Some}
 use Rattle.qbs_base.specs.declared.columns.Table.{Table}
+use Rattle.qbs_base.specs.Columns.{table_number}
 use Rattle.qbs_base.specs.Values.{Schema}
 use Rattle.sql_ast.specs.Names.{◌>>=◌, Scope, only_item}
 use Rattle.sql_ast.specs.Names as names
@@ -12,7 +11,7 @@ use Rattle.sql_parse.specs.declared.known.Known.{Known}
 
 -- the first table of this name, with its number
 abbrev pub table_named : Schema → List ℕ → Option (ℕ × Table)
-table_named schema name = position (λ table. bytes_eq table.name name) schema >>= λ number. slice_get schema number >>= λ table. Some (number, table)
+table_named schema name = table_number schema name >>= λ number. slice_get schema number >>= λ table. Some (number, table)
 
 abbrev pub known_of : Known → names.Known
 known_of k = record { alias = k.alias.now; columns = k.columns.now; from = k.from }

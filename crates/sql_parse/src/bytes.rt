@@ -1,28 +1,12 @@
-// Kinds of bytes, and how far they go in a text.
+// How far kinds of bytes go in a text.
 ghost use Rattle.std.specs.Prelude.{◌≡◌, ◌≤◌, length, option_map};
 ghost use Rattle.std.specs.Char.{is_ascii_digit};
 ghost use Rattle.std.specs.List.{prefix_len};
 ghost use Rattle.std.specs.Str.{IsCharBoundary};
-ghost use Rattle.qbs_base.specs.Bytes.{is_white as is_blank_byte, is_name_start as is_name_start_byte, is_name_part as is_name_part_byte};
+ghost use Rattle.qbs_base.specs.Bytes.{is_name_part as is_name_part_byte};
 ghost use Rattle.sql_parse.specs.Seen.{ascii_front};
 
-pub fn is_blank(byte: u8) -> bool
-    ensures { result ≡ is_blank_byte byte }
-{
-    byte == b' ' || byte == b'\t' || byte == b'\r' || byte == b'\n'
-}
-
-pub fn is_name_start(byte: u8) -> bool
-    ensures { result ≡ is_name_start_byte byte }
-{
-    byte.is_ascii_alphabetic() || byte == b'_'
-}
-
-fn is_name_part(byte: u8) -> bool
-    ensures { result ≡ is_name_part_byte byte }
-{
-    is_name_start(byte) || byte.is_ascii_digit()
-}
+use qbs_base::is_name_part;
 
 /// The first byte and the text behind it, where the text begins with an ASCII character.
 pub fn split_ascii(text: &str) -> Option<(u8, &str)>

@@ -6,10 +6,10 @@ ghost use Rattle.sql_ast.specs.Tokens.{Digits};
 ghost use Rattle.sql_parse.specs.Seen.{token_of, tokens_of, Gives};
 ghost use Rattle.sql_parse.specs.Pieces.{other_at, piece_at, kept, all_read, quote_behind};
 
-use crate::bytes::{digits_len, is_blank, is_name_start, name_len, split_ascii};
+use crate::bytes::{digits_len, name_len, split_ascii};
 use crate::fault::Stop;
 use crate::token::{Numeral, Token};
-use qbs_base::{NoMemory, Text};
+use qbs_base::{NoMemory, Text, is_name_start, is_white};
 use sql_ast::Cmp;
 use std::alloc::Global;
 
@@ -168,7 +168,7 @@ fn piece(alloc: Global, first: u8, text: &str) -> Result<(Option<Token>, &str), 
     requires { first < 128 }
     ensures { Gives (λ x. (option_map token_of x.0, x.1.now)) result (piece_at first text.now) }
 {
-    if is_blank(first) {
+    if is_white(first) {
         return Ok((None, text));
     }
     let (token, rest) = if is_name_start(first) {

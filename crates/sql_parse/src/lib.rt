@@ -21,6 +21,6 @@ mod token;
 mod typing;
 mod words;
 
-pub use query::parse_query;
+pub use query::{parse_query, read_length};
 pub use refusal::SqlFault;
 pub use sql_ast::SqlRule;

@@ -55,7 +55,7 @@ fn find(alloc: Global, schema: &[Table], text: &Text) -> Result<Query, Fail<SqlF
 }
 
 /// Reads the length of a text: that of any that is held has 64 bits. It changes nothing.
-fn read_length(text: &Text)
+pub fn read_length(text: &Text)
     ensures { length text.now < 2 ^ 64 }
 {
     let _length = text.as_str().len();

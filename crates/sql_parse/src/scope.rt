@@ -1,6 +1,6 @@
 // FROM items in sight, and what names mean among them.
-ghost use Rattle.std.specs.Prelude.{◌≡◌, ◌≤◌, map, length, position, IfOk, option_map};
-ghost use Rattle.std.specs.Str.{bytes_eq};
+ghost use Rattle.std.specs.Prelude.{◌≡◌, ◌≤◌, map, length, IfOk, option_map};
+ghost use Rattle.qbs_base.specs.Columns.{table_number, column_number};
 ghost use Rattle.std.specs.declared.option.Option.TheVariants.{Some};
 ghost use Rattle.sql_ast.specs.Names.{alias_of as alias_of_part, known_part as known_part_of, each_of, are_distinct as all_differ, known_parts as known_parts_of, item_named as item_named_of, column_named as column_named_of, named_col as named_col_of, named_opnd as named_opnd_of, froms_of};
 ghost use Rattle.sql_parse.specs.InSight.{in_sight};
@@ -30,7 +30,7 @@ pub fn small(number: usize) -> Result<u32, Stop>
 // ---- FROM
 
 fn table_place(schema: &[Table], name: &Name) -> Option<usize>
-    ensures { result ≡ position (λ t. bytes_eq t.name name.now) schema.now }
+    ensures { result ≡ table_number schema.now name.now }
 {
     schema.iter().position(|table| table.name == *name)
 }
@@ -151,7 +151,7 @@ pub fn item_named<'k, 'a>(
 }
 
 fn column_place(columns: &[Column], name: &Name) -> Option<usize>
-    ensures { result ≡ position (λ c. bytes_eq c.name name.now) columns.now }
+    ensures { result ≡ column_number columns.now name.now }
 {
     columns.iter().position(|column| column.name == *name)
 }

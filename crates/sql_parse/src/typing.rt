@@ -2,11 +2,10 @@
 ghost use Rattle.std.specs.Prelude.{◌≡◌, ◌++◌, map, length, take, IfOk, OnOk, option_map};
 ghost use Rattle.sql_ast.specs.Reading.{condition as plain_condition, filter_of as plain_filter};
 ghost use Rattle.sql_ast.specs.Meaning.{nth};
-ghost use Rattle.qbs_base.specs.Columns.{same_ty as are_same_ty};
 ghost use Rattle.sql_ast.specs.Typing.{ty_of_scalar as ty_of_scalar_of, ty_of_column as ty_of_column_of, ty_of_col as ty_of_col_of, ty_beside, tys_beside, orders as has_order, is_compared_by as is_compared, pair_fits as pair_fits_of, ty_of_opnd as ty_of_opnd_of, is_of as is_of_ty, condition_fits, kind_fits as kind_fits_of};
 ghost use Rattle.sql_parse.specs.Types.{froms_of, param_at, seen_ty, seen_all};
 
-use qbs_base::{Column, NoMemory, Scalar, Table, Ty};
+use qbs_base::{Column, NoMemory, Scalar, Table, Ty, same_ty};
 use sql_ast::{Cmp, Cond, FromItem, NumberKind, SqlCol, SqlColumn, SqlOpnd};
 
 /// The types of the columns that a parameter is compared with, as far as they were seen.
@@ -15,12 +14,6 @@ pub enum Seen {
     Nothing,
     One(Ty),
     Several,
-}
-
-fn same_ty(a: Ty, b: Ty) -> bool
-    ensures { result ≡ are_same_ty a b }
-{
-    a == b
 }
 
 // ---- columns and operands, over the FROM items in sight

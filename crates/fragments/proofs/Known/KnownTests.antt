@@ -3,10 +3,10 @@ use Rattle.std.proofs.Common.{◌≡◌, ℕ, zero, suc, Bool, true, ◌&&◌, L
 use Rattle.std.specs.List.{AllByRecursion, list_all}
 use Rattle.qbs_base.specs.declared.columns.Column.{Column}
 use Rattle.qbs_base.specs.declared.scalar.Ty.{Ty}
+use Rattle.qbs_base.specs.Columns.{columns_at}
 use Rattle.sql_ast.specs.Tree.{Listing}
 use Rattle.sql_ast.specs.Typing.{ty_of_col}
 use Rattle.java_ast.specs.Tree.{Expression}
-use Rattle.java_mean.specs.Expression.{columns_at}
 use Rattle.kernel_lang.specs.declared.parts.ListDef.{ListDef}
 use Rattle.kernel_lang.specs.Typed.{list_column, operand_type, same_type, atom_is_typed}
 use Rattle.kernel_lang.specs.Validity.{is_field}

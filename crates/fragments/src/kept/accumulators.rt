@@ -57,7 +57,7 @@ fn put_outer<'a>(f: &Fragment, x: &'a Name, list: &mut NameList<'a>) -> Result<(
 // Puts behind the names those that a statement assigns or adds to, and that are declared outside of
 // the loop and aren't its counter.
 #[cycle(updates)]
-#[tactic(auto, using(crate::proofs::Updated::updated, loop_text::proofs::Trees::Nodes::nodes))]
+#[tactic(auto, using(crate::proofs::Updated::updated, java_ast::proofs::Nodes::nodes))]
 fn put_updated<'a>(f: &Fragment, s: &'a Stmt, list: &mut NameList<'a>) -> Result<(), NoMemory>
     requires { IsListed list.old }
     ensures names { OnOk result (names_lent list.new.names ≡ outer_with (fragment_in_code f.now) (names_lent list.old.names) (specs.updated_in (statement s.now))) }

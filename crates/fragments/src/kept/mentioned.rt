@@ -11,7 +11,7 @@ use qbs_base::{Name, NoMemory};
 
 /// Puts the names in an expression behind those of a list.
 #[cycle(names)]
-#[tactic(auto, using(crate::proofs::Gathered::gathered, loop_text::proofs::Trees::Nodes::nodes))]
+#[tactic(auto, using(crate::proofs::Gathered::gathered, java_ast::proofs::Nodes::nodes))]
 pub fn put_names<'a>(e: &'a Expr, list: &mut NameList<'a>) -> Result<(), NoMemory>
     requires { IsListed list.old }
     ensures names { OnOk result (names_lent list.new.names ≡ specs.with_names (names_lent list.old.names) (specs.names_in (expression e.now))) }
@@ -65,7 +65,7 @@ pub fn put_all_names<'a>(es: &'a [Expr], list: &mut NameList<'a>) -> Result<(), 
 
 /// Puts the names that a statement mentions, other than to declare them, behind those of a list.
 #[cycle(statements)]
-#[tactic(auto, using(crate::proofs::Gathered::gathered, loop_text::proofs::Trees::Nodes::nodes))]
+#[tactic(auto, using(crate::proofs::Gathered::gathered, java_ast::proofs::Nodes::nodes))]
 pub fn put_mentioned<'a>(s: &'a Stmt, list: &mut NameList<'a>) -> Result<(), NoMemory>
     requires { IsListed list.old }
     ensures names { OnOk result (names_lent list.new.names ≡ specs.with_names (names_lent list.old.names) (specs.mentioned_in (statement s.now))) }

@@ -1,7 +1,7 @@
 // The lowered fragment of a loop.
 ghost use Rattle.std.specs.Prelude.{◌≡◌, IfOk, length, map, slice_get};
 ghost use Rattle.java_ast.specs.Reading.{expression};
-ghost use Rattle.java_mean.specs.Expression.{columns_at as columns_in};
+ghost use Rattle.qbs_base.specs.Columns.{columns_at as columns_in};
 ghost use Rattle.kernel_lang.specs.Parts.{parts_of};
 ghost use Rattle.fragments.specs.Counted.{numbers_in_code, HasFewLoops, AreNumbersOf};
 ghost use Rattle.loop_text.specs.Statements.Fragment.{needed_of};

@@ -2,7 +2,7 @@
 ghost use Rattle.std.specs.Prelude.{◌≡◌, IfOk, map};
 ghost use Rattle.std.specs.Option.{option_map};
 ghost use Rattle.java_ast.specs.Reading.{statement};
-ghost use Rattle.java_mean.specs.Expression.{column_number, columns_at};
+ghost use Rattle.qbs_base.specs.Columns.{column_number, columns_at};
 ghost use Rattle.java_loops.specs.Lowering.Lowered as specs;
 ghost use Rattle.java_loops.specs.Lowering.Numbering.{found_number};
 ghost use Rattle.fragments.specs.Reading.{setting_in_code};

@@ -80,7 +80,7 @@ fn table_declared(schema: &Schema, body: &[Stmt]) -> u32
 }
 
 /// The table whose rows a loop goes over.
-#[tactic(auto, using(loop_text::proofs::Trees::Nodes::nodes))]
+#[tactic(auto, using(java_ast::proofs::Nodes::nodes))]
 pub fn table_of_loop(schema: &Schema, s: &Stmt) -> u32
     ensures { result ≡ specs.table_of_loop schema.now (statement s.now) }
 {

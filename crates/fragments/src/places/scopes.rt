@@ -18,7 +18,7 @@ fn type_under(schema: Option<&Schema>, ty: &JTy) -> Option<JavaType>
     }
 }
 
-#[tactic(auto, using(loop_text::proofs::Trees::Nodes::nodes))]
+#[tactic(auto, using(java_ast::proofs::Nodes::nodes))]
 fn declare_after<'a>(
     schema: Option<&Schema>,
     s: &'a Stmt,
@@ -46,7 +46,7 @@ pub fn declare_all<'a>(
     Ok(())
 }
 
-#[tactic(auto, using(loop_text::proofs::Trees::Nodes::nodes))]
+#[tactic(auto, using(java_ast::proofs::Nodes::nodes))]
 fn declare_inside<'a>(
     schema: Option<&Schema>,
     s: &'a Stmt,

@@ -28,7 +28,7 @@ fn counts_rightly(w: &Setting, k: Option<Counting>, body: &[Stmt]) -> bool
 }
 
 // A for-each, or a loop that counts.
-#[tactic(auto, using(loop_text::proofs::Trees::Nodes::nodes))]
+#[tactic(auto, using(java_ast::proofs::Nodes::nodes))]
 fn is_kernel_loop(w: &Setting, s: &Stmt) -> bool
     ensures { result ≡ specs.is_kernel_loop (fragment_in_code w.now.fragment) (statement s.now) }
 {

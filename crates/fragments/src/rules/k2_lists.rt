@@ -37,7 +37,7 @@ fn is_list_bound(w: &Setting, x: &Name, b: Binding) -> bool
 }
 
 // What a sorted and cut list doesn't allow: an `if`, and an update that doesn't add to a list.
-#[tactic(auto, using(loop_text::proofs::Trees::Nodes::nodes))]
+#[tactic(auto, using(java_ast::proofs::Nodes::nodes))]
 fn is_barred(w: &Setting, n: usize, s: &Stmt) -> bool
     ensures { result ≡ specs.is_barred (setting_in_code w.now) n (statement s.now) }
 {

@@ -75,7 +75,7 @@ fn is_known(alloc: Global, w: &Setting, n: usize, ids: &Name) -> Result<bool, No
 // ---- Leaves
 
 // The smallest expression in a leaf that breaks the rule.
-#[tactic(auto, using(crate::proofs::Placed::placed, loop_text::proofs::Trees::Nodes::nodes))]
+#[tactic(auto, using(crate::proofs::Placed::placed, java_ast::proofs::Nodes::nodes))]
 fn broken_leaf(alloc: Global, w: &Setting, n: usize, e: &Expr) -> Result<Option<Span>, NoMemory>
     ensures { IfOk result (λ at. at ≡ specs.broken_leaf (setting_in_code w.now) n (expression e.now)) }
 {

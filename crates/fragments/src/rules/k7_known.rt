@@ -30,7 +30,7 @@ pub fn is_column_query(q: &Option<Query>) -> bool
     }
 }
 
-#[tactic(auto, using(loop_text::proofs::Trees::Nodes::nodes))]
+#[tactic(auto, using(java_ast::proofs::Nodes::nodes))]
 fn asked_by_query(e: &Expr) -> Option<Asked<'_>>
     ensures { option_map asked_in_code result ≡ specs.asked_by_query (expression e.now) }
 {
@@ -41,7 +41,7 @@ fn asked_by_query(e: &Expr) -> Option<Asked<'_>>
 }
 
 // `db.query(..)`, also in a `LinkedHashSet`.
-#[tactic(auto, using(loop_text::proofs::Trees::Nodes::nodes))]
+#[tactic(auto, using(java_ast::proofs::Nodes::nodes))]
 fn asked_by(e: &Expr) -> Option<Asked<'_>>
     ensures { option_map asked_in_code result ≡ specs.asked_by (expression e.now) }
 {

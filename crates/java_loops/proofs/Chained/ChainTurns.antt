@@ -2,12 +2,12 @@
 use Rattle.std.proofs.Common.{◌≡◌, ℕ, Bool, true, false, List, [], Option, Some, None, refl, sym, ap, ◌∙◌, subst, cond, slice_get, bytes_eq, arith}
 use Rattle.qbs_base.specs.declared.span.Span.{Span}
 use Rattle.qbs_base.specs.Values.{Schema}
+use Rattle.qbs_base.specs.Columns.{table_number}
 use Rattle.java_ast.specs.Tree as tree
 use Rattle.java_ast.specs.Tree.{Spelled, Expression, Statement, Statements, Nothing, Then}
 use Rattle.java_mean.specs.declared.types.JavaType.{JavaType}
 use Rattle.java_mean.specs.declared.types.JavaType.TheVariants.{Of}
 use Rattle.java_mean.specs.declared.types.Single.TheVariants.{RowOf}
-use Rattle.java_mean.specs.Expression.{table_number}
 use Rattle.java_mean.specs.Types.{Types, with_type, type_spelled, row_type, made_of}
 use Rattle.java_mean.specs.Typing.{Frame, TypedStatement, TypedStatements, done, next as next_typed}
 use Rattle.java_mean.proofs.Puts.{names_equal, name_same}

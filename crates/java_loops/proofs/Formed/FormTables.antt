@@ -3,13 +3,13 @@ use Rattle.std.proofs.Common.{◌≡◌, ℕ, true, List, Option, Some, None, re
 use Rattle.std.proofs.lemmas.Bool.{and_parts}
 use Rattle.qbs_base.specs.declared.span.Span.{Span}
 use Rattle.qbs_base.specs.Values.{Schema}
+use Rattle.qbs_base.specs.Columns.{table_number}
 use Rattle.java_ast.specs.Tree as tree
 use Rattle.java_ast.specs.Tree.{Spelled, Expression, Statement, Statements, Nothing, Then}
 use Rattle.java_mean.specs.declared.types.JavaType.{JavaType}
 use Rattle.java_mean.specs.declared.types.JavaType.TheVariants.{Of, Listed}
 use Rattle.java_mean.specs.declared.types.Single.{Single}
 use Rattle.java_mean.specs.declared.types.Single.TheVariants.{RowOf}
-use Rattle.java_mean.specs.Expression.{table_number}
 use Rattle.java_mean.specs.Types.{Types, type_spelled, row_type, made_of}
 use Rattle.java_mean.specs.Typing.{Frame, Has, listed, HasType, fetch}
 use Rattle.loop_text.specs.Kernel.KernelLists.{source_of}

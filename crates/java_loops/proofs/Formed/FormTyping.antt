@@ -8,6 +8,7 @@ use Rattle.qbs_base.specs.declared.scalar.Ty.{Ty}
 use Rattle.qbs_base.specs.declared.scalar.Ty.TheVariants as tys
 use Rattle.qbs_base.specs.declared.span.Span.{Span}
 use Rattle.qbs_base.specs.Values.{HasTy}
+use Rattle.qbs_base.specs.Columns.{column_number, columns_at}
 use Rattle.java_ast.specs.declared.tree.Op.{Op}
 use Rattle.java_ast.specs.declared.tree.Op.TheVariants as ops
 use Rattle.java_ast.specs.Tree as tree
@@ -15,7 +16,6 @@ use Rattle.java_ast.specs.Tree.{Expression}
 use Rattle.java_mean.specs.declared.types.JavaType.{JavaType}
 use Rattle.java_mean.specs.declared.types.JavaType.TheVariants.{Of}
 use Rattle.java_mean.specs.declared.types.Single.TheVariants.{ScalarOf, RowOf}
-use Rattle.java_mean.specs.Expression.{column_number, columns_at}
 use Rattle.java_mean.specs.Rules.{ty_of}
 use Rattle.java_mean.specs.Types.{Types}
 use Rattle.java_mean.specs.Typing.{Frame, Has, HasType, Takes, lt_takes, le_takes, gt_takes, ge_takes, eq_longs, eq_bools, ne_longs, ne_bools, or_takes, and_takes, lit, var, field, binary, negated, equals, contains, bool}

@@ -3,9 +3,9 @@ use Rattle.std.proofs.Common.{◌≡◌, ℕ, zero, suc, ◌+◌, ◌≤◌, Boo
 use Rattle.qbs_base.specs.Values.{Schema}
 use Rattle.sql_ast.specs.Tree.{PlainQuery}
 use Rattle.java_ast.specs.Path as paths
-use Rattle.java_ast.specs.Path.{found_in, and_then, numbered, branch_of, behind_of, last_of, statement_in, statement_at, replaced_in, replaced_at}
+use Rattle.java_ast.specs.Path.{found_in, and_then, numbered, branch_of, behind_of, last_of, statement_in, statement_at, replaced_in, replaced_at, with_body, with_methods}
 use Rattle.java_ast.specs.Tree.{Statement, Statements, Nothing, Then, PlainMethod, PlainProgram}
-use Rattle.java_mean.specs.Keeps.{Keeps, with_body, with_methods}
+use Rattle.java_mean.specs.Keeps.{Keeps}
 use Rattle.java_mean.specs.Numbers.{NumbersFit}
 use Rattle.java_mean.specs.Queries.{Reader}
 use Rattle.java_mean.specs.Refines.{followed_by, fill}

@@ -13,13 +13,14 @@ use Rattle.qbs_base.specs.declared.scalar.Value.TheVariants.{One, Whole, Many}
 use Rattle.qbs_base.specs.declared.span.Span.{Span}
 use Rattle.qbs_base.specs.Named.{at_name}
 use Rattle.qbs_base.specs.Values.{Schema, HasTy, AreCells, AreOf, IsRowOf}
+use Rattle.qbs_base.specs.Columns.{column_number, columns_at}
 use Rattle.java_ast.specs.Tree as tree
 use Rattle.java_ast.specs.Tree.{Expression}
 use Rattle.java_mean.specs.declared.types.JavaType.{JavaType}
 use Rattle.java_mean.specs.declared.types.JavaType.TheVariants.{Of, Listed, Distinct}
 use Rattle.java_mean.specs.declared.types.Single.TheVariants.{ScalarOf, RowOf}
 use Rattle.java_mean.specs.Endings.{◌>>=◌, found}
-use Rattle.java_mean.specs.Expression.{value_of, as_row, column_number, columns_at, columns_of, cell_at, cell}
+use Rattle.java_mean.specs.Expression.{value_of, as_row, columns_of, cell_at, cell}
 use Rattle.java_mean.specs.Store.{Store, Variable}
 use Rattle.java_mean.specs.Types.{Types, IsSingle, IsVariableOf, IsTyped}
 use Rattle.java_mean.specs.World.{World}

@@ -7,6 +7,7 @@ use Rattle.std.specs.Option.{option_map}
 use Rattle.qbs_base.specs.declared.columns.Column.{Column}
 use Rattle.qbs_base.specs.declared.span.Span.{Span}
 use Rattle.qbs_base.specs.Values.{Schema}
+use Rattle.qbs_base.specs.Columns.{column_number, columns_at}
 use Rattle.sql_ast.specs.Tree.{PlainQuery}
 use Rattle.sql_ast.proofs.Combinations.{all_append}
 use Rattle.java_ast.specs.declared.tree.Op.{Op}
@@ -17,7 +18,6 @@ use Rattle.java_mean.specs.declared.types.JavaType.TheVariants.{Of}
 use Rattle.java_mean.specs.declared.types.Kindred.{Kindred}
 use Rattle.java_mean.specs.declared.types.Kindred.TheVariants.{Only}
 use Rattle.java_mean.specs.declared.types.Single.TheVariants.{RowOf}
-use Rattle.java_mean.specs.Expression.{column_number, columns_at}
 use Rattle.java_mean.specs.Places.{value, step, in_expression, in_expressions, in_statements, in_branch}
 use Rattle.java_mean.specs.Rules.{type_of, is_none, type_at_number, column_type, unknown_column}
 use Rattle.java_mean.specs.Types.{Types}

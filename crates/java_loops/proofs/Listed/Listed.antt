@@ -16,11 +16,12 @@ use Rattle.qbs_base.specs.Scalar.{value_before}
 use Rattle.qbs_base.specs.Sort.{put_in, stable_sort}
 use Rattle.qbs_base.specs.Tables.{NamedRows}
 use Rattle.qbs_base.specs.Values.{Schema, Database, IsRowOf, IsDatabaseOf}
+use Rattle.qbs_base.specs.Columns.{table_number, column_number, columns_at}
 use Rattle.java_ast.specs.Tree as tree
 use Rattle.java_ast.specs.Tree.{Expression, Statement, Statements, Nothing, Then}
 use Rattle.java_mean.specs.declared.ending.Ending.{Ending}
 use Rattle.java_mean.specs.Endings.{◌>>=◌, found}
-use Rattle.java_mean.specs.Expression.{table_number, column_number, columns_at, columns_of, cell_at, cell, value_of, as_rows}
+use Rattle.java_mean.specs.Expression.{columns_of, cell_at, cell, value_of, as_rows}
 use Rattle.java_mean.specs.Statement.{State, GoesOn, in_order, is_set_type, meanings}
 use Rattle.java_mean.specs.Store.{Store, Variable, put}
 use Rattle.java_mean.specs.World.{World}

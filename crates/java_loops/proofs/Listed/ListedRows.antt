@@ -9,13 +9,14 @@ use Rattle.qbs_base.specs.declared.scalar.Value.TheVariants.{Many}
 use Rattle.qbs_base.specs.declared.span.Span.{Span}
 use Rattle.qbs_base.specs.Named.{at_name}
 use Rattle.qbs_base.specs.Values.{Schema, IsDatabaseOf}
+use Rattle.qbs_base.specs.Columns.{table_number}
 use Rattle.sql_ast.specs.Tree.{PlainQuery}
 use Rattle.sql_ast.proofs.Tools.{all_at}
 use Rattle.java_ast.specs.Tree as tree
 use Rattle.java_ast.specs.Tree.{Spelled, Expression, Statement, Statements, Nothing, Then, PlainProgram}
 use Rattle.java_mean.specs.declared.ending.Ending.{Ending}
 use Rattle.java_mean.specs.Endings.{◌>>=◌, found}
-use Rattle.java_mean.specs.Expression.{table_number, value_of}
+use Rattle.java_mean.specs.Expression.{value_of}
 use Rattle.java_mean.specs.Places as places
 use Rattle.java_mean.specs.Places.{in_body}
 use Rattle.java_mean.specs.Refines.{followed_by, fill, types_at}

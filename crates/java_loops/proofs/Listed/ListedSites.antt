@@ -6,6 +6,7 @@ use Rattle.std.specs.Option.{option_map}
 use Rattle.std.proofs.lemmas.Bool.{and_parts}
 use Rattle.qbs_base.specs.declared.span.Span.{Span}
 use Rattle.qbs_base.specs.Values.{Schema}
+use Rattle.qbs_base.specs.Columns.{table_number, columns_at}
 use Rattle.sql_ast.specs.Tree.{PlainQuery}
 use Rattle.java_ast.specs.Tree as tree
 use Rattle.java_ast.specs.Tree.{Spelled, Expression, Statement, Statements, Nothing, Then}
@@ -15,7 +16,6 @@ use Rattle.java_mean.specs.declared.types.Kindred.{Kindred}
 use Rattle.java_mean.specs.declared.types.Kindred.TheVariants.{Only}
 use Rattle.java_mean.specs.declared.types.Single.{Single}
 use Rattle.java_mean.specs.declared.types.Single.TheVariants.{RowOf}
-use Rattle.java_mean.specs.Expression.{table_number, columns_at}
 use Rattle.java_mean.specs.Places as places
 use Rattle.java_mean.specs.Places.{value, step, in_expression, in_statements, in_while, in_for_each, is_nothing}
 use Rattle.java_mean.specs.Rules.{type_of, at_of, is_none, same_type, unless_both, unless_passes, is_many_kindred, walked_element, unless_element, listed_in, copied_row, set_of_rows, given}

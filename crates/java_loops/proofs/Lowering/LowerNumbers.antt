@@ -2,6 +2,7 @@
 use Rattle.std.proofs.Common.{◌≡◌, ℕ, true, List, Option, Some, refl, sym, ap, ◌∙◌, subst}
 use Rattle.qbs_base.specs.declared.span.Span.{Span}
 use Rattle.qbs_base.specs.Values.{Schema}
+use Rattle.qbs_base.specs.Columns.{table_number}
 use Rattle.sql_ast.specs.Tree.{PlainQuery}
 use Rattle.java_ast.specs.Tree as tree
 use Rattle.java_ast.specs.Tree.{Spelled, Expression, Statement, Statements}
@@ -9,7 +10,6 @@ use Rattle.java_mean.specs.declared.types.JavaType.{JavaType}
 use Rattle.java_mean.specs.declared.types.JavaType.TheVariants.{Of, Listed}
 use Rattle.java_mean.specs.declared.types.Single.{Single}
 use Rattle.java_mean.specs.declared.types.Single.TheVariants.{RowOf}
-use Rattle.java_mean.specs.Expression.{table_number}
 use Rattle.java_mean.specs.Types.{Types}
 use Rattle.java_mean.specs.Typing.{Frame, Has, HasType, TypedStatement}
 use Rattle.loop_text.specs.Statements.Fragment.{Fragment}

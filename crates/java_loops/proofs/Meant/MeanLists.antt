@@ -9,11 +9,12 @@ use Rattle.qbs_base.specs.declared.scalar.Value.TheVariants.{Many}
 use Rattle.qbs_base.specs.declared.span.Span.{Span}
 use Rattle.qbs_base.specs.Named.{at_name}
 use Rattle.qbs_base.specs.Values.{Schema}
+use Rattle.qbs_base.specs.Columns.{table_number}
 use Rattle.sql_ast.specs.Tree.{PlainQuery}
 use Rattle.java_ast.specs.Tree as tree
 use Rattle.java_ast.specs.Tree.{Spelled, Expression, Statement, Statements}
 use Rattle.java_mean.specs.Endings.{◌>>=◌, found}
-use Rattle.java_mean.specs.Expression.{table_number, value_of}
+use Rattle.java_mean.specs.Expression.{value_of}
 use Rattle.java_mean.specs.Statement.{State}
 use Rattle.java_mean.specs.Store.{Variable}
 use Rattle.java_mean.specs.Types.{Types}

@@ -7,11 +7,11 @@ use Rattle.std.proofs.lemmas.Option.{slice_get_within, slice_get-get_or}
 use Rattle.qbs_base.specs.declared.columns.Column.{Column}
 use Rattle.qbs_base.specs.declared.span.Span.{Span}
 use Rattle.qbs_base.specs.Values.{Schema}
+use Rattle.qbs_base.specs.Columns.{table_number, column_number, columns_at}
 use Rattle.sql_ast.proofs.Combinations.{all_append}
 use Rattle.sql_ast.specs.Tree.{PlainQuery}
 use Rattle.java_ast.specs.Tree as tree
 use Rattle.java_ast.specs.Tree.{Spelled, Expression, Statement, Statements}
-use Rattle.java_mean.specs.Expression.{table_number, column_number, columns_at}
 use Rattle.java_mean.specs.Types.{Types}
 use Rattle.kernel_lang.specs.declared.parts.Col.{Col}
 use Rattle.kernel_lang.specs.declared.parts.ListDef.{ListDef}

@@ -4,8 +4,8 @@ use Rattle.std.specs.List.{AllByRecursion, list_all}
 use Rattle.std.proofs.lemmas.Bool.{eqb-true}
 use Rattle.qbs_base.specs.declared.columns.Column.{Column}
 use Rattle.qbs_base.specs.declared.scalar.Ty.{Ty}
+use Rattle.qbs_base.specs.Columns.{columns_at}
 use Rattle.java_ast.specs.Tree.{Expression}
-use Rattle.java_mean.specs.Expression.{columns_at}
 use Rattle.java_loops.specs.Walks.ChainStarts.{StandsForCondition}
 use Rattle.java_loops.specs.Walks.Forms as forms
 use Rattle.java_loops.specs.Walks.Forms.{IsOperand, IsAtom}

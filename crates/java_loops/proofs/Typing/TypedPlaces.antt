@@ -7,9 +7,9 @@ use Rattle.qbs_base.specs.declared.columns.Column.{Column}
 use Rattle.qbs_base.specs.declared.scalar.Ty.{Ty}
 use Rattle.qbs_base.specs.declared.scalar.Ty.TheVariants as tys
 use Rattle.qbs_base.specs.Values.{Schema}
+use Rattle.qbs_base.specs.Columns.{columns_at}
 use Rattle.sql_ast.proofs.Combinations.{all_append}
 use Rattle.sql_ast.specs.Tree.{PlainQuery}
-use Rattle.java_mean.specs.Expression.{columns_at}
 use Rattle.java_mean.specs.Types.{Types}
 use Rattle.java_loops.specs.Walks.ChainStarts.{HasColumnAt}
 use Rattle.kernel_lang.specs.declared.parts.Col.{Col}

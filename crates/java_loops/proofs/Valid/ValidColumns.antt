@@ -4,8 +4,8 @@ use Rattle.std.specs.List.{filter}
 use Rattle.qbs_base.specs.declared.columns.Column.{Column}
 use Rattle.qbs_base.specs.declared.scalar.Ty.{Ty}
 use Rattle.qbs_base.specs.Values.{Schema}
+use Rattle.qbs_base.specs.Columns.{column_number, columns_at}
 use Rattle.java_ast.specs.Tree.{Expression}
-use Rattle.java_mean.specs.Expression.{column_number, columns_at}
 use Rattle.java_mean.specs.declared.types.JavaType.{JavaType}
 use Rattle.java_mean.specs.declared.types.JavaType.TheVariants.{Of}
 use Rattle.java_mean.specs.declared.types.Single.TheVariants.{ScalarOf, RowOf}

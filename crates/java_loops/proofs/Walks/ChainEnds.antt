@@ -6,10 +6,11 @@ use Rattle.std.specs.Option.{option_map}
 use Rattle.qbs_base.specs.declared.scalar.Row.{Row}
 use Rattle.qbs_base.specs.declared.scalar.Value.{Value}
 use Rattle.qbs_base.specs.Values.{IsRowOf}
+use Rattle.qbs_base.specs.Columns.{columns_at}
 use Rattle.java_ast.specs.Tree.{Expression, Statement, Statements}
 use Rattle.java_mean.specs.declared.ending.Ending.{Ending}
 use Rattle.java_mean.specs.Endings.{◌>>=◌}
-use Rattle.java_mean.specs.Expression.{as_scalar, as_bool, columns_at, element}
+use Rattle.java_mean.specs.Expression.{as_scalar, as_bool, element}
 use Rattle.java_mean.specs.Store.{Store, put, plainly}
 use Rattle.java_mean.specs.World as java
 use Rattle.tor_terms.specs.declared.term.Atom.{Atom}

@@ -8,9 +8,9 @@ use Rattle.qbs_base.specs.Values.{IsRowOf, IsDatabaseOf}
 use Rattle.qbs_base.specs.declared.scalar.Scalar.TheVariants as scalars
 use Rattle.qbs_base.specs.declared.scalar.Ty.{Ty}
 use Rattle.qbs_base.specs.declared.scalar.Ty.TheVariants as tys
+use Rattle.qbs_base.specs.Columns.{columns_at, table_number}
 use Rattle.java_ast.specs.Tree as tree
 use Rattle.java_ast.specs.Tree.{Expression, Statement, Statements, Nothing, Then}
-use Rattle.java_mean.specs.Expression.{columns_at, table_number}
 use Rattle.sql_ast.specs.Worked.{staff_schema}
 use Rattle.java_mean.specs.Worked.{somewhere, staff, User, Role, block, field, u, out, long}
 use Rattle.java_mean.proofs.Puts.{names_equal}

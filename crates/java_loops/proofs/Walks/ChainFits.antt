@@ -11,8 +11,8 @@ use Rattle.qbs_base.specs.declared.scalar.Ty.{Ty}
 use Rattle.qbs_base.specs.declared.scalar.Ty.TheVariants as tys
 use Rattle.qbs_base.specs.Named.{at_name}
 use Rattle.qbs_base.specs.Values.{IsRowOf}
+use Rattle.qbs_base.specs.Columns.{columns_at}
 use Rattle.java_ast.specs.Tree.{Expression, Statement, Statements}
-use Rattle.java_mean.specs.Expression.{columns_at}
 use Rattle.java_mean.specs.Store.{Store}
 use Rattle.java_mean.specs.World as java
 use Rattle.tor_terms.specs.declared.term.Atom.{Atom}

@@ -14,10 +14,11 @@ use Rattle.qbs_base.specs.declared.scalar.Value.{Value}
 use Rattle.qbs_base.specs.declared.scalar.Value.TheVariants.{One, Whole}
 use Rattle.qbs_base.specs.Named.{at_name}
 use Rattle.qbs_base.specs.Values.{Schema, HasTy, AreCells, IsRowOf, fits_long}
+use Rattle.qbs_base.specs.Columns.{column_number, columns_at}
 use Rattle.java_ast.specs.Tree.{Expression}
 use Rattle.java_mean.specs.declared.ending.Ending.{Ending}
 use Rattle.java_mean.specs.Endings.{◌>>=◌, found}
-use Rattle.java_mean.specs.Expression.{value_of, as_row, as_member, cell, cell_at, column_number, columns_at, columns_of, element, element_in}
+use Rattle.java_mean.specs.Expression.{value_of, as_row, as_member, cell, cell_at, columns_of, element, element_in}
 use Rattle.java_mean.specs.Rules.{ty_of}
 use Rattle.java_mean.specs.Store.{Store, Variable}
 use Rattle.java_mean.specs.World as java

@@ -8,8 +8,9 @@ use Rattle.qbs_base.specs.declared.scalar.Ty.{Ty}
 use Rattle.qbs_base.specs.declared.scalar.Value.TheVariants.{One}
 use Rattle.qbs_base.specs.Named.{at_name}
 use Rattle.qbs_base.specs.Values.{IsRowOf}
+use Rattle.qbs_base.specs.Columns.{columns_at}
 use Rattle.java_mean.specs.Endings.{◌>>=◌, found}
-use Rattle.java_mean.specs.Expression.{element, columns_at, as_row, cell}
+use Rattle.java_mean.specs.Expression.{element, as_row, cell}
 use Rattle.java_mean.specs.Store.{Store, Variable, put, plainly}
 use Rattle.java_mean.specs.World as java
 use Rattle.java_mean.proofs.Puts.{names_equal, put_other, put_same}

@@ -9,10 +9,11 @@ use Rattle.qbs_base.specs.declared.scalar.Value.{Value}
 use Rattle.qbs_base.specs.declared.scalar.Value.TheVariants.{One, Many}
 use Rattle.qbs_base.specs.Named.{at_name}
 use Rattle.qbs_base.specs.Values.{fits_long, IsRowOf}
+use Rattle.qbs_base.specs.Columns.{columns_at}
 use Rattle.java_ast.specs.Tree.{Expression, Statement, Statements}
 use Rattle.java_mean.specs.declared.ending.Ending.{Ending}
 use Rattle.java_mean.specs.Endings.{◌>>=◌, found}
-use Rattle.java_mean.specs.Expression.{as_rows, columns_at, element}
+use Rattle.java_mean.specs.Expression.{as_rows, element}
 use Rattle.java_mean.specs.Store.{Store, Variable, put, plainly}
 use Rattle.java_mean.specs.World as java
 use Rattle.java_mean.proofs.Puts.{put_same}

@@ -12,8 +12,8 @@ use Rattle.qbs_base.specs.Named.{at_name}
 use Rattle.qbs_base.specs.Sort.{put_in, stable_sort}
 use Rattle.qbs_base.specs.Tables.{NamedRows}
 use Rattle.qbs_base.specs.Values.{Schema, Database, AreTables, IsRowOf}
+use Rattle.qbs_base.specs.Columns.{table_number, columns_at}
 use Rattle.java_ast.specs.Tree.{Expression, Statement, Statements}
-use Rattle.java_mean.specs.Expression.{table_number, columns_at}
 use Rattle.java_mean.specs.Store.{Store}
 use Rattle.java_mean.specs.World as java
 use Rattle.java_mean.proofs.Members.{all_sorted}

@@ -5,8 +5,8 @@ use Rattle.qbs_base.specs.declared.columns.Column.{Column}
 use Rattle.qbs_base.specs.declared.scalar.Ty.{Ty}
 use Rattle.qbs_base.specs.declared.scalar.Ty.TheVariants as tys
 use Rattle.qbs_base.specs.Values.{Schema}
+use Rattle.qbs_base.specs.Columns.{column_number, columns_at}
 use Rattle.java_ast.specs.Tree.{Expression}
-use Rattle.java_mean.specs.Expression.{column_number, columns_at}
 use Rattle.tor_terms.specs.declared.term.Atom.{Atom}
 use Rattle.tor_terms.specs.declared.term.Operand.{Operand}
 use Rattle.tor_terms.specs.declared.term.Operand.TheVariants as operands

@@ -2,10 +2,10 @@
 use Rattle.std.proofs.Common.{◌≡◌, ℕ, zero, suc, ◌≤◌, List, [], ◌∷◌, ◌++◌, Some, sym, ap, ◌∙◌, subst}
 use Rattle.std.specs.Prelude.{slice_get}
 use Rattle.qbs_base.specs.Values.{Schema}
-use Rattle.java_ast.specs.Path.{statement_in, replaced_in, with_method, replaced_at, last_of}
+use Rattle.java_ast.specs.Path.{statement_in, replaced_in, with_method, replaced_at, last_of, with_body, with_methods}
 use Rattle.java_ast.specs.Tree.{Statement, Statements, PlainMethod, PlainProgram}
 use Rattle.java_mean.specs.Asks.{frame_of}
-use Rattle.java_mean.specs.Keeps.{Keeps, with_body, with_methods}
+use Rattle.java_mean.specs.Keeps.{Keeps}
 use Rattle.java_mean.specs.Numbers.{NumbersFit}
 use Rattle.java_mean.specs.Queries.{Reader}
 use Rattle.java_mean.specs.Refines.{Hole, fill}

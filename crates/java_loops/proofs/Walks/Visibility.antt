@@ -5,9 +5,10 @@ use Rattle.qbs_base.specs.declared.span.Span.{Span}
 use Rattle.qbs_base.specs.Values.{Schema}
 use Rattle.java_ast.specs.Tree as tree
 use Rattle.java_ast.specs.Tree.{Spelled, Expression, Statement, Statements, Nothing, Then, PlainMethod, PlainProgram}
+use Rattle.java_ast.specs.Path.{with_body, with_methods}
 use Rattle.java_mean.specs.declared.types.JavaType.{JavaType}
 use Rattle.java_mean.specs.Asks.{frame_of}
-use Rattle.java_mean.specs.Keeps.{Keeps, with_body, with_methods}
+use Rattle.java_mean.specs.Keeps.{Keeps}
 use Rattle.java_mean.specs.Numbers.{NumbersFit}
 use Rattle.java_mean.specs.Queries.{Reader}
 use Rattle.java_mean.specs.Refines.{Hole, fill, followed_by, loop_at, IsTypedPlace}

@@ -9,12 +9,12 @@ use Rattle.qbs_base.specs.declared.scalar.Scalar.{Scalar}
 use Rattle.qbs_base.specs.declared.scalar.Scalar.TheVariants as scalars
 use Rattle.qbs_base.specs.declared.scalar.Ty.{Ty}
 use Rattle.qbs_base.specs.declared.scalar.Ty.TheVariants as tys
+use Rattle.qbs_base.specs.Columns.{column_number, columns_at}
 use Rattle.java_ast.specs.Tree.{Expression, Statement, Statements, Nothing, Then}
 use Rattle.java_ast.specs.Tree as plain
 use Rattle.java_mean.specs.declared.types.JavaType.{JavaType}
 use Rattle.java_mean.specs.declared.types.JavaType.TheVariants.{Of}
 use Rattle.java_mean.specs.declared.types.Single.TheVariants.{ScalarOf, RowOf}
-use Rattle.java_mean.specs.Expression.{column_number, columns_at}
 use Rattle.java_mean.specs.Types.{Types}
 use Rattle.kernel_lang.specs.declared.parts.Col.{Col}
 use Rattle.kernel_lang.specs.declared.parts.ListDef.{ListDef}

@@ -6,11 +6,11 @@ use Rattle.std.specs.declared.option.Option.{Option}
 use Rattle.std.specs.declared.option.Option.TheVariants.{Some, None}
 use Rattle.qbs_base.specs.Scalar.{scalar_before}
 use Rattle.qbs_base.specs.Values.{Schema}
+use Rattle.qbs_base.specs.Columns.{table_number, column_number, columns_at}
 use Rattle.java_ast.specs.declared.tree.Op.{Op}
 use Rattle.java_ast.specs.declared.tree.Op.TheVariants as ops
 use Rattle.java_ast.specs.Tree.{Spelled, Expression, Expressions, NoMore, And, Statement, Statements, Nothing, Then}
 use Rattle.java_ast.specs.Tree as plain
-use Rattle.java_mean.specs.Expression.{table_number, column_number, columns_at}
 use Rattle.tor_terms.specs.declared.term.Atom.{Atom}
 use Rattle.tor_terms.specs.declared.term.Atom.TheVariants as atoms
 use Rattle.tor_terms.specs.declared.term.Operand.{Operand}

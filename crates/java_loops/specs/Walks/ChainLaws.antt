@@ -8,8 +8,9 @@ use Rattle.qbs_base.specs.declared.scalar.Row.{Row}
 use Rattle.qbs_base.specs.declared.scalar.Scalar.{Scalar}
 use Rattle.qbs_base.specs.declared.scalar.Value.{Value}
 use Rattle.qbs_base.specs.Values.{IsRowOf}
+use Rattle.qbs_base.specs.Columns.{columns_at}
 use Rattle.java_ast.specs.Tree.{Expression, Statement, Statements}
-use Rattle.java_mean.specs.Expression.{columns_at, element}
+use Rattle.java_mean.specs.Expression.{element}
 use Rattle.java_mean.specs.Numbers.{literal_fits}
 use Rattle.java_mean.specs.Statement.{test_of}
 use Rattle.java_mean.specs.Store.{Store, Variable, put, plainly}

@@ -5,8 +5,8 @@ use Rattle.qbs_base.specs.declared.columns.Column.{Column}
 use Rattle.qbs_base.specs.declared.scalar.Ty.{Ty}
 use Rattle.qbs_base.specs.Named.{at_name}
 use Rattle.qbs_base.specs.Values.{IsDatabaseOf, AreOf}
+use Rattle.qbs_base.specs.Columns.{table_number, columns_at}
 use Rattle.java_ast.specs.Tree.{Expression, Statement}
-use Rattle.java_mean.specs.Expression.{table_number, columns_at}
 use Rattle.java_mean.specs.Store.{Store}
 use Rattle.java_mean.specs.World as java
 use Rattle.tor_terms.specs.declared.term.Atom.{Atom}

@@ -9,9 +9,10 @@ use Rattle.qbs_base.specs.declared.scalar.Value.{Value}
 use Rattle.qbs_base.specs.declared.scalar.Value.TheVariants.{One, Many}
 use Rattle.qbs_base.specs.Named.{at_name}
 use Rattle.qbs_base.specs.Values.{HasTy, IsRowOf}
+use Rattle.qbs_base.specs.Columns.{columns_at}
 use Rattle.java_mean.specs.declared.ending.Ending.{Ending}
 use Rattle.java_mean.specs.Endings.{◌>>=◌, found}
-use Rattle.java_mean.specs.Expression.{as_row, cell, columns_at, alone, element}
+use Rattle.java_mean.specs.Expression.{as_row, cell, alone, element}
 use Rattle.java_mean.specs.Store.{Store, Variable, plainly}
 use Rattle.java_mean.specs.World as java
 use Rattle.tor_terms.specs.Truth.{World}

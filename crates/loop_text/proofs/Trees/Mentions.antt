@@ -10,7 +10,7 @@ use Rattle.java_ast.specs.declared.tree.StmtNode.{If}
 use Rattle.java_ast.specs.Reading.{expression, statement, statements}
 use Rattle.java_ast.specs.Tree.{Statement}
 use Rattle.loop_text.specs.Statements.Names.{Names, is_among, names_in, mentioned_in, mentioned_among, updated_in, updated_among}
-use Rattle.loop_text.proofs.Trees.Nodes.{if_else_is}
+use Rattle.java_ast.proofs.Nodes.{if_else_is}
 
 pub among_both : (xs ys : Names) (x : List ℕ) → is_among (xs ++ ys) x ≡ (is_among xs x || is_among ys x)
 among_both xs ys x = list_any-append (bytes_eq x) xs ys

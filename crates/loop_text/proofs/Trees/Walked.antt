@@ -9,7 +9,7 @@ use Rattle.java_ast.specs.declared.tree.StmtNode.{If, ForEach, While}
 use Rattle.java_ast.specs.declared.tree.Method.{Method}
 use Rattle.java_ast.specs.Reading.{statement, statements, method}
 use Rattle.java_ast.specs.Tree.{Statement}
-use Rattle.loop_text.proofs.Trees.Nodes.{if_is, if_else_is, for_each_is, while_is}
+use Rattle.java_ast.proofs.Nodes.{if_is, if_else_is, for_each_is, while_is}
 use Rattle.loop_text.specs.Statements.Loops.{loops_in, loops_among, loops_of_methods}
 
 -- the item of a loop, and what is left after it

@@ -17,7 +17,7 @@ use java_ast::{Expr, ExprNode, Op};
 use qbs_base::{Items, Name, NoMemory};
 
 /// Appends the parts of a condition that aren't built by `&&`, `||` and `!`, in text order.
-#[tactic(auto, using(crate::proofs::Trees::Claimed::lent, crate::proofs::Trees::Nodes::nodes))]
+#[tactic(auto, using(crate::proofs::Trees::Claimed::lent, java_ast::proofs::Nodes::nodes))]
 pub fn push_leaves<'a>(e: &'a Expr, found: &mut Items<&'a Expr>) -> Result<(), NoMemory>
     ensures { OnOk result (exprs_lent found.new ≡ exprs_lent found.old ++ specs.leaves (expression e.now)) }
 {
@@ -87,7 +87,7 @@ fn is_best(all: &Sites, number: usize, m: &Name) -> bool
 
 // An expression mentions such a variable.
 #[cycle(best)]
-#[tactic(auto, using(crate::proofs::Indexed::IndexedBest::best, crate::proofs::Trees::Nodes::nodes))]
+#[tactic(auto, using(crate::proofs::Indexed::IndexedBest::best, java_ast::proofs::Nodes::nodes))]
 fn mentions_best(all: &Sites, number: usize, e: &Expr) -> bool
     ensures { result ≡ list_any (is_among (specs.all_best_under (map site_of all.now) number 0 (map site_of all.now))) (names_in (expression e.now)) }
 {

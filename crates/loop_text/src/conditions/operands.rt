@@ -13,7 +13,7 @@ use qbs_base::Name;
 
 /// Whether a statement assigns or adds to a variable.
 #[cycle(updates)]
-#[tactic(auto, using(crate::proofs::Trees::Mentions::both, crate::proofs::Trees::Nodes::nodes))]
+#[tactic(auto, using(crate::proofs::Trees::Mentions::both, java_ast::proofs::Nodes::nodes))]
 pub fn updates(s: &Stmt, x: &Name) -> bool
     ensures { result ≡ is_among (updated_in (statement s.now)) x.now }
 {

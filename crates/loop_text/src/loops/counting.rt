@@ -327,7 +327,7 @@ fn without_last(body: &[Stmt]) -> &[Stmt]
 }
 
 /// The body of a loop, of one that counts without the statements that take the row and go on.
-#[tactic(auto, using(crate::proofs::Trees::Nodes::nodes))]
+#[tactic(auto, using(java_ast::proofs::Nodes::nodes))]
 pub fn kernel_body(s: &Stmt) -> &[Stmt]
     ensures { statements result.now ≡ sites.kernel_body (statement s.now) }
 {
@@ -377,7 +377,7 @@ pub fn starts_at_zero(i: &Name, run: &[Stmt]) -> bool
 }
 
 /// Whether a statement is a `while`.
-#[tactic(auto, using(crate::proofs::Trees::Nodes::nodes))]
+#[tactic(auto, using(java_ast::proofs::Nodes::nodes))]
 pub fn is_while(s: &Stmt) -> bool
     ensures { result ≡ specs.is_while (statement s.now) }
 {
@@ -411,7 +411,7 @@ fn has_while(all: &[Site]) -> bool
 }
 
 /// What a loop counts, if it counts.
-#[tactic(auto, using(crate::proofs::Trees::Nodes::nodes))]
+#[tactic(auto, using(java_ast::proofs::Nodes::nodes))]
 pub fn counting_in(s: &Stmt) -> Option<Counting<'_>>
     ensures { option_map counting_in_code result ≡ specs.counting_in (statement s.now) }
 {

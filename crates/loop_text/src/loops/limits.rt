@@ -14,7 +14,7 @@ use java_ast::{JTy, Stmt, StmtNode};
 use qbs_base::Span;
 
 /// Whether a statement is a loop.
-#[tactic(auto, using(crate::proofs::Trees::Nodes::nodes))]
+#[tactic(auto, using(java_ast::proofs::Nodes::nodes))]
 pub fn is_loop(s: &Stmt) -> bool
     ensures { result ≡ loops.is_loop (statement s.now) }
 {

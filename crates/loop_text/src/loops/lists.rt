@@ -119,7 +119,7 @@ fn source_counted<'a>(run: &'a [Stmt], k: Option<Counting<'a>>) -> Option<Source
 }
 
 /// Where the list of a loop comes from.
-#[tactic(auto, using(crate::proofs::Trees::Nodes::nodes))]
+#[tactic(auto, using(java_ast::proofs::Nodes::nodes))]
 pub fn source_in<'a>(run: &'a [Stmt], s: &'a Stmt) -> Option<Source<'a>>
     ensures { option_map source_in_code result ≡ specs.source_in (statements run.now) (statement s.now) }
 {

@@ -20,7 +20,7 @@ fn counted_row(body: &[Stmt]) -> Option<&Name>
 }
 
 // The variable that a statement binds in what stands behind it or in it.
-#[tactic(auto, using(crate::proofs::Trees::Nodes::nodes))]
+#[tactic(auto, using(java_ast::proofs::Nodes::nodes))]
 fn bound_name(s: &Stmt) -> Option<&Name>
     ensures { option_copied result ≡ specs.bound_name (statement s.now) }
 {
@@ -42,7 +42,7 @@ fn bound_name(s: &Stmt) -> Option<&Name>
 }
 
 // What it binds that variable to, where it has this number.
-#[tactic(auto, using(crate::proofs::Trees::Nodes::nodes))]
+#[tactic(auto, using(java_ast::proofs::Nodes::nodes))]
 fn bound_as(n: usize, s: &Stmt) -> Binding
     ensures { result ≡ specs.bound_as n (statement s.now) }
 {

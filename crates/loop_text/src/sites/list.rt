@@ -205,7 +205,7 @@ fn push_site<'a>(
 }
 
 #[cycle(walk)]
-#[tactic(auto, using(crate::proofs::Trees::Nodes::nodes))]
+#[tactic(auto, using(java_ast::proofs::Nodes::nodes))]
 fn walk<'a>(
     alloc: Global,
     r: &Round<'a>,

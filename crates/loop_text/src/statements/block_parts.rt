@@ -28,46 +28,7 @@ pub fn before_number(block: &[Stmt], number: usize) -> &[Stmt]
     }
 }
 
-fn only_branch(number: u64, block: &[Stmt]) -> Option<&[Stmt]>
-    ensures { option_map statements (option_copied result) ≡ paths.first_branch number (statements block.now) }
-{
-    if number == 0 { Some(block) } else { None }
-}
-
-fn one_branch<'a>(number: u64, first: &'a [Stmt], other: &'a [Stmt]) -> Option<&'a [Stmt]>
-    ensures { option_map statements (option_copied result) ≡ paths.either_branch number (statements first.now) (statements other.now) }
-{
-    if number == 0 {
-        Some(first)
-    } else if number == 1 {
-        Some(other)
-    } else {
-        None
-    }
-}
-
-/// The branch of a statement with this number.
-pub fn branch(s: &Stmt, number: u64) -> Option<&[Stmt]>
-    ensures { option_map statements (option_copied result) ≡ paths.branch_of number (statement s.now) }
-{
-    match &s.node {
-        StmtNode::If { yes, other, .. } => match other {
-            None => only_branch(number, yes),
-            Some(other) => one_branch(number, yes, other),
-        },
-        StmtNode::ForEach { body, .. } => only_branch(number, body),
-        StmtNode::While { body, .. } => only_branch(number, body),
-        StmtNode::Declare { .. }
-        | StmtNode::Assign { .. }
-        | StmtNode::Add { .. }
-        | StmtNode::Sort { .. }
-        | StmtNode::Print { .. }
-        | StmtNode::Return { .. }
-        | StmtNode::Break => None,
-    }
-}
-
-#[tactic(auto, using(crate::proofs::Trees::Nodes::nodes))]
+#[tactic(auto, using(java_ast::proofs::Nodes::nodes))]
 fn is_simple(s: &Stmt) -> bool
     ensures { result ≡ fragment.is_simple (statement s.now) }
 {

@@ -18,7 +18,7 @@ pub fn same_name(a: &Name, b: &Name) -> bool
 
 /// Whether an expression mentions a variable.
 #[cycle(mentions)]
-#[tactic(auto, using(crate::proofs::Trees::Mentions::mentions, crate::proofs::Trees::Nodes::nodes))]
+#[tactic(auto, using(crate::proofs::Trees::Mentions::mentions, java_ast::proofs::Nodes::nodes))]
 pub fn mentions(e: &Expr, x: &Name) -> bool
     ensures { result ≡ specs.is_among (specs.names_in (expression e.now)) x.now }
 {
@@ -58,7 +58,7 @@ pub fn some_mentions(es: &[Expr], x: &Name) -> bool
 
 /// Whether a statement mentions a variable, other than to declare it.
 #[cycle(statements)]
-#[tactic(auto, using(crate::proofs::Trees::Mentions::mentions, crate::proofs::Trees::Nodes::nodes))]
+#[tactic(auto, using(crate::proofs::Trees::Mentions::mentions, java_ast::proofs::Nodes::nodes))]
 pub fn statement_mentions(s: &Stmt, x: &Name) -> bool
     ensures { result ≡ specs.is_among (specs.mentioned_in (statement s.now)) x.now }
 {

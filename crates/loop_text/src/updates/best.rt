@@ -66,7 +66,7 @@ fn push_claim<'a>(
 }
 
 // Appends the conjuncts that mention a variable.
-#[tactic(auto, using(crate::proofs::Trees::Claimed::claimed, crate::proofs::Trees::Nodes::nodes))]
+#[tactic(auto, using(crate::proofs::Trees::Claimed::claimed, java_ast::proofs::Nodes::nodes))]
 fn push_claims<'a>(
     m: &Name,
     number: usize,

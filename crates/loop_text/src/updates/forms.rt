@@ -120,7 +120,7 @@ fn assigned_form<'a>(all: &Sites, n: usize, x: &Name, e: &'a Expr) -> Form<'a>
 }
 
 /// The form of a statement that stands at this number.
-#[tactic(auto, using(crate::proofs::Trees::Nodes::nodes))]
+#[tactic(auto, using(java_ast::proofs::Nodes::nodes))]
 pub fn form_of<'a>(all: &Sites, n: usize, s: &'a Stmt) -> Form<'a>
     ensures { form_in_code result ≡ specs.form_of (map site_of all.now) n (statement s.now) }
 {

@@ -12,7 +12,7 @@ use java_ast::{Expr, ExprNode, JTy, Stmt, StmtNode};
 use qbs_base::{Scalar, Span};
 
 /// Whether an expression has a query or a fetch in it.
-#[tactic(auto, using(crate::proofs::Trees::Nodes::nodes))]
+#[tactic(auto, using(java_ast::proofs::Nodes::nodes))]
 pub fn asks(e: &Expr) -> bool
     ensures { result ≡ specs.asks (expression e.now) }
 {
@@ -113,7 +113,7 @@ fn is_counted(all: &Sites, n: Option<usize>) -> bool
     }
 }
 
-#[tactic(auto, using(crate::proofs::Trees::Nodes::nodes))]
+#[tactic(auto, using(java_ast::proofs::Nodes::nodes))]
 fn is_allowed(all: &Sites, s: &Site, t: &Stmt) -> bool
     ensures { result ≡ specs.is_allowed (map site_of all.now) (site_of s.now) (statement t.now) }
 {

@@ -189,7 +189,7 @@ pub fn broken_starts_of(
     Ok(place_where(!is_none(left.as_slice()), at))
 }
 
-#[tactic(auto, using(crate::proofs::Trees::Nodes::nodes))]
+#[tactic(auto, using(java_ast::proofs::Nodes::nodes))]
 fn starts_flag(all: &Sites, d: usize, s: &Stmt) -> bool
     ensures { result ≡ specs.starts_flag (map site_of all.now) d (statement s.now) }
 {

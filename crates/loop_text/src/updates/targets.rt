@@ -56,7 +56,7 @@ pub fn updates_local(all: &Sites, d: usize, n: usize, s: &Site) -> bool
 }
 
 /// Whether a statement is a `break`.
-#[tactic(auto, using(crate::proofs::Trees::Nodes::nodes))]
+#[tactic(auto, using(java_ast::proofs::Nodes::nodes))]
 pub fn is_break(s: &Stmt) -> bool
     ensures { result ≡ specs.is_break (statement s.now) }
 {
@@ -170,7 +170,7 @@ fn is_updated(all: &Sites, d: usize) -> bool
 }
 
 /// Whether a statement is a declaration.
-#[tactic(auto, using(crate::proofs::Trees::Nodes::nodes))]
+#[tactic(auto, using(java_ast::proofs::Nodes::nodes))]
 pub fn is_declaration(s: &Stmt) -> bool
     ensures { result ≡ specs.is_declaration (statement s.now) }
 {

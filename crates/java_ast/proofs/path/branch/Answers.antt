@@ -2,7 +2,7 @@ use Rattle.std.proofs.Common.{List, ◌∙◌, ap, sym}
 use Rattle.java_ast.specs.declared.tree.Stmt.{Stmt}
 use Rattle.java_ast.specs.Reading.{statements}
 use Rattle.java_ast.specs.Path.{first_branch, either_branch, branch_of}
-use Rattle.java_ast.proofs.Bodies.{if_is, if_else_is, for_each_is, while_is}
+use Rattle.java_ast.proofs.Nodes.{if_is, if_else_is, for_each_is, while_is}
 use Rattle.java_ast.proofs.path.branch.Goals as goal
 
 pub returns-in-None : goal.returns-in-None

@@ -1,6 +1,6 @@
 use Rattle.std.specs.String.{string_bytes}
 use Rattle.std.proofs.lemmas.Result.{IfOk-weaker}
-use Rattle.java_ast.proofs.Bodies.{if_is, if_else_is, for_each_is, while_is}
+use Rattle.java_ast.proofs.Nodes.{if_is, if_else_is, for_each_is, while_is}
 use Rattle.java_text.proofs.Parts.{with_body, with_bodies}
 use Rattle.java_text.proofs.printing.+statement_text.Goals as goal
 

@@ -11,7 +11,7 @@ use Rattle.java_mean.specs.Rules.{only_if, unless_passes, unless_element, is_man
 use Rattle.java_mean.specs.WellTyped.{marked, faults_at}
 use Rattle.java_types.specs.Least.{least}
 use Rattle.java_types.specs.Texts.{read_by}
-use Rattle.java_types.proofs.Nodes.{for_each_is}
+use Rattle.java_ast.proofs.Nodes.{for_each_is}
 use Rattle.java_types.proofs.Passed.{for_each_noted, none_said}
 use Rattle.java_types.proofs.steps.at_step.Goals as goal
 

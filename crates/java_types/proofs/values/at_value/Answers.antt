@@ -15,7 +15,7 @@ use Rattle.java_mean.specs.Rules.{type_of, at_of, only_if, unless_single, scalar
 use Rattle.java_mean.specs.WellTyped.{marked, faults_at}
 use Rattle.java_types.specs.Least.{least}
 use Rattle.java_types.specs.Texts.{read_by}
-use Rattle.java_types.proofs.Nodes.{query_is, query_long_is, query_boolean_is}
+use Rattle.java_ast.proofs.Nodes.{query_is, query_long_is, query_boolean_is}
 use Rattle.java_types.proofs.Passed.{contains_noted}
 use Rattle.java_types.proofs.values.at_value.Goals as goal
 

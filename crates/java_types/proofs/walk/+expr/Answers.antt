@@ -4,7 +4,7 @@ use Rattle.java_ast.specs.declared.tree.Expr.{Expr}
 use Rattle.java_ast.specs.Reading.{spelled, expression, expressions}
 use Rattle.java_mean.specs.Places.{in_operands, in_expressions}
 use Rattle.java_types.specs.Texts.{read_by}
-use Rattle.java_types.proofs.Nodes.{query_is, query_long_is, query_boolean_is}
+use Rattle.java_ast.proofs.Nodes.{query_is, query_long_is, query_boolean_is}
 use Rattle.java_types.proofs.Passed.{next_item, expression_walked, operands_walked}
 use Rattle.std.proofs.Common.{drop}
 use Rattle.java_types.proofs.walk.+expr.Goals as goal

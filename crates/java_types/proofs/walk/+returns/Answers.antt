@@ -2,7 +2,7 @@ use Rattle.std.proofs.Common.{◌≡◌, ◌∙◌, sym, ap, Bool, true, false, 
 use Rattle.java_ast.specs.declared.tree.Stmt.{Stmt}
 use Rattle.java_ast.specs.Reading.{statements}
 use Rattle.java_mean.specs.Rules.{returns, returns_in}
-use Rattle.java_types.proofs.Nodes.{if_is, if_else_is, for_each_is}
+use Rattle.java_ast.proofs.Nodes.{if_is, if_else_is, for_each_is}
 use Rattle.java_types.proofs.walk.+returns.Goals as goal
 
 pub returns_in-returns-in-None : goal.returns_in-returns-in-None

@@ -9,7 +9,7 @@ use Rattle.java_mean.specs.WellTyped.{faults_in}
 use Rattle.java_types.specs.Least.{least}
 use Rattle.java_types.specs.Texts.{read_by}
 use Rattle.java_types.proofs.Cut.{take-after}
-use Rattle.java_types.proofs.Nodes.{if_is, if_else_is, for_each_is, while_is}
+use Rattle.java_ast.proofs.Nodes.{if_is, if_else_is, for_each_is, while_is}
 use Rattle.java_types.proofs.Passed.{next_item, nothing_left, if_walked, if_else_walked, each_walked, while_walked, statement_walked}
 use Rattle.java_types.proofs.walk.+walk.Goals as goal
 

@@ -1,6 +1,6 @@
 use Rattle.std.proofs.Common.{List, ◌∙◌, ap}
 use Rattle.qbs_base.specs.declared.columns.Table.{Table}
-use Rattle.java_mean.specs.Expression.{columns_at}
+use Rattle.qbs_base.specs.Columns.{columns_at}
 use Rattle.qbs.proofs.Columns.{columns_some, columns_none}
 use Rattle.qbs.proofs.rewrite.columns_of.Goals as goal
 

@@ -1,6 +1,6 @@
 use Rattle.std.proofs.Common.{◌∙◌, ap}
 use Rattle.qbs_base.specs.Values.{Schema}
-use Rattle.java_mean.specs.Expression.{columns_at}
+use Rattle.qbs_base.specs.Columns.{columns_at}
 use Rattle.java_types.proofs.Columns.{columns_some, columns_none}
 use Rattle.fragments.proofs.lowering.parts.columns_at.Goals as goal
 

@@ -1,7 +1,7 @@
 use Rattle.std.proofs.Common.{◌≡◌, ◌++◌}
 use Rattle.std.specs.Iterator.Adapters.{zip_first, zip_second}
 use Rattle.std.specs.Slice.Iter.{iter_rest}
-use Rattle.java_mean.specs.Expression.{columns_at}
+use Rattle.qbs_base.specs.Columns.{columns_at}
 use Rattle.java_loops.specs.Lowering.Lowered.{keys_of}
 use Rattle.fragments.proofs.lowering.source_lists.keys_of.Given as goal
 

@@ -1,5 +1,5 @@
 use Rattle.std.proofs.Common.{ℕ, ◌∙◌, ap}
-use Rattle.java_mean.specs.Expression.{column_number, columns_at}
+use Rattle.qbs_base.specs.Columns.{column_number, columns_at}
 use Rattle.java_types.proofs.Columns.{number_in_table}
 use Rattle.java_loops.specs.Lowering.Numbering.{found_number}
 use Rattle.fragments.proofs.numbering.numbers.column_of.Goals as goal

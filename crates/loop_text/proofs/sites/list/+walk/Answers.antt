@@ -7,7 +7,7 @@ use Rattle.java_ast.specs.declared.tree.Stmt.{Stmt}
 use Rattle.java_ast.specs.Reading.{spelled, expression, statement, statements}
 use Rattle.loop_text.specs.Sites.Reading.{round_of, site_of}
 use Rattle.loop_text.specs.Sites.Sites.{walk_all}
-use Rattle.loop_text.proofs.Trees.Nodes.{if_is, if_else_is, for_each_is, while_is}
+use Rattle.java_ast.proofs.Nodes.{if_is, if_else_is, for_each_is, while_is}
 use Rattle.loop_text.proofs.Indexed.Sited.{if_met, if_else_met, for_each_met, while_met}
 use Rattle.loop_text.proofs.sites.list.+walk.Goals as goal
 
