@@ -84,7 +84,7 @@ mutual
   all_placed_read at f (And e es) h = (placed_reads at f e h.0, all_placed_read at f es h.1)
 
 -- an entry reads what all entries read
-entry_reads : (es : List Expression) (k : ℕ) (e : Expression) → slice_get es k ≡ Some e → (x : List ℕ) → is_among (names_in e) x ≡ true → is_among (names_read es) x ≡ true
+pub entry_reads : (es : List Expression) (k : ℕ) (e : Expression) → slice_get es k ≡ Some e → (x : List ℕ) → is_among (names_in e) x ≡ true → is_among (names_read es) x ≡ true
 entry_reads [] k e h x i = absurd cc
 entry_reads (d ∷ ds) zero e h x i = let same : d ≡ e = cc in among_left (names_in d) (names_read ds) x (ap (λ z. is_among (names_in z) x) same ∙ i)
 entry_reads (d ∷ ds) (suc k) e h x i = among_right (names_in d) (names_read ds) x (entry_reads ds k e h x i)

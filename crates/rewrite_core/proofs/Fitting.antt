@@ -37,7 +37,7 @@ abbrev pub IsOnce : Update → Value → Type 0
 IsOnce (updates.PushNew e) v = (rows : List Row) → v ≡ values.Many rows → firsts same_member rows ≡ rows
 IsOnce _ v = Unit {0}
 
-column_taken : (a : Accumulator) → starts_rightly a ≡ true → takes_a_column a.update ≡ true
+pub column_taken : (a : Accumulator) → starts_rightly a ≡ true → takes_a_column a.update ≡ true
 unfolding starts_rightly
 column_taken a h = (and_parts (start_is_valid a.update a.start) (takes_a_column a.update) h).1
 

@@ -10,3 +10,6 @@ pub mod Keeping
 pub mod Known
 pub mod May
 pub mod Outer
+pub mod TypedAnswers
+pub mod TypedArguments
+pub mod TypedAsks

@@ -1,5 +1,5 @@
 -- What is asked of a loop whose asks have what its fragment ends with.
-use Rattle.std.specs.Prelude.{◌≡◌, ℕ, ◌<◌, List, length}
+use Rattle.std.specs.Prelude.{◌≡◌, ℕ, ◌<◌, true, List, length}
 use Rattle.std.specs.declared.option.Option.{Option}
 use Rattle.std.specs.declared.option.Option.TheVariants.{Some}
 use Rattle.qbs_base.specs.Values.{Schema}
@@ -8,9 +8,14 @@ use Rattle.sql_ast.specs.Valid.{IsQueryOf}
 use Rattle.sql_emit.specs.Numbered.{Emission}
 use Rattle.vc_gen.specs.Soundness.{EndsAnywhere}
 use Rattle.java_ast.specs.Tree.{PlainProgram}
+use Rattle.java_mean.specs.declared.types.JavaType.{JavaType}
+use Rattle.java_mean.specs.Types.{Types}
+use Rattle.java_mean.specs.Typing.{Frame, HasType}
+use Rattle.loop_text.specs.Statements.Names.{is_among}
 use Rattle.java_loops.specs.Kernel.Kernel.{lowering}
 use Rattle.java_loops.specs.Kernel.Setting.{Setting}
-use Rattle.java_loops.specs.Lowering.Lowered.{needed_in_order}
+use Rattle.java_loops.specs.Lowering.Lowered.{needed_in_order, names_read}
+use Rattle.java_loops.specs.Walks.Replacing.{Ask}
 use Rattle.fragments.specs.Asked.{IsKernelLoop, HasQueriesOf}
 use Rattle.rewrite_core.specs.Asked.{emitted_for}
 
@@ -25,3 +30,15 @@ pub record MayBeAsked (schema : Schema) (read : List ℕ → Option PlainQuery) 
   pub known : HasQueriesOf schema (lowering w)
   pub emitted : QueriesAreValid w candidate
   pub ends : EndsAnywhere (lowering w).fragment candidate
+
+-- ---- Types
+
+-- the types agree on what the fragment's entry values read
+abbrev pub AgreeOnEntries : Setting → Types → Type 0
+AgreeOnEntries w g = (x : List ℕ) (k : JavaType) → is_among (names_read (lowering w).entries) x ≡ true → w.types x ≡ Some k → g x ≡ Some k
+
+-- where these types are visible, an ask's expression has the type that its variable has at the loop
+pub record IsTypedAsk (c : Frame) (w : Setting) (g : Types) (k : Ask) : Type 0 where
+  pub type : JavaType
+  pub visible : w.types k.name ≡ Some type
+  pub value : HasType c g k.value type

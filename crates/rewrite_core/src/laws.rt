@@ -12,10 +12,12 @@ ghost use Rattle.vc_gen.specs.Conditions.{conditions};
 ghost use Rattle.vc_gen.specs.Soundness.{AllAccepted, EndsAnywhere};
 ghost use Rattle.sql_ast.specs.Tree.{PlainQuery};
 ghost use Rattle.sql_emit.specs.Given.{IsHeld, QueryIsCounted};
-ghost use Rattle.java_ast.specs.Tree.{PlainProgram};
+ghost use Rattle.java_ast.specs.Tree.{PlainMethod, PlainProgram};
+ghost use Rattle.java_mean.specs.Asks.{frame_of};
 ghost use Rattle.java_mean.specs.Keeps.{Keeps};
 ghost use Rattle.java_mean.specs.Numbers.{NumbersFit};
 ghost use Rattle.java_mean.specs.Queries.{Reader};
+ghost use Rattle.java_mean.specs.Types.{Types};
 ghost use Rattle.java_mean.specs.WellTyped.{IsWellTyped};
 ghost use Rattle.loop_text.specs.Statements.KeptStatements.{first_at};
 ghost use Rattle.java_loops.specs.Kernel.Kernel.{lowering};
@@ -23,7 +25,7 @@ ghost use Rattle.java_loops.specs.Kernel.Setting.{Setting};
 ghost use Rattle.java_loops.specs.Meant.Asking.{AskForLoop};
 ghost use Rattle.fragments.specs.Asked.{queries_in, IsKernelLoop, HasQueriesOf};
 ghost use Rattle.rewrite_core.specs.Asked.{Place, asks_of, replaced};
-ghost use Rattle.rewrite_core.specs.Asking.{QueriesAreValid, MayBeAsked};
+ghost use Rattle.rewrite_core.specs.Asking.{QueriesAreValid, MayBeAsked, AgreeOnEntries, IsTypedAsk};
 
 /// The asks that stand for a loop of the kernel form ask for what the loop makes: each is for the variable of a needed
 /// accumulator, reads what the fragment's entry values read, and has what the fragment ends with, wherever the loop stands in a
@@ -62,6 +64,16 @@ pub fn emitted_queries_of_loops_are_valid()
         → AllByRecursion QueryIsCounted (queries_in (lowering w).known)
         → IsHeld (lowering w).fragment
         → QueriesAreValid w candidate }
+{}
+
+/// The asks that stand for a loop are typed, in any method, where the types agree with those at the loop on what the fragment's
+/// entry values read: the emitted query has the type of what its accumulator collects, which is the type of the ask's variable,
+/// and its arguments have the types of its parameters.
+pub fn asks_have_the_types_of_their_variables()
+    ensures { (schema : Schema) (reader : Reader schema) (l : Place) (method : PlainMethod) (g : Types)
+        → MayBeAsked schema reader.read l.program l.path l.setting l.candidate
+        → AgreeOnEntries l.setting g
+        → AllByRecursion (IsTypedAsk (frame_of schema reader.read method) l.setting g) (asks_of l) }
 {}
 
 /// A program keeps what it does where a loop gives way to the asks that stand for it, if it stays well typed and its literals
