@@ -15,13 +15,14 @@ use Rattle.sql_ast.specs.Reader.{listed_at, atom_at, negation_in, joined_from, c
 use Rattle.vc_gen.specs.Conditions.{conditions}
 use Rattle.vc_gen.specs.Soundness.{AllAccepted}
 use Rattle.sql_emit.specs.Given.{IsHeld, QueryIsCounted}
+use Rattle.sql_ast.specs.Worked.{staff_schema}
 use Rattle.java_ast.specs.Tree.{SetOf, String, Long, PlainProgram}
 use Rattle.java_mean.specs.Asked.{class_A_asking, class_J_asking, name_set_asking}
 use Rattle.java_mean.specs.Keeps.{Keeps}
 use Rattle.java_mean.specs.Numbers.{NumbersFit}
 use Rattle.java_mean.specs.Queries.{Reader}
 use Rattle.java_mean.specs.WellTyped.{IsWellTyped}
-use Rattle.java_mean.specs.Worked.{User, Role, staff_schema, users, class_A, class_C, class_J, name_set}
+use Rattle.java_mean.specs.Worked.{User, Role, users, class_A, class_C, class_J, name_set}
 use Rattle.java_types.specs.Texts.{read_by}
 use Rattle.java_types.proofs.Found.{found_exactly}
 use Rattle.loop_text.specs.Statements.KeptStatements.{first_at}

@@ -9,7 +9,7 @@ use Rattle.java_ast.specs.Tree.{Expression}
 use Rattle.java_mean.specs.declared.types.JavaType.{JavaType}
 use Rattle.java_mean.specs.declared.types.JavaType.TheVariants.{Of}
 use Rattle.java_mean.specs.declared.types.Single.TheVariants.{ScalarOf, RowOf}
-use Rattle.java_mean.specs.Expression.{column_number, columns_at}
+use Rattle.qbs_base.specs.Columns.{column_number, columns_at}
 use Rattle.java_mean.specs.Types.{Types}
 use Rattle.java_mean.specs.Typing as typing
 use Rattle.java_mean.specs.Typing.{Frame, HasType, HaveTypes}

@@ -1,5 +1,5 @@
 -- The asks that stand for a loop are typed: each has the type that its variable has at the loop.
-use Rattle.std.proofs.Common.{◌≡◌, ℕ, suc, ◌+◌, true, false, List, [], ◌∷◌, map, length, slice_get, Some, refl, sym, ap, ◌∙◌, subst, arith}
+use Rattle.std.proofs.Common.{◌≡◌, ℕ, suc, ◌+◌, true, false, List, [], ◌∷◌, length, slice_get, Some, refl, sym, ap, ◌∙◌, subst, arith}
 use Rattle.std.specs.List.{AllByRecursion}
 use Rattle.std.specs.Option.{option_map}
 use Rattle.qbs_base.specs.declared.scalar.Ty.TheVariants as tys
@@ -15,16 +15,15 @@ use Rattle.kernel_lang.specs.Sentences.{AccumulatorIsValid}
 use Rattle.kernel_lang.specs.Validity.{takes_a_column}
 use Rattle.kernel_lang.proofs.Sentences.{valid}
 use Rattle.sql_ast.specs.Canonical.{canonical}
-use Rattle.sql_ast.specs.Tree.{PlainQuery, Listing, Number, Truth}
-use Rattle.sql_ast.specs.Valid as queries
-use Rattle.sql_ast.specs.Valid.{IsQueryOf}
+use Rattle.sql_ast.specs.Tree.{PlainQuery}
+use Rattle.sql_ast.specs.Valid.{IsQueryOf, params_in}
 use Rattle.sql_emit.specs.Given.{EntriesAreThere}
 use Rattle.sql_emit.specs.Numbered.{Emission, emission}
 use Rattle.sql_emit.specs.Scopes.{ground}
 use Rattle.sql_emit.proofs.Entries.{entries_are}
 use Rattle.sql_emit.proofs.Valid.{element_in}
 use Rattle.java_ast.specs.Tree.{Spelled, Expressions, PlainMethod}
-use Rattle.java_mean.specs.Asks.{params_in, answer_type, type_of_found, frame_of}
+use Rattle.java_mean.specs.Asks.{answer_type, type_of_found, frame_of}
 use Rattle.java_mean.specs.declared.types.JavaType.{JavaType}
 use Rattle.java_mean.specs.declared.types.JavaType.TheVariants.{Of, Listed, Distinct}
 use Rattle.java_mean.specs.declared.types.Single.TheVariants.{ScalarOf}
@@ -58,11 +57,6 @@ use Rattle.rewrite_core.proofs.TypedAnswers.{listed_of, made_found, some_same, a
 use Rattle.rewrite_core.proofs.TypedArguments.{arguments_typed}
 
 -- ---- One call
-
-same_params : (q : PlainQuery) → queries.params_in q ≡ params_in q
-same_params (Listing q) = refl
-same_params (Number q) = refl
-same_params (Truth q) = refl
 
 abbrev type_of_call : PlainQuery → JavaType → QueryType
 type_of_call q k = record { params = params_in q; answer = k }
@@ -144,7 +138,7 @@ module _ (l : Place) (schema : Schema) (reader : Reader schema) (same : l.settin
       let e : Emission = emission_of l m in
       let at : Span = place_of w.fragment.loop in
       let answer : answer_type w.schema e.query ≡ Some (listed_of k.type) = answer_typed w.schema lowered (ground w.schema lowered l.candidate (queries_in (lowering w).known) (lowering w).arguments) refl m lowered.entries k.type (element_in lowered m.0 v) (takes_column m.0.update (column_taken m.0 v.start)) k.collects in
-      let have : HaveTypes c g (arguments_of at (lowering w).entries e.entries) (params_in e.query) = arguments_typed w c (sym same) g at (lowering w).entries good agree e.entries (params_in e.query) ((entries l.candidate m).types ∙ ap (map Some) (same_params e.query)) in
+      let have : HaveTypes c g (arguments_of at (lowering w).entries e.entries) (params_in e.query) = arguments_typed w c (sym same) g at (lowering w).entries good agree e.entries (params_in e.query) (entries l.candidate m).types in
       record {
         type = k.type;
         visible = k.visible;

@@ -2,10 +2,11 @@
 use Rattle.std.specs.Prelude.{◌≡◌, ℕ, List, [], ◌∷◌, codes}
 use Rattle.std.specs.declared.option.Option.{Option}
 use Rattle.std.specs.declared.option.Option.TheVariants.{Some, None}
+use Rattle.sql_ast.specs.Worked.{staff_schema}
 use Rattle.java_ast.specs.Tree.{Spelled, Long, String, Table, SetOf, Expression, Var, Query, QueryLong, NewSetOf, NoMore, And, Break, Nothing, PlainMethod, PlainProgram}
 use Rattle.java_mean.specs.Asked.{staff_text, class_A_asking, count_text, class_J_asking, name_set_asking}
 use Rattle.java_mean.specs.Keeps.{Keeps}
-use Rattle.java_mean.specs.Worked.{User, staff_schema, somewhere, field, declare, give, method, block, users, out, u, class_A, class_C, class_J, name_set}
+use Rattle.java_mean.specs.Worked.{User, somewhere, field, declare, give, method, block, users, out, u, class_A, class_C, class_J, name_set}
 use Rattle.java_types.specs.Texts.{read_by}
 use Rattle.java_loops.specs.Kernel.Kernel.{setting_at}
 use Rattle.java_loops.specs.Kernel.Setting.{Setting, setting_of}

@@ -77,7 +77,7 @@ first_list w [] s there loops h = absurd cc
 first_list w (t ∷ ss) s there loops h =
     let same : t ≡ s = cc in
     let loops' : is_loop t.statement ≡ true = ap (λ (z : Site). is_loop z.statement) same ∙ loops in
-    ap (λ b. is_unsorted (slice_get (cond b (list_of w t.statement ∷ lists_of w ss) (lists_of w ss)) 0)) loops' ∙ unsorted_source (Rattle.java_mean.specs.Expression.columns_at w.schema (Rattle.java_loops.specs.Lowering.Numbering.table_of_loop w.schema t.statement)) (source_in w.fragment.run t.statement) h
+    ap (λ b. is_unsorted (slice_get (cond b (list_of w t.statement ∷ lists_of w ss) (lists_of w ss)) 0)) loops' ∙ unsorted_source (Rattle.qbs_base.specs.Columns.columns_at w.schema (Rattle.java_loops.specs.Lowering.Numbering.table_of_loop w.schema t.statement)) (source_in w.fragment.run t.statement) h
 
 kernel_is_loop : (f : Rattle.loop_text.specs.Statements.Fragment.Fragment) (s : Statement) → Rattle.loop_text.specs.Kernel.KernelLoop.is_kernel_loop f s ≡ true → is_loop s ≡ true
 kernel_is_loop f (tree.ForEach at ty y e b) h = refl
@@ -150,7 +150,7 @@ not_so false h = refl
 barred_uncut : (w : Setting) (c : Frame) → Checked w c → any_site (is_barred_site w) 0 w.sites ≡ true → list_any is_sorted_and_cut (lists_of w w.sites) ≡ false
 barred_uncut w c is barred =
     none_cut is_sorted_and_cut (lists_of w w.sites) (lists_pass w (λ d. not (is_sorted_and_cut d)) 0 w.sites (λ i m s e there. same_place w i m s e there)
-    (λ m s there loops. not_so (is_sorted_and_cut (list_of w s.statement)) (cut_step w s.statement (limit_of (counting_in s.statement)) (is_empty (list_of w s.statement).keys) (λ e. sorted_source (Rattle.java_mean.specs.Expression.columns_at w.schema (Rattle.java_loops.specs.Lowering.Numbering.table_of_loop w.schema s.statement)) (source_in w.fragment.run s.statement) e) (limit_allowed w c is m s there loops) barred)))
+    (λ m s there loops. not_so (is_sorted_and_cut (list_of w s.statement)) (cut_step w s.statement (limit_of (counting_in s.statement)) (is_empty (list_of w s.statement).keys) (λ e. sorted_source (Rattle.qbs_base.specs.Columns.columns_at w.schema (Rattle.java_loops.specs.Lowering.Numbering.table_of_loop w.schema s.statement)) (source_in w.fragment.run s.statement) e) (limit_allowed w c is m s there loops) barred)))
 
 barred_if : (w : Setting) (n : ℕ) (s : Statement) (e : Expression) → condition_of s ≡ Some e → is_barred w n s ≡ true
 barred_if w n (tree.If at q p) e h = refl
