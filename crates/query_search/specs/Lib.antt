@@ -1,0 +1,5 @@
+pub mod Asking
+pub mod Counted
+pub mod Seen
+pub mod Verdicts
+pub mod Walks

@@ -1,0 +1,46 @@
+// A closure that is asked after all pruners.
+ghost use Rattle.std.specs.Prelude.{◌≡◌};
+ghost use Rattle.kernel_lang.specs.declared.prune.PruneAnswer.TheVariants as answers;
+ghost use Rattle.kernel_lang.specs.Pools.{IsCandidateOf};
+ghost use Rattle.kernel_lang.specs.Refuted.{IsRefuted};
+ghost use Rattle.kernel_lang.specs.Whole.{fragment_of};
+ghost use Rattle.query_search.specs.Asking.{MayAnswer};
+
+use crate::answer::answer_of;
+use kernel_lang::{Candidate, KFragment, PruneAnswer};
+
+/// A closure that is asked as one more pruner, after all others. Whoever is given one asks that its closure
+/// may be called and is justified, as `new` does.
+#[derive(Drop)]
+pub struct Extra<F: Fn(&KFragment, &Candidate) -> PruneAnswer> {
+    pub call: F,
+}
+
+impl<F: Fn(&KFragment, &Candidate) -> PruneAnswer> Extra<F> {
+    /// One more pruner. Its closure may be asked about every candidate of every fragment, and answers
+    /// `Drop` only where some database refutes the candidate. It takes no memory.
+    pub fn new(call: F) -> Extra<F>
+        requires callable { (f : _) (c : _) → IsCandidateOf (fragment_of f.now) c.now → F.pre call f c }
+        requires justified { (f : _) (c : _)
+            → IsCandidateOf (fragment_of f.now) c.now
+            → F.post call f c answers.Drop
+            → ∥ IsRefuted (fragment_of f.now) c.now ∥₁ }
+        ensures { result.call ≡ call }
+    {
+        Extra { call }
+    }
+
+    /// What the closure answers.
+    pub fn ask(&self, f: &KFragment, c: &Candidate) -> PruneAnswer
+        requires candidate { IsCandidateOf (fragment_of f.now) c.now }
+        requires callable { (f : _) (c : _) → IsCandidateOf (fragment_of f.now) c.now → F.pre self.now.call f c }
+        requires justified { (f : _) (c : _)
+            → IsCandidateOf (fragment_of f.now) c.now
+            → F.post self.now.call f c answers.Drop
+            → ∥ IsRefuted (fragment_of f.now) c.now ∥₁ }
+        ensures answer { MayAnswer (F.post self.now.call) f.now result c.now }
+        ensures justified { result ≡ answers.Drop → ∥ IsRefuted (fragment_of f.now) c.now ∥₁ }
+    {
+        answer_of(&self.call, f, c)
+    }
+}

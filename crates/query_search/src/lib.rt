@@ -1,0 +1,19 @@
+//! The search: of a fragment's candidates the first one whose conditions derive, whatever sound
+//! pruners are asked first.
+#![tactic(auto)]
+
+mod answer;
+mod asking;
+mod extra;
+mod found;
+mod judge;
+mod nth;
+mod pruner;
+mod searching;
+mod walk;
+
+pub use extra::Extra;
+pub use found::Found;
+pub use kernel_lang::PruneAnswer;
+pub use pruner::{Call, Pruner};
+pub use searching::{search, search_with};
