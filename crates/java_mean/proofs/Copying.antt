@@ -12,21 +12,23 @@ use Rattle.java_ast.specs.Tree.{ListOf, Table, Var, Fetch, NewList, Declare, Add
 use Rattle.java_mean.specs.declared.ending.Ending.{Ending}
 use Rattle.java_mean.specs.declared.ending.Ending.TheVariants as endings
 use Rattle.java_mean.specs.Asks.{frame_of}
-use Rattle.java_mean.specs.Copied.{copied, fetched, only_out, before_return, copying, staff_program}
+use Rattle.java_mean.specs.Copied.{copied, fetched, of_users, only_out, before_return, copying, staff_program, in_each_role, counting, counting_program}
 use Rattle.java_mean.specs.Endings.{◌>>=◌}
 use Rattle.java_mean.specs.Expression.{element, element_in}
+use Rattle.java_mean.specs.Fits.{FitsIn}
 use Rattle.java_mean.specs.Keeps.{Keeps}
 use Rattle.java_mean.specs.Mentions.{EachMentioned}
 use Rattle.java_mean.specs.Queries.{Reader}
 use Rattle.java_mean.specs.Refines.{Follows, Agree, same_exits, GivesWay}
 use Rattle.java_mean.specs.Statement.{State, Passed, GoesOn, Leaves, Returns, Does, done, then_do, then_turn, fewer, with_variable, with_value, each, meanings}
 use Rattle.java_mean.specs.Store.{Store, Variable, put, plainly}
-use Rattle.java_mean.specs.Types.{JavaType, Types, with_type, type_spelled, types_of_params}
+use Rattle.java_mean.specs.Types.{JavaType, Types, with_type, types_of_params}
 use Rattle.java_mean.specs.WellTyped.{IsWellTyped}
 use Rattle.sql_ast.specs.Worked.{staff_schema}
-use Rattle.java_mean.specs.Worked.{User, users, u, out, somewhere}
+use Rattle.java_mean.specs.Worked.{User, u, out, somewhere}
 use Rattle.java_mean.specs.World.{World}
 use Rattle.java_mean.proofs.Fewer.{fewer_with}
+use Rattle.java_mean.proofs.Fitting.{fits_in}
 use Rattle.java_mean.proofs.Numbered.{rows_of_table}
 use Rattle.java_mean.proofs.Puts.{names_equal, put_same, put_other}
 use Rattle.java_mean.proofs.Replacing.{both_left}
@@ -133,7 +135,6 @@ mentioned_in_copied = (tt, (tt, ((refl, ((refl, refl), tt)), tt)))
 
 pub copy_gives_way : (reader : Reader staff_schema) → GivesWay (frame_of staff_schema reader.read copying) None (types_of_params staff_schema copying.params) before_return copied fetched only_out
 copy_gives_way reader =
-    let of_users : Option JavaType = type_spelled staff_schema users in
     record {
       old_leaves = fewer_with (only (codes "users") of_users) (λ x. None) out of_users (λ x k e. unseen k e);
       new_leaves = fewer_with (only (codes "all") of_users) (λ x. None) out of_users (λ x k e. unseen k e);
@@ -152,3 +153,17 @@ pub copy_kept : Keeps (staff_program copied) (staff_program fetched) staff_schem
 copy_kept =
     let reader : Reader staff_schema = text_reader staff_schema in
     both_left staff_schema reader (staff_program copied) [] [] copying before_return copied fetched only_out (old_typed reader) refl (new_typed reader) refl (copy_gives_way reader)
+
+-- ---- What fits in
+
+pub fits_in_block : (reader : Reader staff_schema) → FitsIn staff_schema reader.read copying before_return copied fetched
+fits_in_block reader = record { there = refl; returned = λ e. absurd cc; fine = refl; mentioned = (refl, tt); declared = (tt, tt) }
+
+pub fits_in_loop : (reader : Reader staff_schema) → FitsIn staff_schema reader.read counting in_each_role copied fetched
+fits_in_loop reader = record { there = refl; returned = λ e. absurd cc; fine = refl; mentioned = (refl, (refl, tt)); declared = (refl, (tt, tt)) }
+
+pub before_in_loop : (reader : Reader staff_schema) → IsWellTyped staff_schema reader.read (counting_program copied)
+before_in_loop reader = refl
+
+pub after_in_loop : (reader : Reader staff_schema) → IsWellTyped staff_schema reader.read (counting_program fetched)
+after_in_loop reader = fits_in staff_schema reader.read (counting_program copied) [] [] counting in_each_role copied fetched (before_in_loop reader) (fits_in_loop reader)

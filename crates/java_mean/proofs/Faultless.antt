@@ -65,7 +65,7 @@ fine schema read r p h =
       in_loop = none_marked _ _ k.right;
     }
 
-faults_in-append : (schema : Schema) (read : List ℕ → Option PlainQuery) (r : Option Spelled) (ps qs : List Place) → faults_in schema read r (ps ++ qs) ≡ faults_in schema read r ps ++ faults_in schema read r qs
+pub faults_in-append : (schema : Schema) (read : List ℕ → Option PlainQuery) (r : Option Spelled) (ps qs : List Place) → faults_in schema read r (ps ++ qs) ≡ faults_in schema read r ps ++ faults_in schema read r qs
 faults_in-append schema read r [] qs = refl
 faults_in-append schema read r (p ∷ ps) qs = ap (λ (l : List TypeFault). faults_at schema read r p ++ l) (faults_in-append schema read r ps qs) ∙ sym (append_assoc (faults_at schema read r p) (faults_in schema read r ps) (faults_in schema read r qs))
 
@@ -177,10 +177,10 @@ visible_at_end (v ∷ vs) x y o = seen_by (bytes_eq y v.0) (is_visible vs y) (is
 pub declared_new : (vs : Visible) (x : List ℕ) (o : Option JavaType) → is_visible vs x ≡ false → declared_in vs x o ≡ vs ++ (x, o) ∷ []
 declared_new vs x o p = ap (λ (b : Bool). cond b vs (vs ++ (x, o) ∷ [])) p
 
-new_type : (vs : Visible) (x y : List ℕ) (o : Option JavaType) → is_visible vs x ≡ false → type_at (declared_in vs x o) y ≡ cond (is_visible vs y) (type_at vs y) (cond (bytes_eq x y) o None)
+pub new_type : (vs : Visible) (x y : List ℕ) (o : Option JavaType) → is_visible vs x ≡ false → type_at (declared_in vs x o) y ≡ cond (is_visible vs y) (type_at vs y) (cond (bytes_eq x y) o None)
 new_type vs x y o p = ap (λ (ws : Visible). type_at ws y) (declared_new vs x o p) ∙ type_at_end vs x y o ∙ ap (λ (b : Bool). cond (is_visible vs y) (type_at vs y) (cond b o None)) (names_back y x)
 
-new_visible : (vs : Visible) (x y : List ℕ) (o : Option JavaType) → is_visible vs x ≡ false → is_visible (declared_in vs x o) y ≡ (is_visible vs y || bytes_eq x y)
+pub new_visible : (vs : Visible) (x y : List ℕ) (o : Option JavaType) → is_visible vs x ≡ false → is_visible (declared_in vs x o) y ≡ (is_visible vs y || bytes_eq x y)
 new_visible vs x y o p = ap (λ (ws : Visible). is_visible ws y) (declared_new vs x o p) ∙ visible_at_end vs x y o ∙ ap (λ (b : Bool). is_visible vs y || b) (names_back y x)
 
 -- What is visible has types, and these.

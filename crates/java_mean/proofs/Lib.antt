@@ -5,6 +5,8 @@ pub mod Collected
 pub mod First
 pub mod Copying
 pub mod Faultless
+pub mod ByNames
+pub mod Fitting
 pub mod Further
 pub mod Kept
 pub mod Fewer

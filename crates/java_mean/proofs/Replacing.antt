@@ -35,7 +35,7 @@ by_any_reader schema one other p t = subst (λ read. IsWellTyped schema read p) 
 
 -- ---- Replacing
 
-nth_here : (before after : List PlainMethod) (m : PlainMethod) → slice_get (before ++ m ∷ after) (length before) ≡ Some m
+pub nth_here : (before after : List PlainMethod) (m : PlainMethod) → slice_get (before ++ m ∷ after) (length before) ≡ Some m
 nth_here [] after m = refl
 nth_here (n ∷ before) after m = nth_here before after m
 

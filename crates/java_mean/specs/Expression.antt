@@ -10,7 +10,6 @@ use Rattle.qbs_base.specs.declared.scalar.Row.{Row}
 use Rattle.qbs_base.specs.declared.scalar.Value.{Value}
 use Rattle.qbs_base.specs.declared.scalar.Value.TheVariants.{One, Whole, Many}
 use Rattle.qbs_base.specs.declared.columns.Column.{Column}
-use Rattle.qbs_base.specs.declared.columns.Table.{Table}
 use Rattle.qbs_base.specs.Columns.{column_number, columns_at}
 use Rattle.qbs_base.specs.Named.{at_name}
 use Rattle.qbs_base.specs.Scalar.{scalar_less, scalar_same, same_cells}

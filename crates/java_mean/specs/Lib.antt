@@ -4,6 +4,7 @@ pub mod Copied
 pub mod Endings
 pub mod Expression
 pub mod FirstForm
+pub mod Fits
 pub mod Keeps
 pub mod Mentions
 pub mod Numbers

@@ -1,5 +1,5 @@
 -- What holds of each variable that statements mention: those in expressions, and those that are assigned,
--- added to or sorted. A declaration alone doesn't mention its variable.
+-- added to or sorted. A declaration alone doesn't mention its variable. And what holds of each that they declare.
 use Rattle.std.specs.Prelude.{ℕ, List}
 use Rattle.std.specs.declared.option.Option.{Option}
 use Rattle.std.specs.declared.option.Option.TheVariants.{Some, None}
@@ -51,3 +51,17 @@ abbrev mutual
   pub EachMentioned : (List ℕ → Type 0) → Statements → Type 0
   EachMentioned P Nothing = Unit {0}
   EachMentioned P (Then a p) = EachMentionedIn P a × EachMentioned P p
+
+-- each variable that a statement declares is so, at any depth, and each that a list of statements declares
+abbrev mutual
+  pub EachDeclaredIn : (List ℕ → Type 0) → Statement → Type 0
+  EachDeclaredIn P (Declare at ty x e) = P x
+  EachDeclaredIn P (If at c a) = EachDeclared P a
+  EachDeclaredIn P (IfElse at c a b) = EachDeclared P a × EachDeclared P b
+  EachDeclaredIn P (ForEach at ty x e body) = P x × EachDeclared P body
+  EachDeclaredIn P (While at c body) = EachDeclared P body
+  EachDeclaredIn P _ = Unit {0}
+
+  pub EachDeclared : (List ℕ → Type 0) → Statements → Type 0
+  EachDeclared P Nothing = Unit {0}
+  EachDeclared P (Then a p) = EachDeclaredIn P a × EachDeclared P p

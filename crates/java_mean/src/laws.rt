@@ -1,11 +1,11 @@
 //! Laws of what programs do, for the crates above. They do nothing.
-ghost use Rattle.std.specs.Prelude.{◌≡◌, ◌≢◌, ℕ, ℤ, ◌+◌, List, ◌∷◌, ◌++◌, Option, Ok, slice_get};
+ghost use Rattle.std.specs.Prelude.{◌≡◌, ◌≢◌, ℕ, ℤ, ◌+◌, Bool, true, false, not, ◌&&◌, List, [], ◌∷◌, ◌++◌, Option, Ok, slice_get};
 ghost use Rattle.qbs_base.specs.declared.span.Span.{Span};
 ghost use Rattle.qbs_base.specs.declared.scalar.Scalar.{Scalar};
 ghost use Rattle.qbs_base.specs.declared.scalar.Value.{Value};
 ghost use Rattle.qbs_base.specs.Values.{Schema, Database, IsDatabaseOf};
 ghost use Rattle.java_ast.specs.Placed.{placed, placed_all};
-ghost use Rattle.java_ast.specs.Tree.{Expression, Expressions, PlainMethod, PlainProgram, Statements};
+ghost use Rattle.java_ast.specs.Tree.{Spelled, Expression, Expressions, PlainMethod, PlainProgram, Statements};
 ghost use Rattle.java_ast.specs.Path.{with_body, with_methods};
 ghost use Rattle.sql_ast.specs.Tree.{PlainQuery};
 ghost use Rattle.java_mean.specs.Asks.{frame_of, result_type};
@@ -18,8 +18,13 @@ ghost use Rattle.java_mean.specs.Outcome.{Outcome, Done, Faulted, Stuck, outcome
 ghost use Rattle.java_mean.specs.Types.{Types, types_of_params, types_past, IsTyped, IsTypedAt, AreArguments};
 ghost use Rattle.java_mean.specs.Typing.{Frame, IsWorld, Extends, TypedStatements};
 ghost use Rattle.java_mean.specs.Numbers.{NumbersFit};
-ghost use Rattle.java_mean.specs.WellTyped.{IsWellTyped};
-ghost use Rattle.java_mean.specs.Refines.{Hole, fill, first_of, path_of, types_at, loop_at, IsTypedPlace, Replaces, MayReplace, GivesWay, with_part, IsResult, Alike, Simulates, exits};
+ghost use Rattle.java_mean.specs.WellTyped.{IsWellTyped, faults_in};
+ghost use Rattle.java_mean.specs.Fits.{IsSeenAlike, visible_past, visible_before, in_first, IsFineAt, IsFineBehind, FitsIn};
+ghost use Rattle.java_mean.specs.Mentions.{EachMentioned, EachDeclared};
+ghost use Rattle.java_mean.specs.Places.{Around, is_nothing, in_statements};
+ghost use Rattle.java_mean.specs.Rules.{is_none, returns};
+ghost use Rattle.java_mean.specs.Visible.{Visible, is_visible, type_at, with_params};
+ghost use Rattle.java_mean.specs.Refines.{Hole, fill, followed_by, first_of, path_of, types_at, loop_at, IsTypedPlace, Replaces, MayReplace, GivesWay, with_part, IsResult, Alike, Simulates, exits};
 ghost use Rattle.java_mean.specs.Reaches.{Reaches};
 ghost use Rattle.java_mean.specs.Statement.{State, meanings};
 ghost use Rattle.java_mean.specs.Queries.{HasQuery, Reader};
@@ -260,6 +265,77 @@ pub fn well_typed_replacements_keep()
         → IsWellTyped schema reader.read (with_part p before after m hole new) → NumbersFit (with_part p before after m hole new)
         → GivesWay (frame_of schema reader.read m) None (types_of_params schema m.params) hole old new alike
         → Keeps (with_part p before after m hole old) (with_part p before after m hole new) schema }
+{}
+
+/// Statements have the same faults where other variables are visible, if those that they mention or
+/// declare at any depth are visible in both places or in neither, with the same types.
+pub fn faults_go_by_names()
+    ensures block { (schema : Schema) (read : List ℕ → Option PlainQuery) (r : Option Spelled) (vs us : Visible) (w : Around) (part : Statements)
+        → EachMentioned (IsSeenAlike vs us) part
+        → EachDeclared (IsSeenAlike vs us) part
+        → faults_in schema read r (in_statements schema vs w part) ≡ faults_in schema read r (in_statements schema us w part) }
+    ensures first { (schema : Schema) (read : List ℕ → Option PlainQuery) (r : Option Spelled) (vs us : Visible) (w : Around) (ends : Bool) (part : Statements)
+        → EachMentioned (IsSeenAlike vs us) part
+        → EachDeclared (IsSeenAlike vs us) part
+        → faults_in schema read r (in_first schema vs w ends part) ≡ faults_in schema read r (in_first schema us w ends part) }
+{}
+
+/// Joined statements have the faults of the first ones, and those of the others with what the first ones
+/// leave visible. Statements that have none before others have none at the end of a block either. A whole
+/// block is statements that end it.
+pub fn joined_statements_have_faults_of_their_own()
+    ensures joined { (schema : Schema) (read : List ℕ → Option PlainQuery) (r : Option Spelled) (vs : Visible) (w : Around) (ends : Bool) (one other : Statements)
+        → faults_in schema read r (in_first schema vs w ends (followed_by one other))
+        ≡ faults_in schema read r (in_first schema vs w (is_nothing other && ends) one)
+        ++ faults_in schema read r (in_first schema (visible_past schema vs one) w ends other) }
+    ensures ends { (schema : Schema) (read : List ℕ → Option PlainQuery) (r : Option Spelled) (part : Statements) (vs : Visible) (w : Around) (ends : Bool)
+        → faults_in schema read r (in_first schema vs w false part) ≡ []
+        → faults_in schema read r (in_first schema vs w ends part) ≡ [] }
+    ensures block { (schema : Schema) (vs : Visible) (w : Around) (part : Statements) → in_first schema vs w true part ≡ in_statements schema vs w part }
+{}
+
+/// A place in a method of a well-typed program: the statements there have no fault with what is visible there,
+/// and what stands behind them in their block has none with what they leave visible; the visible variables are
+/// those that have a type there. With other statements there the program is well typed if both is so of these,
+/// if the first ones aren't nothing, and return only if the others do.
+pub fn places_have_faults_of_their_own()
+    ensures parts { (schema : Schema) (read : List ℕ → Option PlainQuery) (p : PlainProgram) (before after : List PlainMethod) (m : PlainMethod) (hole : Hole)
+        (part : Statements)
+        → IsWellTyped schema read (with_part p before after m hole part)
+        → IsFineAt schema read m hole part }
+    ensures behind { (schema : Schema) (read : List ℕ → Option PlainQuery) (p : PlainProgram) (before after : List PlainMethod) (m : PlainMethod) (hole : Hole)
+        (part : Statements)
+        → IsWellTyped schema read (with_part p before after m hole part)
+        → IsFineBehind schema read m hole part }
+    ensures types { (schema : Schema) (read : List ℕ → Option PlainQuery) (p : PlainProgram) (before after : List PlainMethod) (m : PlainMethod) (hole : Hole)
+        (part : Statements)
+        → IsWellTyped schema read (with_part p before after m hole part)
+        → (x : List ℕ)
+        → type_at (visible_before schema (with_params schema [] m.params) hole) x ≡ types_at schema (types_of_params schema m.params) hole x }
+    ensures visible { (schema : Schema) (read : List ℕ → Option PlainQuery) (p : PlainProgram) (before after : List PlainMethod) (m : PlainMethod) (hole : Hole)
+        (part : Statements)
+        → IsWellTyped schema read (with_part p before after m hole part)
+        → (x : List ℕ)
+        → is_visible (visible_before schema (with_params schema [] m.params) hole) x ≡ not (is_none (types_at schema (types_of_params schema m.params) hole x)) }
+    ensures whole { (schema : Schema) (read : List ℕ → Option PlainQuery) (p : PlainProgram) (before after : List PlainMethod) (m : PlainMethod) (hole : Hole)
+        (old new : Statements)
+        → IsWellTyped schema read (with_part p before after m hole old)
+        → is_nothing old ≡ false
+        → (returns old ≡ true → returns new ≡ true)
+        → IsFineAt schema read m hole new
+        → IsFineBehind schema read m hole new
+        → IsWellTyped schema read (with_part p before after m hole new) }
+{}
+
+/// A well-typed program stays well typed where statements at any depth give way to others that fit in: they
+/// have no fault at the place, they return if the first ones do, and each variable that is mentioned or declared
+/// behind the place in its block is left invisible by both, or visible with one type.
+pub fn well_typed_where_statements_give_way()
+    ensures { (schema : Schema) (read : List ℕ → Option PlainQuery) (p : PlainProgram) (before after : List PlainMethod) (m : PlainMethod) (hole : Hole)
+        (old new : Statements)
+        → IsWellTyped schema read (with_part p before after m hole old)
+        → FitsIn schema read m hole old new
+        → IsWellTyped schema read (with_part p before after m hole new) }
 {}
 
 /// An expression whose places are all replaced by one has the same value, and so have the arguments of a

@@ -5,14 +5,15 @@ ghost use Rattle.qbs_base.specs.declared.scalar.Scalar.TheVariants as scalars;
 ghost use Rattle.qbs_base.specs.declared.scalar.Value.TheVariants as values;
 ghost use Rattle.java_mean.specs.declared.ending.RunFault.TheVariants as faults;
 ghost use Rattle.java_mean.specs.Asks.{frame_of};
-ghost use Rattle.java_mean.specs.Copied.{copied, fetched, only_out, before_return, copying, staff_program};
+ghost use Rattle.java_mean.specs.Copied.{copied, fetched, only_out, before_return, copying, staff_program, in_each_role, counting, counting_program, left_by_loop, left_by_fetch};
 ghost use Rattle.java_mean.specs.Expression.{alone};
+ghost use Rattle.java_mean.specs.Fits.{IsSeenAlike, FitsIn};
 ghost use Rattle.java_mean.specs.Keeps.{Keeps};
-ghost use Rattle.java_mean.specs.Mentions.{EachMentioned};
+ghost use Rattle.java_mean.specs.Mentions.{EachMentioned, EachDeclared};
 ghost use Rattle.java_mean.specs.Numbers.{NumbersFit};
 ghost use Rattle.java_mean.specs.Outcome.{Done, Faulted, OutOfTurns, outcome};
 ghost use Rattle.java_mean.specs.Queries.{Reader};
-ghost use Rattle.java_mean.specs.Refines.{GivesWay};
+ghost use Rattle.java_mean.specs.Refines.{GivesWay, behind};
 ghost use Rattle.java_mean.specs.Types.{types_of_params, types_past};
 ghost use Rattle.java_mean.specs.WellTyped.{IsWellTyped};
 ghost use Rattle.sql_ast.specs.Worked.{ann, bob, cat, ann_again, dan, staff_schema};
@@ -75,4 +76,15 @@ pub fn loops_give_way_to_fetches()
     ensures gives_way { (reader : Reader staff_schema)
         → GivesWay (frame_of staff_schema reader.read copying) None (types_of_params staff_schema copying.params) before_return copied fetched only_out }
     ensures kept { Keeps (staff_program copied) (staff_program fetched) staff_schema }
+{}
+
+/// The same two lists of statements as an example of statements that fit in, at the head of a method's block
+/// and in a loop, where what stands behind them declares a variable.
+pub fn fetches_fit_in()
+    ensures in_block { (reader : Reader staff_schema) → FitsIn staff_schema reader.read copying before_return copied fetched }
+    ensures in_loop { (reader : Reader staff_schema) → FitsIn staff_schema reader.read counting in_each_role copied fetched }
+    ensures before { (reader : Reader staff_schema) → IsWellTyped staff_schema reader.read (counting_program copied) }
+    ensures after { (reader : Reader staff_schema) → IsWellTyped staff_schema reader.read (counting_program fetched) }
+    ensures mentioned { EachMentioned (IsSeenAlike left_by_loop left_by_fetch) (behind in_each_role) }
+    ensures declared { EachDeclared (IsSeenAlike left_by_loop left_by_fetch) (behind in_each_role) }
 {}
