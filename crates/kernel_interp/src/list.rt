@@ -2,6 +2,7 @@
 ghost use Rattle.std.specs.Prelude.{◌≡◌, IfOk, OnOk, map};
 ghost use Rattle.std.specs.Ordering.{is_lt};
 ghost use Rattle.qbs_base.specs.Sort.{stable_sort};
+ghost use Rattle.qbs_base.specs.Tables.{rows_of};
 ghost use Rattle.kernel_lang.specs.Given as given;
 ghost use Rattle.kernel_interp.specs.Reading.{rows_seen, lists_seen};
 
@@ -13,7 +14,7 @@ use std::cmp::Ordering;
 
 // The rows of a table; none where there is no such table.
 fn table_rows(db: &Db, table: u32) -> &[Row]
-    ensures { result.now ≡ given.rows_of db.now table }
+    ensures { result.now ≡ rows_of db.now table }
 {
     match db.rows(table) {
         Some(rows) => rows.as_slice(),

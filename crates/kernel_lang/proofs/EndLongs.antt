@@ -25,7 +25,8 @@ use Rattle.kernel_lang.specs.declared.parts.Entry.{Entry}
 use Rattle.kernel_lang.specs.declared.parts.Update.{Update}
 use Rattle.kernel_lang.specs.declared.parts.Update.TheVariants.{Push, PushNew, Tick, Plus, Best, Mark}
 use Rattle.kernel_lang.specs.Ends.{ScalarFits, RowFits, ValueFits, StartFits, StartsFit}
-use Rattle.kernel_lang.specs.Given.{rows_of, world_given}
+use Rattle.qbs_base.specs.Tables.{rows_of}
+use Rattle.kernel_lang.specs.Given.{world_given}
 use Rattle.kernel_lang.specs.Plain.{Accumulator, Fragment}
 use Rattle.kernel_lang.specs.Running.{started, checked, within_long, layers_of, with_flags, accumulated, scalar_in, scalar_of, source_scalar, source_value, ends_as, and_then, ends, all_end, fragment_end}
 use Rattle.kernel_lang.proofs.Runs.{some_same, all_listed, run_keeps}

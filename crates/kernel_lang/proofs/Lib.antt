@@ -1,5 +1,6 @@
 pub mod Capped
 pub mod Dropped
+pub mod Listing
 pub mod Mapped
 pub mod PoolSizes
 pub mod Sized

@@ -10,7 +10,8 @@ use Rattle.tor_terms.specs.declared.term.Atom.{Atom}
 use Rattle.tor_terms.specs.Truth.{Datum, World}
 use Rattle.kernel_lang.specs.declared.parts.ListDef.{ListDef}
 use Rattle.kernel_lang.specs.declared.parts.Update.{Update}
-use Rattle.kernel_lang.specs.Given.{rows_of, before, cut, list_at}
+use Rattle.qbs_base.specs.Tables.{rows_of}
+use Rattle.kernel_lang.specs.Given.{before, cut, list_at}
 use Rattle.kernel_lang.specs.Running.{Layer, with_row, passes, checked, followed_by, each_row, run}
 
 pub some_same : {X : Type 0} (x y : X) → Some x ≡ Some y → x ≡ y

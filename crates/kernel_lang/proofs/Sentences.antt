@@ -5,7 +5,7 @@ use Rattle.kernel_lang.specs.declared.sentence.Sentence.{Sentence}
 use Rattle.kernel_lang.specs.declared.sentence.Sentence.TheVariants as sentences
 use Rattle.kernel_lang.specs.Plain.{Accumulator, Fragment}
 use Rattle.kernel_lang.specs.Sentences.{AccumulatorIsValid, IsValid}
-use Rattle.kernel_lang.specs.Validity.{broken, parts_broken, accumulator_broken, accumulators_broken, or_else, first_broken, is_small, atoms_are_there, tests_have_fields, flags_are_flags, limits_are_valid, chain_is_valid, accumulator_is_there, base_is_valid, reads_its_chain, flag_is_quiet, reads_flags_in_place, starts_rightly, suits_the_lists, conditions_are_few}
+use Rattle.kernel_lang.specs.Validity.{broken, parts_broken, accumulator_broken, accumulators_broken, sentences_of_parts, sentences_of_accumulator, or_else, first_broken, conditions_are_few}
 
 pub or_none : (a b : Option Sentence) → or_else a b ≡ None → (a ≡ None) × (b ≡ None)
 or_none None b e = (refl, e)
@@ -25,34 +25,13 @@ all_first (s ∷ rest) e = go s.0 refl e (λ h. all_first rest h)
     go true h e later = (h, later e)
     go false h e later = absurd cc
 
-abbrev of_accumulator : Fragment → Accumulator → List (Bool × Sentence)
-of_accumulator f a =
-    (chain_is_valid a, sentences.Chain)
-    ∷ (accumulator_is_there f a, sentences.Names)
-    ∷ (base_is_valid a, sentences.Base)
-    ∷ (reads_its_chain f.atoms a, sentences.Loops)
-    ∷ (flag_is_quiet f.atoms a, sentences.Flags)
-    ∷ (reads_flags_in_place f a, sentences.Reading)
-    ∷ (starts_rightly a, sentences.Start)
-    ∷ (suits_the_lists f a, sentences.Limits)
-    ∷ []
-
-abbrev of_parts : Fragment → List (Bool × Sentence)
-of_parts f =
-    (is_small f, sentences.Size)
-    ∷ (atoms_are_there f, sentences.Names)
-    ∷ (tests_have_fields f, sentences.Operands)
-    ∷ (flags_are_flags f, sentences.Flags)
-    ∷ (limits_are_valid f, sentences.Limits)
-    ∷ []
-
 abbrev of_conditions : Fragment → List (Bool × Sentence)
 of_conditions f = (conditions_are_few f, sentences.Conditions) ∷ []
 
 accumulator_valid : (f : Fragment) (a : Accumulator) → accumulator_broken f a ≡ None → AccumulatorIsValid f a
 unfolding accumulator_broken
 accumulator_valid f a e =
-    let h : AllHold (of_accumulator f a) = all_first (of_accumulator f a) e in
+    let h : AllHold (sentences_of_accumulator f a) = all_first (sentences_of_accumulator f a) e in
     record {
       chain = h.0;
       names = h.1.0;
@@ -75,7 +54,7 @@ unfolding broken parts_broken
 valid f e =
     let p = or_none (parts_broken f) (or_else (accumulators_broken f f.accs) (first_broken (of_conditions f))) e in
     let q = or_none (accumulators_broken f f.accs) (first_broken (of_conditions f)) p.1 in
-    let h : AllHold (of_parts f) = all_first (of_parts f) p.0 in
+    let h : AllHold (sentences_of_parts f) = all_first (sentences_of_parts f) p.0 in
     let few : AllHold (of_conditions f) = all_first (of_conditions f) q.1 in
     record {
       size = h.0;

@@ -17,7 +17,7 @@ use Rattle.kernel_lang.specs.declared.sentence.Sentence.{Sentence}
 use Rattle.kernel_lang.specs.declared.sentence.Sentence.TheVariants as sentences
 use Rattle.kernel_lang.specs.Plain.{Accumulator, Fragment}
 use Rattle.kernel_lang.specs.Validity.{broken}
-use Rattle.kernel_lang.specs.Worked.{long, all_of, over_one, class_A, class_B, class_C, class_D, class_E, class_F, class_H, class_J, class_V, two_conjuncts, three_loops, flag_under_a_guard, name_set}
+use Rattle.kernel_lang.specs.Worked.{long, all_of, over_one, class_A, class_B, class_C, class_D, class_E, class_F, class_H, class_J, class_V, two_conjuncts, three_loops, flag_under_a_guard, name_set, role_flag as worked_flag}
 
 -- a fragment that breaks a sentence first
 abbrev pub Breaks : Sentence → Fragment → Type 0
@@ -55,18 +55,9 @@ with_chain chain guards f = changed (λ a. record a { chain = chain; guards = gu
 abbrev reader : Option Form → Accumulator
 reader guard = over_one guard (updates.Push (elems.Whole 0)) None false []
 
--- the flag of class E
+-- the flag of class E, with an empty pool
 abbrev role_flag : Accumulator
-role_flag =
-    record {
-      chain = 0 ∷ 1 ∷ [];
-      base = 1;
-      guards = None ∷ Some (Is 0 true) ∷ [];
-      update = updates.Mark;
-      start = Some (scalars.Bool false);
-      opposite = false;
-      pool = [];
-    }
+role_flag = record worked_flag { pool = [] }
 
 abbrev with_flag : Accumulator → Fragment
 with_flag flag = with_accs class_E (reader (Some (Is 1 true)) ∷ flag ∷ [])

@@ -21,7 +21,8 @@ use Rattle.kernel_lang.specs.declared.parts.ListDef.{ListDef}
 use Rattle.kernel_lang.specs.declared.parts.Update.{Update}
 use Rattle.kernel_lang.specs.declared.parts.Update.TheVariants as updates
 use Rattle.kernel_lang.specs.Plain.{Fragment}
-use Rattle.kernel_lang.specs.Given.{rows_of, world_given}
+use Rattle.qbs_base.specs.Tables.{rows_of}
+use Rattle.kernel_lang.specs.Given.{world_given}
 use Rattle.kernel_lang.specs.Validity.{element_of}
 
 -- a column that is named for a loop's list

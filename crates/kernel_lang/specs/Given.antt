@@ -5,6 +5,7 @@ use Rattle.std.specs.declared.option.Option.TheVariants.{Some, None}
 use Rattle.qbs_base.specs.declared.scalar.Row.{Row}
 use Rattle.qbs_base.specs.Scalar.{value_before}
 use Rattle.qbs_base.specs.Sort.{stable_sort, then_by, turned}
+use Rattle.qbs_base.specs.Tables.{rows_of}
 use Rattle.qbs_base.specs.Values.{Database}
 use Rattle.tor_terms.specs.Truth.{World}
 use Rattle.tor_terms.specs.Value.{plain_row}
@@ -12,10 +13,6 @@ use Rattle.kernel_lang.specs.declared.parts.Col.{Col}
 use Rattle.kernel_lang.specs.declared.parts.Entry.{Entry}
 use Rattle.kernel_lang.specs.declared.parts.ListDef.{ListDef}
 use Rattle.kernel_lang.specs.Plain.{Fragment}
-
--- a table that isn't there has no row
-abbrev pub rows_of : Database → ℕ → List Row
-rows_of db number = elim (slice_get db number) [ Some table ↦ table.1 | None ↦ [] ]
 
 -- the order of one key, in the other direction where it is down
 abbrev pub key_before : Col → Row → Row → Bool
@@ -38,11 +35,11 @@ abbrev pub list_at : Database → Option ListDef → List Row
 list_at db None = []
 list_at db (Some d) = listed db d
 
--- the world in which a fragment begins: no turn is done, and no flag is set
-abbrev pub world_given : Fragment → Database → Entry → World
-world_given f db entry =
+-- the world of lists, entry values and known lists in which no turn is done, and no flag is set
+abbrev pub world_over : (ℕ → List Row) → Entry → World
+world_over lists entry =
     record {
-      lists = λ j. list_at db (slice_get f.lists j);
+      lists = lists;
       turns = λ j. 0;
       current = λ j. plain_row None;
       entries = λ k. slice_get entry.values k;
@@ -50,3 +47,7 @@ world_given f db entry =
       held = λ n. [];
       flags = λ k rows. false;
     }
+
+-- the world in which a fragment begins
+abbrev pub world_given : Fragment → Database → Entry → World
+world_given f db entry = world_over (λ j. list_at db (slice_get f.lists j)) entry

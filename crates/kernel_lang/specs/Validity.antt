@@ -327,20 +327,21 @@ first_broken [] = None
 first_broken (s ∷ rest) = if s.0 then first_broken rest else Some s.1
 
 -- sentences of the whole fragment
-unfoldable pub parts_broken : Fragment → Option Sentence
-parts_broken f =
-    first_broken (
+abbrev pub sentences_of_parts : Fragment → List (Bool × Sentence)
+sentences_of_parts f =
     (is_small f, sentences.Size)
     ∷ (atoms_are_there f, sentences.Names)
     ∷ (tests_have_fields f, sentences.Operands)
     ∷ (flags_are_flags f, sentences.Flags)
     ∷ (limits_are_valid f, sentences.Limits)
-    ∷ [])
+    ∷ []
+
+unfoldable pub parts_broken : Fragment → Option Sentence
+parts_broken f = first_broken (sentences_of_parts f)
 
 -- sentences of one accumulator
-unfoldable pub accumulator_broken : Fragment → Accumulator → Option Sentence
-accumulator_broken f a =
-    first_broken (
+abbrev pub sentences_of_accumulator : Fragment → Accumulator → List (Bool × Sentence)
+sentences_of_accumulator f a =
     (chain_is_valid a, sentences.Chain)
     ∷ (accumulator_is_there f a, sentences.Names)
     ∷ (base_is_valid a, sentences.Base)
@@ -349,7 +350,10 @@ accumulator_broken f a =
     ∷ (reads_flags_in_place f a, sentences.Reading)
     ∷ (starts_rightly a, sentences.Start)
     ∷ (suits_the_lists f a, sentences.Limits)
-    ∷ [])
+    ∷ []
+
+unfoldable pub accumulator_broken : Fragment → Accumulator → Option Sentence
+accumulator_broken f a = first_broken (sentences_of_accumulator f a)
 
 abbrev pub or_else : Option Sentence → Option Sentence → Option Sentence
 or_else None other = other

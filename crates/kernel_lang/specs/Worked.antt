@@ -127,6 +127,19 @@ class_C = from_one [] (over_one None (updates.Best ways.Max (elems.Field 0 3)) (
 abbrev pub class_D : Fragment
 class_D = from_one [] (over_one None (updates.Plus (elems.Field 0 3)) (Some (long 0)) false [])
 
+-- whether a user has a role, as a loop over roles sets it
+abbrev pub role_flag : Accumulator
+role_flag =
+    record {
+      chain = 0 ∷ 1 ∷ [];
+      base = 1;
+      guards = None ∷ Some (Is 0 true) ∷ [];
+      update = updates.Mark;
+      start = Some (scalars.Bool false);
+      opposite = false;
+      pool = Is 0 true ∷ Is 0 false ∷ [];
+    }
+
 -- users with a role, by a flag that a loop over roles sets
 abbrev pub class_E : Fragment
 class_E =
@@ -135,15 +148,7 @@ class_E =
       atoms = atoms.Same (operands.Field 0 2) (operands.Field 1 0) ∷ atoms.Flag 1 (0 ∷ []) ∷ [];
       accs =
           over_one (Some (Is 1 true)) (updates.Push (elems.Whole 0)) None false (Is 1 true ∷ Is 1 false ∷ [])
-          ∷ record {
-            chain = 0 ∷ 1 ∷ [];
-            base = 1;
-            guards = None ∷ Some (Is 0 true) ∷ [];
-            update = updates.Mark;
-            start = Some (scalars.Bool false);
-            opposite = false;
-            pool = Is 0 true ∷ Is 0 false ∷ [];
-          }
+          ∷ role_flag
           ∷ [];
       entries = [];
       known = 0;

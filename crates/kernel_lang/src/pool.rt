@@ -5,11 +5,10 @@ ghost use Rattle.kernel_lang.specs.Pools as spec;
 ghost use Rattle.tor_terms.specs.Plain.{form_of, forms_of};
 ghost use Rattle.tor_terms.specs.Same.{same_form};
 
-use crate::valid::flags::{reads_no_flag, same_formula};
-use crate::valid::loops::formula_within;
+use crate::valid::flags::reads_no_flag;
 use qbs_base::{Items, NoMemory};
 use std::alloc::Global;
-use tor_terms::{Atom, Formula, Formulas, copy_formula};
+use tor_terms::{Atom, Formula, Formulas, copy_formula, formula_within, same_formula};
 
 /// What decides which formulas an accumulator's pool has: the atoms, its chain and its base.
 #[derive(Clone, Copy)]

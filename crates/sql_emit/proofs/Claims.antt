@@ -9,6 +9,7 @@ use Rattle.kernel_lang.specs.Pools.{Member, members_from, members}
 use Rattle.kernel_lang.specs.Typed.{atom_is_typed, members_agree, update_is_typed, place_is_there, is_typed}
 use Rattle.kernel_lang.specs.Validity.{broken}
 use Rattle.kernel_lang.proofs.Sentences.{valid}
+use Rattle.kernel_lang.proofs.Listing.{all_at, and_left, and_right}
 use Rattle.sql_ast.specs.Tree.{Filter, PlainQuery}
 use Rattle.sql_emit.specs.Scopes.{ground}
 use Rattle.sql_emit.specs.Emitted.{query_of}
@@ -17,7 +18,6 @@ use Rattle.sql_emit.specs.Numbered.{filter_uses, first_uses, filter_in, in_order
 use Rattle.sql_emit.proofs.Meaning.{says_what_is_claimed}
 use Rattle.sql_emit.proofs.Numbering.{FilterParam, IsIn, uses_in, filter_both, answer_same, each_more}
 use Rattle.sql_emit.proofs.Params.{HasValue, entry_there, where_param, filter_is}
-use Rattle.sql_emit.proofs.Tools.{and_left, and_right, all_at}
 use Rattle.sql_emit.proofs.Valid.{IsValidMember, all_members}
 
 -- ---- accumulators of members

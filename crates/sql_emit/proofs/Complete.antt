@@ -13,6 +13,7 @@ use Rattle.kernel_lang.specs.Plain.{Fragment}
 use Rattle.kernel_lang.specs.Pools.{Member, members}
 use Rattle.kernel_lang.specs.Validity.{broken, one_unsorted_loop, loops_are_few, takes_a_column}
 use Rattle.kernel_lang.proofs.Sentences.{valid}
+use Rattle.kernel_lang.proofs.Listing.{all_at}
 use Rattle.sql_ast.specs.Answers.{IsOrderComplete}
 use Rattle.sql_ast.specs.Keys.{takes_column}
 use Rattle.sql_ast.specs.Tree.{Filter, PlainQuery}
@@ -22,7 +23,7 @@ use Rattle.sql_emit.specs.Numbered.{with_filter, in_order}
 use Rattle.sql_emit.proofs.Chosen.{names_all}
 use Rattle.sql_emit.proofs.Flags.{column_taken}
 use Rattle.sql_emit.proofs.Suited.{loops_few}
-use Rattle.sql_emit.proofs.Tools.{all_at, eq_itself, or_left}
+use Rattle.sql_emit.proofs.Tools.{eq_itself, or_left}
 use Rattle.sql_emit.proofs.Valid.{IsValidMember, all_members}
 
 pub one_loop : (f : Fragment) (js : List ℕ) → one_unsorted_loop f js ≡ true → (j : ℕ) × (js ≡ j ∷ [])

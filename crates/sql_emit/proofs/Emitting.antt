@@ -18,6 +18,7 @@ use Rattle.kernel_lang.specs.Typed.{is_typed}
 use Rattle.kernel_lang.specs.Validity.{broken}
 use Rattle.kernel_lang.specs.Whole.{fragment_of}
 use Rattle.kernel_lang.proofs.Sentences.{valid}
+use Rattle.kernel_lang.proofs.Listing.{some_eq}
 use Rattle.sql_ast.specs.Answers.{IsOrderComplete}
 use Rattle.sql_ast.specs.Canonical.{canonical}
 use Rattle.sql_ast.specs.Reading.{query}
@@ -34,7 +35,6 @@ use Rattle.sql_emit.proofs.Complete.{complete}
 use Rattle.sql_emit.proofs.Entries.{entries_are}
 use Rattle.sql_emit.proofs.Flagged.{member_is}
 use Rattle.sql_emit.proofs.Queries.{le_of, grammatical}
-use Rattle.sql_emit.proofs.Tools.{some_eq}
 use Rattle.sql_emit.proofs.Utf8.{queries_are_utf8}
 use Rattle.sql_emit.proofs.Valid.{MemberAt, chain_parts, member_at}
 

@@ -25,8 +25,9 @@ use Rattle.kernel_lang.specs.Sentences.{AccumulatorIsValid, IsValid}
 use Rattle.kernel_lang.specs.Typed.{atom_is_typed, members_agree, update_is_typed, place_is_there, is_typed}
 use Rattle.kernel_lang.specs.Fitting.{named_places}
 use Rattle.kernel_lang.specs.Validity.{is_mark, is_flag, names_a_flag, flags_are_flags, start_is_valid, takes_a_column, starts_rightly, limits_are_valid, limit_is_valid, rises, rises_after}
+use Rattle.kernel_lang.proofs.Listing.{and_left, and_right}
 use Rattle.sql_emit.specs.Scopes.{Ground, numbered, number_in, def_of, list_of}
-use Rattle.sql_emit.proofs.Tools.{and_left, and_right, eq_true, lt_of}
+use Rattle.sql_emit.proofs.Tools.{eq_true, lt_of}
 
 -- ---- what is typed
 

@@ -32,6 +32,7 @@ use Rattle.kernel_lang.specs.Sentences.{IsValid}
 use Rattle.kernel_lang.specs.Fitting.{named_places}
 use Rattle.kernel_lang.specs.Typed.{column_type, scalar_type, operand_type, place_type, same_type, is_type, atom_is_typed, members_agree, update_is_typed, place_is_there, is_typed}
 use Rattle.kernel_lang.specs.Validity.{is_field, has_a_field, tests_have_fields, limit_is_valid, is_number, element_of, element_within, start_is_valid, takes_a_column}
+use Rattle.kernel_lang.proofs.Listing.{all_at, and_left, and_right, list_all_at, some_eq}
 use Rattle.sql_ast.specs.declared.tree.Cmp.{Cmp}
 use Rattle.sql_ast.specs.declared.tree.Cmp.TheVariants as tests
 use Rattle.sql_ast.specs.declared.tree.FromItem.{FromItem}
@@ -60,7 +61,7 @@ use Rattle.sql_emit.proofs.Nest.{list_there}
 use Rattle.sql_emit.proofs.Numbering.{EachParam, FilterParam, OpndParam}
 use Rattle.sql_emit.proofs.Params.{maps_length, bound, moved_filter_param, known_there, listing_params}
 use Rattle.sql_emit.proofs.Rows.{columns_at, place_typed}
-use Rattle.sql_emit.proofs.Tools.{and_left, and_right, all_at, list_all_at, eq_itself, some_eq, lt_of, length_map}
+use Rattle.sql_emit.proofs.Tools.{eq_itself, lt_of, length_map}
 
 -- ---- uses of parameters
 

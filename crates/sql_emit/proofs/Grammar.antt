@@ -20,7 +20,8 @@ use Rattle.sql_ast.specs.Typing.{ty_of_scalar, ty_of_col, ty_beside, tys_beside,
 use Rattle.sql_ast.specs.Valid.{AreItems, IsColOf, FitsScalar, IsOpndOf, IsConditionOf, IsFilterOf}
 use Rattle.sql_emit.specs.Numbered.{opnd_uses, uses, filter_uses, number_among, renumbered_opnd, renumbered, renumbered_filter}
 use Rattle.sql_emit.proofs.Numbering.{IsIn, front_of, back_of}
-use Rattle.sql_emit.proofs.Tools.{eq_true, eq_itself, some_eq}
+use Rattle.sql_emit.proofs.Tools.{eq_true, eq_itself}
+use Rattle.kernel_lang.proofs.Listing.{some_eq}
 
 -- ---- operands with a type; a parameter has that of its entry
 

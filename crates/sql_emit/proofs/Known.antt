@@ -28,7 +28,8 @@ use Rattle.sql_ast.specs.Typing.{listing_groups}
 use Rattle.sql_ast.specs.Valid.{IsColOf, IsOpndOf, IsConditionOf, IsFilterOf}
 use Rattle.sql_emit.specs.Emitted.{moved_col, entry_param, moved_opnd, moved, moved_filter}
 use Rattle.sql_emit.specs.Given.{value_or, values_at}
-use Rattle.sql_emit.proofs.Tools.{and_left, and_right, any_agree, any_map, any_filter, eq_true}
+use Rattle.sql_emit.proofs.Tools.{any_agree, any_map, any_filter, eq_true}
+use Rattle.kernel_lang.proofs.Listing.{and_left, and_right}
 
 -- ---- a condition that is numbered on means the same of what follows
 

@@ -21,6 +21,7 @@ use Rattle.kernel_lang.specs.Fitting.{is_of}
 use Rattle.kernel_lang.specs.Plain.{Fragment}
 use Rattle.kernel_lang.specs.Typed.{operand_type, same_type, is_type, atom_is_typed}
 use Rattle.kernel_lang.specs.Validity.{is_field, is_no_flag, reads_no_flag}
+use Rattle.kernel_lang.proofs.Listing.{and_left, and_right, list_all_at}
 use Rattle.sql_ast.specs.declared.tree.Cmp.TheVariants as tests
 use Rattle.sql_ast.specs.declared.tree.SqlOpnd.TheVariants as opnds
 use Rattle.sql_ast.specs.Meaning.{Combination, operand_of, truth_of, passes}
@@ -30,7 +31,7 @@ use Rattle.sql_ast.specs.Tree as plain
 use Rattle.sql_emit.specs.Scopes.{Ground, Scope}
 use Rattle.sql_emit.specs.Emitted.{side, fixed, less_test, greater_test, same_test, signed, less_condition, args_of, within_query, FlagCondition, literal, formula, joined_from, joined}
 use Rattle.sql_emit.proofs.Rows.{IsScalarOf, RowsTyped, Sees, side_is, operand_typed}
-use Rattle.sql_emit.proofs.Tools.{and_left, and_right, and_assoc, and_true, same_true, same_false, list_all_at}
+use Rattle.sql_emit.proofs.Tools.{and_assoc, and_true, same_true, same_false}
 
 -- ---- types
 

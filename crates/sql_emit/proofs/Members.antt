@@ -14,6 +14,7 @@ use Rattle.qbs_base.proofs.Order.{all_kept}
 use Rattle.tor_terms.specs.declared.term.Operand.{Operand}
 use Rattle.tor_terms.specs.Truth.{same_variant, is_member, same_bool}
 use Rattle.kernel_lang.specs.Fitting.{is_of}
+use Rattle.kernel_lang.proofs.Listing.{some_eq}
 use Rattle.sql_ast.specs.declared.tree.SqlCol.{SqlCol}
 use Rattle.sql_ast.specs.declared.tree.SqlItem.TheVariants as items
 use Rattle.sql_ast.specs.Meaning.{Combination, Answered, Rows, One, TooLarge, column_of, operand_of, turned_if, truth_of, passes, product, true_ones, plain_row, listing_rows, query_answer}
@@ -26,7 +27,7 @@ use Rattle.sql_emit.specs.Given.{IsKnownQuery, AreKnown, known_type, values_at, 
 use Rattle.sql_emit.proofs.Known.{AreThere, cell_in, found_same, any_rows}
 use Rattle.sql_emit.proofs.Rows.{IsScalarOf, entry_typed}
 use Rattle.sql_emit.proofs.Tables.{TypedFor, product_typed, col_typed}
-use Rattle.sql_emit.proofs.Tools.{any_map, same_true, same_false, some_eq}
+use Rattle.sql_emit.proofs.Tools.{any_map, same_true, same_false}
 
 -- ---- a known query and its list, by number
 

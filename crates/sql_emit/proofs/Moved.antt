@@ -29,7 +29,8 @@ use Rattle.sql_ast.specs.Valid.{AreItems, IsColOf, IsOpndOf, IsConditionOf, IsFi
 use Rattle.sql_emit.specs.Emitted.{moved_col, entry_param, moved_opnd, moved, moved_filter}
 use Rattle.sql_emit.specs.Given.{AreCounted, FilterIsCounted}
 use Rattle.sql_emit.proofs.Grammar.{HasType, IsCompared, IsWithin, Good, GoodFilter}
-use Rattle.sql_emit.proofs.Tools.{and_left, and_right, eq_true, eq_itself, some_eq, lt_of}
+use Rattle.sql_emit.proofs.Tools.{eq_true, eq_itself, lt_of}
+use Rattle.kernel_lang.proofs.Listing.{and_left, and_right, some_eq}
 
 pub behind : {X : Type 0} (c d : List X) (i : ℕ) → slice_get (c ++ d) (length c + i) ≡ slice_get d i
 behind [] d i = let e : 0 + i ≡ i = omega arith in ap (slice_get d) e

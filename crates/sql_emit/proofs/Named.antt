@@ -21,7 +21,8 @@ use Rattle.sql_ast.specs.Typing.{ty_of_column, ty_of_col}
 use Rattle.sql_ast.specs.Valid.{IsWord, IsFromItem, IsColOf}
 use Rattle.sql_emit.specs.Scopes.{column}
 use Rattle.sql_emit.specs.Scopes as scopes
-use Rattle.sql_emit.proofs.Tools.{some_eq, all_at, get_map, lt_true}
+use Rattle.sql_emit.proofs.Tools.{get_map, lt_true}
+use Rattle.kernel_lang.proofs.Listing.{all_at, some_eq}
 
 -- ---- words
 

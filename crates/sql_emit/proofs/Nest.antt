@@ -16,6 +16,7 @@ use Rattle.tor_terms.specs.Value.{here, walked, paired, joined, value}
 use Rattle.kernel_lang.specs.declared.parts.ListDef.{ListDef}
 use Rattle.kernel_lang.specs.Given.{before as rows_before, cut as cut_rows, list_at}
 use Rattle.kernel_lang.specs.Postcondition.{nest_ones, nest_walks, body}
+use Rattle.kernel_lang.proofs.Listing.{and_left, and_right}
 use Rattle.sql_ast.specs.declared.tree.FromItem.{FromItem}
 use Rattle.sql_ast.specs.Meaning.{Place, Combination, row_of, places_of, cut}
 use Rattle.sql_ast.proofs.Combinations.{all_map, all_flat_map}
@@ -23,7 +24,7 @@ use Rattle.sql_emit.specs.Scopes.{Ground, numbered, number_in, def_of, list_of, 
 use Rattle.sql_emit.proofs.Chosen.{by_row, by_row_order, sorted_places, chosen, all_sorted}
 use Rattle.sql_emit.proofs.Rows.{columns_at}
 use Rattle.sql_emit.proofs.Tables.{IsRowAt, TypedFor, all_places}
-use Rattle.sql_emit.proofs.Tools.{map_map, map_flat_map, flat_map_map, flat_map_agree, filter_of_map, take_map, without_places, all_take, eq_true, lt_true, lt_of, and_left, and_right}
+use Rattle.sql_emit.proofs.Tools.{map_map, map_flat_map, flat_map_map, flat_map_agree, filter_of_map, take_map, without_places, all_take, eq_true, lt_true, lt_of}
 
 -- the places that a loop's list has
 abbrev pub seen_places : Ground → Database → ℕ → List Place

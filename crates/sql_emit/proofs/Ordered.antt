@@ -21,7 +21,8 @@ use Rattle.sql_ast.specs.Valid.{IsFilterOf}
 use Rattle.sql_emit.specs.Numbered.{opnd_uses, uses, filter_uses, entered, first_uses, number_among, renumbered_opnd, renumbered, renumbered_filter, type_of}
 use Rattle.sql_emit.proofs.Grammar.{HasType, Good, GoodFilter, IsOrder, place_of, filter_named, all_tys_same, all_fits}
 use Rattle.sql_emit.proofs.Numbering.{IsIn, uses_in}
-use Rattle.sql_emit.proofs.Tools.{or_left, or_right, eq_true, eq_itself, some_eq}
+use Rattle.sql_emit.proofs.Tools.{or_left, or_right, eq_true, eq_itself}
+use Rattle.kernel_lang.proofs.Listing.{some_eq}
 
 -- ---- the order is of distinct numbers
 

@@ -19,6 +19,7 @@ use Rattle.kernel_lang.specs.Plain.{Fragment}
 use Rattle.kernel_lang.specs.Pools.{Member, members}
 use Rattle.kernel_lang.specs.Sentences.{IsValid}
 use Rattle.kernel_lang.specs.Validity.{is_field, operand_is_there, atom_is_there, atoms_are_there}
+use Rattle.kernel_lang.proofs.Listing.{and_left, and_right, list_all_at}
 use Rattle.sql_ast.specs.declared.tree.FromItem.{FromItem}
 use Rattle.sql_ast.specs.declared.tree.SqlOpnd.{SqlOpnd}
 use Rattle.sql_ast.specs.declared.tree.SqlOpnd.TheVariants as opnds
@@ -33,7 +34,7 @@ use Rattle.sql_emit.specs.Emitted.{side, less_test, greater_test, signed, args_o
 use Rattle.sql_emit.specs.Given.{IsKnownQuery, AreKnown}
 use Rattle.sql_emit.specs.Numbered.{filter_in}
 use Rattle.sql_emit.proofs.Numbering.{OpndParam, EachParam, FilterParam}
-use Rattle.sql_emit.proofs.Tools.{and_left, and_right, list_all_at, lt_of}
+use Rattle.sql_emit.proofs.Tools.{lt_of}
 
 -- an entry with a value
 abbrev pub HasValue : List Scalar → ℕ → Type 0

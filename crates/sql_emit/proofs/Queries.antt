@@ -40,7 +40,7 @@ use Rattle.sql_emit.specs.Numbered.{filter_uses}
 use Rattle.sql_emit.proofs.Literals.{OneType, one_type}
 use Rattle.sql_emit.proofs.Named.{is_position}
 use Rattle.sql_emit.proofs.Rows.{place_typed}
-use Rattle.sql_emit.proofs.Tools.{and_left, and_right, all_at, list_all_at, eq_true, length_map}
+use Rattle.sql_emit.proofs.Tools.{eq_true, length_map}
 use Rattle.std.specs.List.{flat_map}
 use Rattle.kernel_lang.specs.Fitting.{Place, element_places, atom_places, key_places}
 use Rattle.kernel_lang.specs.Pools.{members_from}
@@ -51,6 +51,7 @@ use Rattle.sql_ast.specs.Typing.{is_of}
 use Rattle.sql_ast.specs.Valid.{IsKeyOf, IsLimit, IsQueryOf}
 use Rattle.kernel_lang.specs.Validity.{is_small, pool_is_small, rises, is_flag, names_a_flag, is_mark, loops_are_few, broken, starts_as}
 use Rattle.kernel_lang.proofs.Sentences.{valid as valid_of}
+use Rattle.kernel_lang.proofs.Listing.{all_at, and_left, and_right, and_three, list_all_at}
 use Rattle.tor_terms.specs.Same.{same_numbers}
 use Rattle.sql_emit.specs.Emitted.{key, position_key, keys, sorted_limit, limit_of, item, rows_query, values_query, number_query, best_kind, query_by, query_of}
 use Rattle.sql_emit.specs.Numbered.{first_uses, renumbered_filter, with_filter, type_of, in_order}
@@ -64,7 +65,7 @@ use Rattle.sql_emit.proofs.Ordered.{IsNumbered, is_numbered}
 use Rattle.sql_emit.proofs.Params.{where_param, filter_is}
 use Rattle.sql_emit.proofs.Suited.{loops_few}
 use Rattle.sql_emit.proofs.Tools.{get_map}
-use Rattle.sql_emit.proofs.Valid.{and_three, IsValidMember, all_members, member_at, chain_parts, chain_there, pool_within, element_in, in_parts}
+use Rattle.sql_emit.proofs.Valid.{IsValidMember, all_members, member_at, chain_parts, chain_there, pool_within, element_in, in_parts}
 
 -- ---- lists of loops
 

@@ -17,11 +17,11 @@ use Rattle.kernel_lang.specs.declared.parts.ListDef.{ListDef}
 use Rattle.kernel_lang.specs.Fitting.{is_of}
 use Rattle.kernel_lang.specs.Plain.{Fragment}
 use Rattle.kernel_lang.specs.Typed.{column_type, table_column, list_column, place_type, scalar_type, operand_type}
+use Rattle.kernel_lang.proofs.Listing.{some_eq}
 use Rattle.sql_ast.specs.declared.tree.SqlColumn.TheVariants as columns
 use Rattle.sql_ast.specs.Meaning.{Place, Combination, nth, cell_of, column_of, operand_of, row_of, plain_row}
 use Rattle.sql_emit.specs.Scopes.{Ground, Scope, number_in, def_of, list_of, columns_of, name_of, column}
 use Rattle.sql_emit.specs.Emitted.{side}
-use Rattle.sql_emit.proofs.Tools.{some_eq}
 
 -- a scalar of the variant of a type
 pub record IsScalarOf (ty : Ty) (o : Option Scalar) : Type 0 where

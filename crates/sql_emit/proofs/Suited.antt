@@ -10,12 +10,13 @@ use Rattle.kernel_lang.specs.Plain.{Accumulator, Fragment}
 use Rattle.kernel_lang.specs.Pools.{Member}
 use Rattle.kernel_lang.specs.Sentences.{AccumulatorIsValid, IsValid}
 use Rattle.kernel_lang.specs.Validity.{is_push, is_empty, is_sorted_and_cut, only_appends, loops_are_few, suits_the_lists}
+use Rattle.kernel_lang.proofs.Listing.{and_left, and_right, and_three}
 use Rattle.sql_emit.specs.Scopes.{Ground, def_of, list_of}
 use Rattle.sql_emit.proofs.Flags.{unlimited_lists, every_unlimited, two_lists, limits_hold}
 use Rattle.sql_emit.proofs.Limits.{Limited, Uncut}
 use Rattle.sql_emit.proofs.Nest.{list_there}
-use Rattle.sql_emit.proofs.Tools.{and_left, and_right, or_right}
-use Rattle.sql_emit.proofs.Valid.{and_three, IsValidMember, chain_parts, chain_there}
+use Rattle.sql_emit.proofs.Tools.{or_right}
+use Rattle.sql_emit.proofs.Valid.{IsValidMember, chain_parts, chain_there}
 
 cut_there : (ds : List ListDef) (j : ℕ) → nat_lt j (length ds) ≡ true → is_sorted_and_cut (def_of (slice_get ds j)) ≡ true → list_any is_sorted_and_cut ds ≡ true
 cut_there ds j h e = go ds j (def_of (slice_get ds j)) (list_there ds j h) e

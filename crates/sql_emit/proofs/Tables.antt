@@ -15,6 +15,7 @@ use Rattle.qbs_base.specs.Tables.{rows_of}
 use Rattle.qbs_base.proofs.Order.{all_more}
 use Rattle.kernel_lang.specs.Fitting.{is_of}
 use Rattle.kernel_lang.specs.Typed.{column_type}
+use Rattle.kernel_lang.proofs.Listing.{some_eq}
 use Rattle.sql_ast.specs.declared.tree.FromItem.{FromItem}
 use Rattle.sql_ast.specs.declared.tree.SqlCol.{SqlCol}
 use Rattle.sql_ast.specs.declared.tree.SqlColumn.{SqlColumn}
@@ -25,7 +26,6 @@ use Rattle.sql_ast.specs.Typing.{ty_of_column, ty_of_col}
 use Rattle.sql_ast.proofs.Combinations.{all_map, all_flat_map}
 use Rattle.sql_emit.specs.Scopes.{columns_of}
 use Rattle.sql_emit.proofs.Rows.{IsScalarOf, cell_typed}
-use Rattle.sql_emit.proofs.Tools.{some_eq}
 
 abbrev pub IsRowAt : Schema → ℕ → Row → Type 0
 IsRowAt schema n row = AreCells (columns_of (slice_get schema n)) row.cells

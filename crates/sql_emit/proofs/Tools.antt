@@ -6,16 +6,9 @@ use Rattle.std.proofs.lemmas.List.{map-append}
 use Rattle.std.proofs.lemmas.Bool.Decides.{nat_tests}
 use Rattle.qbs_base.specs.Folded.{is_some}
 use Rattle.tor_terms.specs.Truth.{same_bool}
+use Rattle.kernel_lang.proofs.Listing.{some_eq}
 
 -- ---- tests
-
-pub and_left : (a b : Bool) → (a && b) ≡ true → a ≡ true
-and_left true b h = refl
-and_left false b h = absurd cc
-
-pub and_right : (a b : Bool) → (a && b) ≡ true → b ≡ true
-and_right true b h = h
-and_right false b h = absurd cc
 
 pub or_right : (a b : Bool) → b ≡ true → (a || b) ≡ true
 or_right true b h = refl
@@ -61,19 +54,6 @@ pub lt_of : (m n : ℕ) → nat_lt m n ≡ true → m < n
 lt_of m n h = grind (arith, nat_tests)
 
 -- ---- options
-
-pub some_eq : {X : Type 0} (x y : X) → Some x ≡ Some y → x ≡ y
-some_eq x y e = ap (λ o. elim o [ Some z ↦ z | None ↦ x ]) e
-
-pub all_at : {X : Type 0} (P : X → Type 0) (xs : List X) (k : ℕ) (x : X) → AllByRecursion P xs → slice_get xs k ≡ Some x → P x
-all_at P [] k x h e = absurd cc
-all_at P (y ∷ ys) zero x h e = subst P (some_eq y x e) h.0
-all_at P (y ∷ ys) (suc k) x h e = all_at P ys k x h.1 e
-
-pub list_all_at : {X : Type 0} (test : X → Bool) (xs : List X) (k : ℕ) (x : X) → list_all test xs ≡ true → slice_get xs k ≡ Some x → test x ≡ true
-list_all_at test [] k x h e = absurd cc
-list_all_at test (y ∷ ys) zero x h e = subst (λ z. test z ≡ true) (some_eq y x e) (and_left (test y) (list_all test ys) h)
-list_all_at test (y ∷ ys) (suc k) x h e = list_all_at test ys k x (and_right (test y) (list_all test ys) h) e
 
 pub get_map : {X Y : Type 0} (f : X → Y) (xs : List X) (k : ℕ) (x : X) → slice_get xs k ≡ Some x → slice_get (map f xs) k ≡ Some (f x)
 get_map f [] k x e = absurd cc

@@ -19,6 +19,7 @@ use Rattle.kernel_lang.specs.Pools.{Member, members}
 use Rattle.kernel_lang.specs.Sentences.{IsValid}
 use Rattle.kernel_lang.specs.Validity.{broken, is_field, start_is_valid}
 use Rattle.kernel_lang.proofs.Sentences.{valid}
+use Rattle.kernel_lang.proofs.Listing.{all_at}
 use Rattle.sql_ast.specs.declared.tree.SqlOpnd.{SqlOpnd}
 use Rattle.sql_ast.specs.declared.tree.SqlOpnd.TheVariants as opnds
 use Rattle.sql_ast.specs.Meaning.{nth}
@@ -32,7 +33,6 @@ use Rattle.sql_emit.specs.Given.{LiteralIsUtf8, AtomIsUtf8, TextsAreUtf8, Querie
 use Rattle.sql_emit.specs.Numbered.{filter_in, filter_uses, first_uses, renumbered_opnd, renumbered, renumbered_filter, with_filter, type_of}
 use Rattle.sql_emit.proofs.Flags.{start_valid}
 use Rattle.sql_emit.proofs.Good.{all_both}
-use Rattle.sql_emit.proofs.Tools.{all_at}
 use Rattle.sql_emit.proofs.Valid.{IsValidMember, all_members}
 
 -- ---- conditions that are numbered on, or anew

@@ -12,15 +12,8 @@ use Rattle.kernel_lang.specs.Postcondition.{loops_of}
 use Rattle.kernel_lang.specs.Running.{layers, layers_of, outside, inside}
 use Rattle.kernel_lang.specs.Sentences.{AccumulatorIsValid, IsValid}
 use Rattle.kernel_lang.specs.Validity.{all_formulas, guard_all, loops_are_there, element_is_there, element_of, accumulator_is_there, chain_is_valid, rises, rises_after, guards_within, element_within, reads_its_chain, reads_no_flag, flag_is_quiet, formula_is_there}
-use Rattle.sql_emit.proofs.Tools.{and_left, and_right, or_right, eq_true, lt_of, some_eq}
-
-pub and_three : (a b c : Bool) → (a && b && c) ≡ true → (a ≡ true) × (b ≡ true) × (c ≡ true)
-and_three a b c h = (and_left a b (and_left (a && b) c h), and_right a b (and_left (a && b) c h), and_right (a && b) c h)
-
-pub and_four : (a b c d : Bool) → (a && b && c && d) ≡ true → (a ≡ true) × (b ≡ true) × (c ≡ true) × (d ≡ true)
-and_four a b c d h =
-    let k = and_three a b c (and_left (a && b && c) d h) in
-    (k.0, k.1, k.2, and_right (a && b && c) d h)
+use Rattle.kernel_lang.proofs.Listing.{and_four, and_left, and_right, and_three, some_eq}
+use Rattle.sql_emit.proofs.Tools.{or_right, eq_true, lt_of}
 
 -- ---- members
 

@@ -26,6 +26,7 @@ use Rattle.kernel_lang.specs.Running.{Layer, outside, inside, placed, is_set}
 use Rattle.kernel_lang.specs.Sentences.{IsValid}
 use Rattle.kernel_lang.specs.Typed.{operand_type, same_type, atom_is_typed, is_typed}
 use Rattle.kernel_lang.specs.Validity.{is_field, is_mark, is_flag, names_a_flag, is_no_flag, reads_no_flag, start_is_valid}
+use Rattle.kernel_lang.proofs.Listing.{all_at, and_right, and_three, list_all_at}
 use Rattle.sql_ast.specs.Meaning.{Combination, truth_of, passes, product, row_of}
 use Rattle.sql_ast.specs.Tree.{PlainQuery}
 use Rattle.sql_emit.specs.Scopes.{Ground, ground, Scope, numbered, number_in, outermost, inner, list_of, from_item, from_items}
@@ -38,8 +39,8 @@ use Rattle.sql_emit.proofs.Members.{known_at, within_known}
 use Rattle.sql_emit.proofs.Nest.{ListsAre, lists_are, tuple_of, same_row, tuple_front, drop_front, body_is, seen, rows_typed, seen_typed, typed_length}
 use Rattle.sql_emit.proofs.Rows.{RowsTyped, Sees, columns_at, side_is, operand_typed}
 use Rattle.sql_emit.proofs.Tables.{TypedFor}
-use Rattle.sql_emit.proofs.Tools.{and_right, all_at, list_all_at, any_agree_on, any_is_some, some_map, length_map}
-use Rattle.sql_emit.proofs.Valid.{and_three, IsValidMember, all_members, member_at, outside_loops, inside_loops, chain_parts, chain_there, pool_within, pool_quiet, apart, in_parts}
+use Rattle.sql_emit.proofs.Tools.{any_agree_on, any_is_some, some_map, length_map}
+use Rattle.sql_emit.proofs.Valid.{IsValidMember, all_members, member_at, outside_loops, inside_loops, chain_parts, chain_there, pool_within, pool_quiet, apart, in_parts}
 use Rattle.sql_emit.proofs.Flags.{typed_tests, some_flag, mark_of, same_numbers-true, false_start, start_valid, some_not_empty, marked, placed_at, here_at, not_here, number_behind, in_loops, bool_cases, unlimited_lists, every_unlimited, two_loops, two_lists, limits_hold, flags_named, all_drop, drop_some}
 
 module _ (schema : Schema) (f : Fragment) (cand : List ℕ) (known : List PlainQuery) (args : List (List ℕ)) (valid : IsValid f) (typed : is_typed schema f ≡ true) (are : AreKnownTo schema f known args)

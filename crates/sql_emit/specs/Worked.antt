@@ -14,7 +14,7 @@ use Rattle.tor_terms.specs.declared.term.Way.TheVariants as ways
 use Rattle.tor_terms.specs.Plain.{Form, Is, Both, Either}
 use Rattle.kernel_lang.specs.declared.parts.Update.TheVariants as updates
 use Rattle.kernel_lang.specs.Plain.{Fragment}
-use Rattle.kernel_lang.specs.Worked.{long, all_of, from_one, over_one, class_A, class_B, class_C, class_D, class_E, class_F, class_H, class_J, class_V, two_conjuncts, three_loops, flag_under_a_guard, name_set}
+use Rattle.kernel_lang.specs.Worked.{long, all_of, from_one, over_one, class_A, class_B, class_C, class_D, class_E, class_F, class_H, class_J, class_V, role_flag, two_conjuncts, three_loops, flag_under_a_guard, name_set}
 use Rattle.sql_ast.specs.declared.tree.Cmp.TheVariants as tests
 use Rattle.sql_ast.specs.declared.tree.SqlColumn.TheVariants as columns
 use Rattle.sql_ast.specs.declared.tree.SqlItem.TheVariants as items
@@ -122,15 +122,7 @@ flag_in_its_nest =
             opposite = false;
             pool = Is 1 true ∷ Is 1 false ∷ Is 0 false ∷ [];
           }
-          ∷ record {
-            chain = 0 ∷ 1 ∷ [];
-            base = 1;
-            guards = None ∷ Some (Is 0 true) ∷ [];
-            update = updates.Mark;
-            start = Some (scalars.Bool false);
-            opposite = false;
-            pool = Is 0 true ∷ Is 0 false ∷ [];
-          }
+          ∷ role_flag
           ∷ [];
       entries = [];
       known = 0;

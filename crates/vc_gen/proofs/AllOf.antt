@@ -55,18 +55,3 @@ all_map P Q g f (x ∷ xs) h = (f x h.0, all_map P Q g f xs h.1)
 pub all_flat : {X Y : Type 0} (P : Y → Type 0) (g : X → List Y) (xs : List X) → AllByRecursion P (flat_map g xs) → AllByRecursion (λ x. AllByRecursion P (g x)) xs
 all_flat P g [] h = tt
 all_flat P g (x ∷ xs) h = (all_left P (g x) (flat_map g xs) h, all_flat P g xs (all_right P (g x) (flat_map g xs) h))
-
--- ---- members of lists by number
-
-pub some_eq : {X : Type 0} (x y : X) → Some x ≡ Some y → x ≡ y
-some_eq x y e = ap (λ o. elim o [ Some z ↦ z | None ↦ x ]) e
-
-pub all_at : {X : Type 0} (P : X → Type 0) (xs : List X) (k : ℕ) (x : X) → AllByRecursion P xs → slice_get xs k ≡ Some x → P x
-all_at P [] k x h e = absurd cc
-all_at P (y ∷ ys) zero x h e = subst P (some_eq y x e) h.0
-all_at P (y ∷ ys) (suc k) x h e = all_at P ys k x h.1 e
-
-pub list_all_at : {X : Type 0} (test : X → Bool) (xs : List X) (k : ℕ) (x : X) → list_all test xs ≡ true → slice_get xs k ≡ Some x → test x ≡ true
-list_all_at test [] k x h e = absurd cc
-list_all_at test (y ∷ ys) zero x h e = subst (λ z. test z ≡ true) (some_eq y x e) (and_left (test y) (list_all test ys) h)
-list_all_at test (y ∷ ys) (suc k) x h e = list_all_at test ys k x (and_right (test y) (list_all test ys) h) e

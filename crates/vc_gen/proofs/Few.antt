@@ -18,8 +18,8 @@ use Rattle.kernel_lang.specs.Running.{Layer, layers, layers_of, outside, inside}
 use Rattle.kernel_lang.specs.Sentences.{AccumulatorIsValid, IsValid}
 use Rattle.kernel_lang.specs.Validity.{broken, rises, chain_is_valid, level_conditions, count_levels, count_ways, count_own, count_conditions, conditions_are_few}
 use Rattle.kernel_lang.proofs.Sentences.{valid}
+use Rattle.kernel_lang.proofs.Listing.{and_four}
 use Rattle.vc_gen.specs.Conditions.{by_paths, true_steps, false_steps, exit, at_level, level, conditions_in, ways_through, own_conditions, all_conditions, conditions}
-use Rattle.vc_gen.proofs.Fit.{and_four}
 
 one_more : (m n : ℕ) → n + m * n ≡ suc m * n
 one_more m n = let e : suc m * n ≡ m * n + n = suc-mul m n in omega (arith, e)

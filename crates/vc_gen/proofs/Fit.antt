@@ -15,17 +15,10 @@ use Rattle.kernel_lang.specs.Postcondition.{loops_of}
 use Rattle.kernel_lang.specs.Running.{Layer, layers, layers_of, outside, inside}
 use Rattle.kernel_lang.specs.Sentences.{AccumulatorIsValid}
 use Rattle.kernel_lang.specs.Validity.{guard_all, all_formulas, chain_is_valid, rises, rises_after, guards_within, element_within, element_of, reads_its_chain, reads_no_flag, flag_is_quiet, is_mark}
+use Rattle.kernel_lang.proofs.Listing.{and_three, and_four}
 use Rattle.vc_gen.proofs.Scope.{IsNew, Chain}
 use Rattle.vc_gen.proofs.Levels.{ReadsAmong}
 use Rattle.vc_gen.proofs.Tables.{Quiet}
-
-pub and_three : (a b c : Bool) → (a && b && c) ≡ true → (a ≡ true) × (b ≡ true) × (c ≡ true)
-and_three a b c h = (and_left a b (and_left (a && b) c h), and_right a b (and_left (a && b) c h), and_right (a && b) c h)
-
-pub and_four : (a b c d : Bool) → (a && b && c && d) ≡ true → (a ≡ true) × (b ≡ true) × (c ≡ true) × (d ≡ true)
-and_four a b c d h =
-    let k = and_three a b c (and_left (a && b && c) d h) in
-    (k.0, k.1, k.2, and_right (a && b && c) d h)
 
 pub lt_from : (m n : ℕ) → nat_lt m n ≡ true → m < n
 lt_from m n e = grind (arith, nat_tests)

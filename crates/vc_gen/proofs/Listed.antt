@@ -29,9 +29,8 @@ use Rattle.kernel_lang.specs.Postcondition.{loops_of, nest_walks, body, start_te
 use Rattle.kernel_lang.specs.Running.{Layer, outside, inside, placed, passes, started}
 use Rattle.kernel_lang.specs.Validity.{is_mark, is_flag, flags_are_flags, guard_all}
 use Rattle.kernel_lang.proofs.EndSets.{same_cells-true, same_cells-self}
+use Rattle.kernel_lang.proofs.Listing.{and_three, some_eq}
 use Rattle.vc_gen.proofs.Alike.{at, AtomAgrees, FlagsAgree, form_same}
-use Rattle.vc_gen.proofs.AllOf.{some_eq}
-use Rattle.vc_gen.proofs.Fit.{and_three}
 use Rattle.vc_gen.proofs.Flags.{GuardsAgree, same_run, loops_append, same_numbers-true}
 use Rattle.vc_gen.proofs.Levels.{AllPass, among_current}
 use Rattle.vc_gen.proofs.Reading.{flag_named}

@@ -14,9 +14,9 @@ use Rattle.kernel_lang.specs.Pools.{Member, chosen, members_from}
 use Rattle.kernel_lang.specs.Postcondition.{postcondition, with_choices, claimed, claims, all_claimed}
 use Rattle.kernel_lang.specs.Running.{layers_of, placed, source_value, accumulated, ends_as, and_then, ends, all_end}
 use Rattle.kernel_lang.specs.Sentences.{AccumulatorIsValid, IsValid}
+use Rattle.kernel_lang.proofs.Listing.{some_eq}
 use Rattle.vc_gen.proofs.Whole.{EndsWith}
 use Rattle.vc_gen.proofs.Tables.{EndsAt, IsShown}
-use Rattle.vc_gen.proofs.AllOf.{some_eq}
 use Rattle.vc_gen.proofs.Fit.{layers_chain, cut_chain}
 use Rattle.vc_gen.proofs.Guards.{member-ends}
 use Rattle.vc_gen.proofs.Reading.{MembersAreShown, all_may_read}

@@ -15,10 +15,10 @@ use Rattle.kernel_lang.specs.Postcondition.{loops_of}
 use Rattle.kernel_lang.specs.Running.{Layer, layer, layers, layers_of}
 use Rattle.kernel_lang.specs.Sentences.{AccumulatorIsValid, IsValid}
 use Rattle.kernel_lang.specs.Validity.{is_mark, is_flag, names_a_flag, flags_are_flags, guard_on_spine, same_guard, same_guards, flag_may_be_read, atom_may_be_read, part_may_be_read, guard_may_be_read, guards_may_be_read, reads_flags_in_place}
+use Rattle.kernel_lang.proofs.Listing.{all_at, and_four, and_three, list_all_at}
 use Rattle.vc_gen.proofs.Flags.{same_form-true, same_numbers-true}
 use Rattle.vc_gen.proofs.Tables.{IsShown}
-use Rattle.vc_gen.proofs.Fit.{and_three, and_four, loops_layers, outside_loops, base_below, mark_of, flag_quiet}
-use Rattle.vc_gen.proofs.AllOf.{all_at, list_all_at}
+use Rattle.vc_gen.proofs.Fit.{loops_layers, outside_loops, base_below, mark_of, flag_quiet}
 use Rattle.vc_gen.proofs.Guards.{spine_of, MayRead, AtomMayRead, FormMayRead, GuardMayRead, LayersMayRead}
 
 same_guard-true : (g h : Option Form) → same_guard g h ≡ true → g ≡ h

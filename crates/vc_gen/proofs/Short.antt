@@ -13,10 +13,11 @@ use Rattle.kernel_lang.specs.Sentences.{AccumulatorIsValid, IsValid}
 use Rattle.kernel_lang.specs.Validity.{broken, rises, chain_is_valid}
 use Rattle.kernel_lang.proofs.Sentences.{valid}
 use Rattle.kernel_lang.proofs.PoolSizes.{combined_small}
+use Rattle.kernel_lang.proofs.Listing.{and_four}
 use Rattle.vc_gen.specs.declared.level.Level.{Level}
 use Rattle.vc_gen.specs.Levels.{layer_seen, layers_seen}
 use Rattle.vc_gen.specs.Short.{AllShort}
-use Rattle.vc_gen.proofs.Fit.{and_four, loops_layers}
+use Rattle.vc_gen.proofs.Fit.{loops_layers}
 
 le_from : (m n : ℕ) → nat_le m n ≡ true → m ≤ n
 le_from m n e = grind (arith, nat_tests)

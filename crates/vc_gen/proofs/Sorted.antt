@@ -28,9 +28,10 @@ use Rattle.kernel_lang.specs.declared.parts.Update.TheVariants.{Push, PushNew, T
 use Rattle.kernel_lang.specs.Fitting.{is_of}
 use Rattle.kernel_lang.specs.Postcondition.{nest_walks, nest_ones, body, val, effect}
 use Rattle.kernel_lang.specs.Validity.{element_of, element_within, takes_a_column}
+use Rattle.kernel_lang.proofs.Listing.{all_at}
 use Rattle.vc_gen.proofs.Scope.{IsNew}
 use Rattle.vc_gen.proofs.Uses.{AllCurrent, IndexOf}
-use Rattle.vc_gen.proofs.AllOf.{all_append, all_left, all_right, all_map, all_take, all_filter, all_test, all_at}
+use Rattle.vc_gen.proofs.AllOf.{all_append, all_left, all_right, all_map, all_take, all_filter, all_test}
 use Rattle.vc_gen.proofs.Levels.{among_current}
 use Rattle.vc_gen.proofs.Shapes.{AllElements, IsElement, IsNumeral, IsVerdict, inserted_elements, first_elements, rows_of_elements, all_elements, added_number, total_number, picked_numeral, best_number, either_truth_of, taken_number, numeral_is_number}
 use Rattle.vc_gen.proofs.Tuples.{In, Of, walked_of, of_row, walks_of, ones_of}

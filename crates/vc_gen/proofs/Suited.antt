@@ -26,14 +26,16 @@ use Rattle.kernel_lang.specs.declared.parts.ListDef.{ListDef}
 use Rattle.kernel_lang.specs.declared.parts.Update.{Update}
 use Rattle.kernel_lang.specs.declared.parts.Update.TheVariants.{Push, PushNew, Tick, Plus, Best, Mark}
 use Rattle.kernel_lang.specs.Fitting.{key_places, atom_places, element_places, is_of, table_at, ColumnFits, UpdateFits, PartsFit}
-use Rattle.kernel_lang.specs.Given.{rows_of, before, listed, list_at, world_given}
+use Rattle.qbs_base.specs.Tables.{rows_of}
+use Rattle.kernel_lang.specs.Given.{before, listed, list_at, world_given}
 use Rattle.kernel_lang.specs.Plain.{Accumulator, Fragment}
 use Rattle.kernel_lang.specs.Pools.{chosen}
 use Rattle.kernel_lang.specs.Sentences.{AccumulatorIsValid}
 use Rattle.kernel_lang.specs.Validity.{all_formulas, formula_is_there, loops_are_there, element_is_there, accumulator_is_there, chain_is_valid, rises, rises_after, guards_within, element_of, element_within, reads_its_chain, start_is_valid, takes_a_column, starts_rightly, loops_are_few, suits_the_lists}
 use Rattle.kernel_lang.proofs.Runs.{all_sorted, all_cut}
+use Rattle.kernel_lang.proofs.Listing.{and_four, and_three}
 use Rattle.vc_gen.proofs.Scope.{IsNew}
-use Rattle.vc_gen.proofs.Fit.{and_three, and_four, lt_from}
+use Rattle.vc_gen.proofs.Fit.{lt_from}
 use Rattle.vc_gen.proofs.Sorted.{Differ, ElementFits, NumbersFit, CountsOne, lists_in, Suits}
 use Rattle.vc_gen.proofs.AllOf.{all_right, all_from, tests_all, all_flat}
 

@@ -30,7 +30,8 @@ use Rattle.java_mean.proofs.Puts.{names_equal, put_same, put_other}
 use Rattle.java_loops.specs.Walks.Runs as runs
 use Rattle.java_loops.specs.Walks.Runs.{made, ran}
 use Rattle.java_loops.proofs.Walks.Passing.{Went, went, same_ok, run_store}
-use Rattle.kernel_lang.specs.Given.{rows_of, before, cut, listed}
+use Rattle.qbs_base.specs.Tables.{rows_of}
+use Rattle.kernel_lang.specs.Given.{before, cut, listed}
 use Rattle.loop_text.specs.Statements.Fragment.{are_simple}
 use Rattle.loop_text.specs.Kernel.KernelLists.{Source, has_keys, is_sorted, fetched, sorted_by, source_after, source_past, source_in}
 use Rattle.loop_text.specs.Kernel.KernelLoop.{counting_in, limit_of}

@@ -23,7 +23,8 @@ use Rattle.tor_terms.specs.Value.{only_number}
 use Rattle.kernel_lang.specs.declared.parts.Update.{Update}
 use Rattle.kernel_lang.specs.declared.parts.Update.TheVariants as updates
 use Rattle.kernel_lang.specs.declared.parts.ListDef.{ListDef}
-use Rattle.kernel_lang.specs.Given.{rows_of, list_at}
+use Rattle.qbs_base.specs.Tables.{rows_of}
+use Rattle.kernel_lang.specs.Given.{list_at}
 use Rattle.kernel_lang.specs.Running.{layer, layers_of}
 use Rattle.kernel_lang.specs.Plain.{Accumulator}
 use Rattle.kernel_lang.specs.Worked.{all_of}

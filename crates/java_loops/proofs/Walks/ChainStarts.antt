@@ -30,7 +30,8 @@ use Rattle.kernel_lang.specs.declared.parts.ListDef.{ListDef}
 use Rattle.kernel_lang.specs.declared.parts.Update.{Update}
 use Rattle.kernel_lang.specs.declared.parts.Update.TheVariants as updates
 use Rattle.kernel_lang.specs.Fitting.{Place, operand_places, atom_places, element_places, is_of, table_at, ColumnFits, AtomFits, UpdateFits}
-use Rattle.kernel_lang.specs.Given.{rows_of, before, cut, list_at, world_given}
+use Rattle.qbs_base.specs.Tables.{rows_of}
+use Rattle.kernel_lang.specs.Given.{before, cut, list_at, world_given}
 use Rattle.kernel_lang.specs.Plain.{Fragment}
 use Rattle.kernel_lang.specs.Running.{Layer, started}
 use Rattle.kernel_lang.specs.Validity.{element_of, start_is_valid}

@@ -11,34 +11,7 @@ ghost use Rattle.tor_terms.specs.Same as same;
 use super::loops::first_loops;
 use super::starts::is_mark;
 use crate::parts::{Acc, Parts};
-use tor_terms::{Atom, Formula};
-
-fn same_numbers(a: &[u32], b: &[u32]) -> bool
-    ensures { result ≡ same.same_numbers a.now b.now }
-{
-    match (a.split_first(), b.split_first()) {
-        (None, None) => true,
-        (Some((x, rest)), Some((y, others))) => *x == *y && same_numbers(rest, others),
-        _ => false,
-    }
-}
-
-fn same_truth(s: bool, t: bool) -> bool
-    ensures { result ≡ same.same_flag s t }
-{
-    s == t
-}
-
-pub fn same_formula(f: &Formula, g: &Formula) -> bool
-    ensures { result ≡ same.same_form (form_of f.now) (form_of g.now) }
-{
-    match (f, g) {
-        (Formula::Is(i, s), Formula::Is(j, t)) => *i == *j && same_truth(*s, *t),
-        (Formula::Both(f, g), Formula::Both(h, i)) => same_formula(f, h) && same_formula(g, i),
-        (Formula::Either(f, g), Formula::Either(h, i)) => same_formula(f, h) && same_formula(g, i),
-        _ => false,
-    }
-}
+use tor_terms::{Atom, Formula, same_formula, same_numbers};
 
 // The accumulator with that number.
 #[tactic(auto, using(crate::proofs::Mapped::mapped))]

@@ -9,7 +9,7 @@ ghost use Rattle.tor_terms.specs.Truth as truth;
 
 use super::names::element_of;
 use crate::parts::{Acc, Parts};
-use tor_terms::{Atom, Elem, Formula, Operand};
+use tor_terms::{Atom, Elem, Formula, formula_within, has_loop};
 
 fn rises_after(first: u32, rest: &[u32]) -> bool
     ensures { result ≡ spec.rises_after first rest.now }
@@ -37,64 +37,6 @@ pub fn chain_is_valid(a: &Acc) -> bool
 {
     let count = a.chain.len();
     count <= 3 && rises(a.chain.as_slice()) && (a.base as usize) < count && a.guards.len() == count
-}
-
-fn has_loop(loops: &[u32], j: u32) -> bool
-    ensures { result ≡ truth.has_loop loops.now j }
-{
-    loops.iter().any(|k| *k == j)
-}
-
-fn has_loops(loops: &[u32], own: &[u32]) -> bool
-    ensures { result ≡ truth.has_loops loops.now own.now }
-{
-    own.iter().all(|j| has_loop(loops, *j))
-}
-
-fn operand_within(loops: &[u32], operand: &Operand) -> bool
-    ensures { result ≡ truth.operand_within loops.now operand.now }
-{
-    match operand {
-        Operand::Field(j, _) => has_loop(loops, *j),
-        Operand::Entry(_) => true,
-        Operand::Lit(_) => true,
-    }
-}
-
-fn atom_within(loops: &[u32], atom: &Atom) -> bool
-    ensures { result ≡ truth.atom_within loops.now atom.now }
-{
-    match atom {
-        Atom::Less(a, b) => operand_within(loops, a) && operand_within(loops, b),
-        Atom::Same(a, b) => operand_within(loops, a) && operand_within(loops, b),
-        Atom::Truth(a) => operand_within(loops, a),
-        Atom::Member(a, _) => operand_within(loops, a),
-        Atom::Flag(_, own) => has_loops(loops, own.as_slice()),
-    }
-}
-
-fn known_within(atoms: &[Atom], loops: &[u32], k: u32) -> bool
-    ensures { result ≡ truth.known_within loops.now (slice_get atoms.now k) }
-{
-    match atoms.get(k as usize) {
-        None => false,
-        Some(atom) => atom_within(loops, atom),
-    }
-}
-
-/// Whether the atoms of a formula are there, and all their loops among these.
-pub fn formula_within(atoms: &[Atom], loops: &[u32], f: &Formula) -> bool
-    ensures { result ≡ truth.form_within atoms.now loops.now (form_of f.now) }
-{
-    match f {
-        Formula::Is(k, _) => known_within(atoms, loops, *k),
-        Formula::Both(f, g) => {
-            formula_within(atoms, loops, f) && formula_within(atoms, loops, g)
-        }
-        Formula::Either(f, g) => {
-            formula_within(atoms, loops, f) && formula_within(atoms, loops, g)
-        }
-    }
 }
 
 fn guard_within(atoms: &[Atom], loops: &[u32], guard: &Option<Formula>) -> bool
