@@ -11,7 +11,7 @@ use Rattle.qbs_base.specs.declared.memory.Fail.{Fail}
 use Rattle.qbs_base.specs.declared.memory.Fail.TheVariants as fails
 use Rattle.deriv_check.specs.declared.fault.BundleFault.{BundleFault}
 use Rattle.deriv_check.specs.Grammar.{IsOffset}
-use Rattle.deriv_check.specs.Answers.{IsOnly, IsRightFault, left_of, Answers}
+use Rattle.deriv_check.specs.Answers.{IsOnly, IsRightFault, left_of, AnswersAt}
 use Rattle.deriv_check.specs.Reading.{Reader}
 use Rattle.deriv_check.proofs.Exact.{IsText, Exact}
 use Rattle.readers.proofs.Shallow.{whole_shallow}
@@ -74,16 +74,16 @@ module _ {A : Type 0} {text : A → List ℕ} {fits : A → Type 0} {F : List �
   -- ---- what is answered of it
 
   module _ {X : Type 0} (view : X → A) (ts : List ℕ) where
-    pub answer_found : (a : Result X (Fail BundleFault)) → Answers view (length ts) a (whole r ts) → IfOk a (λ x. IsText text fits ts (view x))
+    pub answer_found : (a : Result X (Fail BundleFault)) → AnswersAt view (length ts) a (whole r ts) → IfOk a (λ x. IsText text fits ts (view x))
     answer_found (Ok x) is = all_found ts (view x) is
     answer_found (Err f) is = tt
 
-    pub answer_only : (a : Result X (Fail BundleFault)) → Answers view (length ts) a (whole r ts) → (x : A) → IsText text fits ts x → IsOnly view a x
+    pub answer_only : (a : Result X (Fail BundleFault)) → AnswersAt view (length ts) a (whole r ts) → (x : A) → IsText text fits ts x → IsOnly view a x
     answer_only (Ok y) is x h = same_ok (view y) x (sym is ∙ all_read ts x h)
     answer_only (Err (fails.Fault fault)) is x h = clash is.0 x (sym is.1 ∙ all_read ts x h)
     answer_only (Err fails.NoMemory) is x h = tt
 
-    pub answer_fault : (a : Result X (Fail BundleFault)) → Answers view (length ts) a (whole r ts) → IfErr a (IsRightFault (IsText text fits) ts)
+    pub answer_fault : (a : Result X (Fail BundleFault)) → AnswersAt view (length ts) a (whole r ts) → IfErr a (IsRightFault (IsText text fits) ts)
     answer_fault (Ok x) is = tt
     answer_fault (Err (fails.Fault fault)) is = subst (λ (n : ℕ). IsOffset (IsText text fits) ts n) (sym is.2) (all_fault ts is.0 is.1)
     answer_fault (Err fails.NoMemory) is = tt

@@ -23,7 +23,7 @@ abbrev pub left_of : Fault → ℕ
 left_of (Unexpected n) = n
 left_of (TooDeep n) = n
 
-abbrev pub Answers : {X A : Type 0} → (X → A) → ℕ → Result X (Fail BundleFault) → Result A Fault → Type 0
-Answers view count (Ok x) read = read ≡ Ok (view x)
-Answers view count (Err (fails.Fault fault)) read = (f : Fault) × (read ≡ Err f) × (fault.offset ≡ count - left_of f)
-Answers view count (Err fails.NoMemory) read = Unit {0}
+abbrev pub AnswersAt : {X A : Type 0} → (X → A) → ℕ → Result X (Fail BundleFault) → Result A Fault → Type 0
+AnswersAt view count (Ok x) read = read ≡ Ok (view x)
+AnswersAt view count (Err (fails.Fault fault)) read = (f : Fault) × (read ≡ Err f) × (fault.offset ≡ count - left_of f)
+AnswersAt view count (Err fails.NoMemory) read = Unit {0}

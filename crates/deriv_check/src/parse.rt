@@ -2,7 +2,7 @@
 ghost use Rattle.std.specs.Prelude.{◌≡◌, ◌-◌, length, IfOk, IfErr};
 ghost use Rattle.readers.specs.Reading.{Gives};
 ghost use Rattle.tor_axioms.specs.Accepts.{Proof, proof_of};
-ghost use Rattle.deriv_check.specs.Answers.{IsOnly, IsRightFault, Answers, left_of};
+ghost use Rattle.deriv_check.specs.Answers.{IsOnly, IsRightFault, AnswersAt, left_of};
 ghost use Rattle.deriv_check.specs.Bundles.{Entry, entries_of};
 ghost use Rattle.deriv_check.specs.Grammar.{HasDerivation, HasBundle};
 ghost use Rattle.deriv_check.specs.Reading.{read_derivation, read_bundle};
@@ -64,7 +64,7 @@ fn whole_bundle(alloc: Global, bytes: &[u8]) -> Result<Vec<BundleEntry>, ReadErr
 }
 
 fn answer_derivation(alloc: Global, bytes: &[u8]) -> Result<Derivation, Fail<BundleFault>>
-    ensures { Answers proof_of (length bytes.now) result (read_derivation bytes.now) }
+    ensures { AnswersAt proof_of (length bytes.now) result (read_derivation bytes.now) }
 {
     match whole_derivation(alloc, bytes) {
         Ok(derivation) => Ok(derivation),
@@ -74,7 +74,7 @@ fn answer_derivation(alloc: Global, bytes: &[u8]) -> Result<Derivation, Fail<Bun
 }
 
 fn answer_bundle(alloc: Global, bytes: &[u8]) -> Result<Bundle, Fail<BundleFault>>
-    ensures { Answers entries_of (length bytes.now) result (read_bundle bytes.now) }
+    ensures { AnswersAt entries_of (length bytes.now) result (read_bundle bytes.now) }
 {
     match whole_bundle(alloc, bytes) {
         Ok(entries) => Ok(Items::from_vec(entries)),
