@@ -7,7 +7,7 @@ use Rattle.java_lex.specs.declared.token.Token.{Token}
 use Rattle.java_lex.specs.Spans.{SamePlace}
 use Rattle.java_ast.specs.Tree.{Statement, Statements, Nothing, Then, PlainMethod, PlainProgram}
 use Rattle.java_ast.specs.Path.{found_in, branch_of, first_branch, either_branch, statement_in, statement_at}
-use Rattle.java_parser.specs.Placing.{span_of}
+use Rattle.java_ast.specs.Spans.{place_of}
 
 -- a stretch begins with a token of which P holds, from the byte q on and before the byte r
 pub record Begins (P : Token → Type 0) (q r : ℕ) (at : Span) : Type 0 where
@@ -21,8 +21,8 @@ pub record Begins (P : Token → Type 0) (q r : ℕ) (at : Span) : Type 0 where
 -- the statements that paths lead to begin so, no two of them at the same byte
 pub record Apart (P : Token → Type 0) (q r : ℕ) (led : List ℕ → Option Statement) : Type 0 where
   pub order : q ≤ r
-  pub begins : (path : List ℕ) (s : Statement) → led path ≡ Some s → Begins P q r (span_of s)
-  pub one : (a b : List ℕ) (s t : Statement) → led a ≡ Some s → led b ≡ Some t → (span_of s).start ≡ (span_of t).start → a ≡ b
+  pub begins : (path : List ℕ) (s : Statement) → led path ≡ Some s → Begins P q r (place_of s)
+  pub one : (a b : List ℕ) (s t : Statement) → led a ≡ Some s → led b ≡ Some t → (place_of s).start ≡ (place_of t).start → a ≡ b
 
 wider : {P : Token → Type 0} {at : Span} (q r q' r' : ℕ) → Begins P q r at → q' ≤ q → r ≤ r' → Begins P q' r' at
 wider q r q' r' h from to = record { token = h.token; is = h.is; same = h.same; start = h.start; from = omega (arith, h.from, from); before = omega (arith, h.before, to) }
@@ -60,12 +60,12 @@ further (n ∷ path) = suc n ∷ path
 pub both : {P : Token → Type 0} {f g : List ℕ → Option Statement} (q m r : ℕ) → Apart P q m f → Apart P m r g → Apart P q r (in_turn f g)
 both {P} {f} {g} q m r h k = record { order = omega (arith, h.order, k.order); begins = begins; one = one }
   where
-    begins : (path : List ℕ) (s : Statement) → in_turn f g path ≡ Some s → Begins P q r (span_of s)
+    begins : (path : List ℕ) (s : Statement) → in_turn f g path ≡ Some s → Begins P q r (place_of s)
     begins [] s e = absurd cc
     begins (zero ∷ path) s e = wider q m q r (h.begins path s e) (omega arith) k.order
     begins (suc n ∷ path) s e = wider m r q r (k.begins (n ∷ path) s e) h.order (omega arith)
 
-    one : (a b : List ℕ) (s t : Statement) → in_turn f g a ≡ Some s → in_turn f g b ≡ Some t → (span_of s).start ≡ (span_of t).start → a ≡ b
+    one : (a b : List ℕ) (s t : Statement) → in_turn f g a ≡ Some s → in_turn f g b ≡ Some t → (place_of s).start ≡ (place_of t).start → a ≡ b
     one [] b s t e e' starts = absurd cc
     one (zero ∷ a) [] s t e e' starts = absurd cc
     one (zero ∷ a) (zero ∷ b) s t e e' starts = ap (λ (c : List ℕ). 0 ∷ c) (h.one a b s t e e' starts)
@@ -80,18 +80,18 @@ abbrev pub with_inner : Statement → (List ℕ → Option Statement) → List �
 with_inner s g [] = Some s
 with_inner s g (b ∷ path) = g (b ∷ path)
 
-pub around : {P : Token → Type 0} {g : List ℕ → Option Statement} (q m r : ℕ) (s : Statement) → Begins P q r (span_of s) → (span_of s).start < m → Apart P m r g → Apart P q r (with_inner s g)
+pub around : {P : Token → Type 0} {g : List ℕ → Option Statement} (q m r : ℕ) (s : Statement) → Begins P q r (place_of s) → (place_of s).start < m → Apart P m r g → Apart P q r (with_inner s g)
 around {P} {g} q m r s h ahead k = record { order = omega (arith, h.from, h.before); begins = begins; one = one }
   where
-    begins : (path : List ℕ) (u : Statement) → with_inner s g path ≡ Some u → Begins P q r (span_of u)
-    begins [] u e = let is : s ≡ u = cc in subst (λ (v : Statement). Begins P q r (span_of v)) is h
+    begins : (path : List ℕ) (u : Statement) → with_inner s g path ≡ Some u → Begins P q r (place_of u)
+    begins [] u e = let is : s ≡ u = cc in subst (λ (v : Statement). Begins P q r (place_of v)) is h
     begins (b ∷ path) u e = wider m r q r (k.begins (b ∷ path) u e) (omega (arith, h.from, ahead)) (omega arith)
 
     -- none within the statement starts where it does
-    later : (b : ℕ) (path : List ℕ) (u v : Statement) → s ≡ u → g (b ∷ path) ≡ Some v → (span_of u).start ≡ (span_of v).start → ⊥
-    later b path u v is e starts = omega (arith, ahead, (k.begins (b ∷ path) v e).from, starts, ap (λ (w : Statement). (span_of w).start) is)
+    later : (b : ℕ) (path : List ℕ) (u v : Statement) → s ≡ u → g (b ∷ path) ≡ Some v → (place_of u).start ≡ (place_of v).start → ⊥
+    later b path u v is e starts = omega (arith, ahead, (k.begins (b ∷ path) v e).from, starts, ap (λ (w : Statement). (place_of w).start) is)
 
-    one : (a b : List ℕ) (u v : Statement) → with_inner s g a ≡ Some u → with_inner s g b ≡ Some v → (span_of u).start ≡ (span_of v).start → a ≡ b
+    one : (a b : List ℕ) (u v : Statement) → with_inner s g a ≡ Some u → with_inner s g b ≡ Some v → (place_of u).start ≡ (place_of v).start → a ≡ b
     one [] [] u v e e' starts = refl
     one [] (n ∷ b) u v e e' starts = let is : s ≡ u = cc in absurd (later n b u v is e' starts)
     one (i ∷ a) [] u v e e' starts = let is : s ≡ v = cc in absurd (later i a v u is e (sym starts))
@@ -139,7 +139,7 @@ leaf_is : (s : Statement) → ((b : ℕ) → branch_of b s ≡ None) → (path :
 leaf_is s none [] = refl
 leaf_is s none (b ∷ path) = ap (found_in (λ (block : Statements). in_block block path)) (none b)
 
-pub leaf_apart : {P : Token → Type 0} (q r : ℕ) (s : Statement) → ((b : ℕ) → branch_of b s ≡ None) → Begins P q r (span_of s) → Apart P q r (within s)
+pub leaf_apart : {P : Token → Type 0} (q r : ℕ) (s : Statement) → ((b : ℕ) → branch_of b s ≡ None) → Begins P q r (place_of s) → Apart P q r (within s)
 leaf_apart q r s none h = likewise (within s) (leaf_is s none) (around q r r s h h.before (no_statement r r (omega arith)))
 
 after_first : (b : ℕ) (body : Statements) → first_branch (suc b) body ≡ None
@@ -162,7 +162,7 @@ one_is s body is [] = refl
 one_is s body is (zero ∷ path) = ap (found_in (λ (block : Statements). in_block block path)) (is 0)
 one_is s body is (suc b ∷ path) = ap (found_in (λ (block : Statements). in_block block path)) (is (suc b) ∙ after_first b body)
 
-pub one_apart : {P : Token → Type 0} (q m r : ℕ) (s : Statement) (body : Statements) → ((b : ℕ) → branch_of b s ≡ first_branch b body) → Begins P q r (span_of s) → (span_of s).start < m
+pub one_apart : {P : Token → Type 0} (q m r : ℕ) (s : Statement) (body : Statements) → ((b : ℕ) → branch_of b s ≡ first_branch b body) → Begins P q r (place_of s) → (place_of s).start < m
     → Apart P m r (in_block body) → Apart P q r (within s)
 one_apart q m r s body is h ahead k =
     likewise (within s) (one_is s body is) (around q m r s h ahead (both m r r k (no_statement r r (omega arith))))
@@ -174,8 +174,8 @@ two_is s first other is (zero ∷ path) = ap (found_in (λ (block : Statements).
 two_is s first other is (suc zero ∷ path) = ap (found_in (λ (block : Statements). in_block block path)) (is 1)
 two_is s first other is (suc (suc b) ∷ path) = ap (found_in (λ (block : Statements). in_block block path)) (is (suc (suc b)) ∙ after_both b first other)
 
-pub two_apart : {P : Token → Type 0} (q m n r : ℕ) (s : Statement) (first other : Statements) → ((b : ℕ) → branch_of b s ≡ either_branch b first other) → Begins P q r (span_of s)
-    → (span_of s).start < m → Apart P m n (in_block first) → Apart P n r (in_block other) → Apart P q r (within s)
+pub two_apart : {P : Token → Type 0} (q m n r : ℕ) (s : Statement) (first other : Statements) → ((b : ℕ) → branch_of b s ≡ either_branch b first other) → Begins P q r (place_of s)
+    → (place_of s).start < m → Apart P m n (in_block first) → Apart P n r (in_block other) → Apart P q r (within s)
 two_apart q m n r s first other is h ahead k l =
     likewise (within s) (two_is s first other is) (around q m r s h ahead (both m n r k (both n r r l (no_statement r r (omega arith)))))
 

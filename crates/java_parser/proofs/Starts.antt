@@ -11,7 +11,7 @@ use Rattle.java_parser.specs.Rules.{Or, Many}
 use Rattle.java_parser.specs.Types.{Spelling}
 use Rattle.java_parser.specs.Statements.{Increase, Increment, MemberCall, NamedRest, Plain, Declaration, IfHead, WhileHead, ForHead, HasStatement, plain, if_alone, if_else, for_each, while, HasBody, block, single, HasBlock, braces, HasStatements, none, declared, stated}
 use Rattle.java_parser.specs.Grammar.{Method, Class, ProgramIn}
-use Rattle.java_parser.specs.Placing.{span_of}
+use Rattle.java_ast.specs.Spans.{place_of}
 use Rattle.java_parser.proofs.Apart.{Begins, Apart, widened, no_statement, in_block, within, nothing_apart, then_apart, leaf_apart, one_apart, two_apart, in_methods, methods_apart, program_apart}
 
 -- ---- tokens in order
@@ -90,7 +90,7 @@ head_ends P q us vs h o = subst (λ (ws : List Tok). (extent (ws ++ vs)).start <
 -- ---- statements without bodies
 
 record Leaf (at : Span) (x : Statement) : Type 0 where
-  place : span_of x ≡ at
+  place : place_of x ≡ at
   none : (b : ℕ) → branch_of b x ≡ None
 
 -- a statement that is made when its place is known
@@ -147,7 +147,7 @@ for_first : (room : ℕ) (us : List Tok) (walk : Spelled × (List ℕ × Express
 for_first room us walk h = first_in us h.1.0 h.1.1 h.1.2 (alone h.1.3.0 h.1.0 h.1.3.1)
 
 -- a head and a body
-bodied : (P : Token → Type 0) (q : ℕ) (us vs : List Tok) (s : Statement) (body : Statements) → HasFirst us → span_of s ≡ extent (us ++ vs) → ((b : ℕ) → branch_of b s ≡ first_branch b body)
+bodied : (P : Token → Type 0) (q : ℕ) (us vs : List Tok) (s : Statement) (body : Statements) → HasFirst us → place_of s ≡ extent (us ++ vs) → ((b : ℕ) → branch_of b s ≡ first_branch b body)
     → Ordered P q (us ++ vs) → Apart P (end_of q us) (end_of (end_of q us) vs) (in_block body) → Apart P q (end_of q (us ++ vs)) (within s)
 bodied P q us vs s body first place branches o k =
     one_apart q (end_of q us) (end_of q (us ++ vs)) s body branches
@@ -156,7 +156,7 @@ bodied P q us vs s body first place branches o k =
     (subst (λ (r : ℕ). Apart P (end_of q us) r (in_block body)) (sym (end_append q us vs)) k)
 
 -- a head, a body, a word and another body
-forked : (P : Token → Type 0) (q : ℕ) (us vs ws zs : List Tok) (s : Statement) (body other : Statements) → HasFirst us → span_of s ≡ extent (us ++ (vs ++ (ws ++ zs)))
+forked : (P : Token → Type 0) (q : ℕ) (us vs ws zs : List Tok) (s : Statement) (body other : Statements) → HasFirst us → place_of s ≡ extent (us ++ (vs ++ (ws ++ zs)))
     → ((b : ℕ) → branch_of b s ≡ either_branch b body other) → Ordered P q (us ++ (vs ++ (ws ++ zs))) → Apart P (end_of q us) (end_of (end_of q us) vs) (in_block body)
     → Apart P (end_of (end_of (end_of q us) vs) ws) (end_of (end_of (end_of (end_of q us) vs) ws) zs) (in_block other) → Apart P q (end_of q (us ++ (vs ++ (ws ++ zs)))) (within s)
 forked P q us vs ws zs s body other head place branches o k l =

@@ -11,7 +11,8 @@ use Rattle.java_ast.specs.Tree.{Statement, PlainProgram}
 use Rattle.java_ast.specs.Path.{statement_at}
 use Rattle.java_parser.specs.Marks.{Tok, tokens_of, all_strict, all_free}
 use Rattle.java_parser.specs.Grammar.{deepest, HasProgram}
-use Rattle.java_parser.specs.Placing.{span_of, BeginsWithToken, LeadToOnePlace}
+use Rattle.java_ast.specs.Spans.{place_of}
+use Rattle.java_parser.specs.Placing.{BeginsWithToken, LeadToOnePlace}
 use Rattle.java_parser.proofs.Apart.{Begins, Apart}
 use Rattle.java_parser.proofs.Starts.{end_of, Ordered, statements_of_program}
 
@@ -41,12 +42,12 @@ module _ (text : List ℕ) (tokens : Tokens) (us : List Tok) (p : PlainProgram) 
 
   pub begins_with_token : (path : List ℕ) (s : Statement) → statement_at path p ≡ Some s → BeginsWithToken tokens s
   begins_with_token path s e =
-      let h : Begins (IsOf text tokens) 0 (end_of 0 us) (span_of s) = statements.begins path s e in
+      let h : Begins (IsOf text tokens) 0 (end_of 0 us) (place_of s) = statements.begins path s e in
       record { number = h.is.1.0; token = h.token; is = h.is.1.1; same = h.same; start = h.start }
 
   pub one_path : (a b : List ℕ) → LeadToOnePlace p a b → a ≡ b
   one_path a b l =
-      let h : Begins (IsOf text tokens) 0 (end_of 0 us) (span_of l.first) = statements.begins a l.first l.to_first in
-      let k : Begins (IsOf text tokens) 0 (end_of 0 us) (span_of l.other) = statements.begins b l.other l.to_other in
+      let h : Begins (IsOf text tokens) 0 (end_of 0 us) (place_of l.first) = statements.begins a l.first l.to_first in
+      let k : Begins (IsOf text tokens) 0 (end_of 0 us) (place_of l.other) = statements.begins b l.other l.to_other in
       let start : h.token.span.start ≡ k.token.span.start = same_start text h.token.span k.token.span h.is.0 k.is.0 (sym h.same.0 ∙ (l.same.0 ∙ k.same.0), sym h.same.1 ∙ (l.same.1 ∙ k.same.1)) in
       statements.one a b l.first l.other l.to_first l.to_other (h.start ∙ (start ∙ sym k.start))
