@@ -15,7 +15,8 @@ use Rattle.java_parser.specs.declared.fault.ParseRule.TheVariants as rules
 use Rattle.java_parser.specs.Grammar.{HasProgram, IsReadable}
 use Rattle.java_parser.specs.Kept.{fault_at, kept, IsKept}
 use Rattle.java_parser.specs.Marks.{all_strict}
-use Rattle.java_parser.specs.Parsed.{parsed, with_place, Answers}
+use Rattle.qbs_base.specs.Memory.{AnswersBy}
+use Rattle.java_parser.specs.Parsed.{parsed, with_place}
 use Rattle.java_parser.specs.ReadingPrograms.{program_at}
 use Rattle.java_parser.proofs.Again.{Any}
 use Rattle.java_parser.proofs.ProgramLaws.{program_reads}
@@ -57,11 +58,11 @@ fault_is_kept tokens f e =
 pub answers_program : (tokens : Tokens) (p : PlainProgram) → whole program_at (all_strict tokens.list) ≡ Ok p → parsed tokens ≡ Ok p
 answers_program tokens p e = parsed_is tokens ∙ ap (with_place tokens) e
 
-answers_placed : (tokens : Tokens) (error : ReadError) (read : Result PlainProgram Fault) → Fails error read → Answers {X = PlainProgram} (λ p. p) (Err (kept tokens error)) (with_place tokens read)
+answers_placed : (tokens : Tokens) (error : ReadError) (read : Result PlainProgram Fault) → Fails error read → AnswersBy {X = PlainProgram} (λ p. p) (λ (f : ParseFault). f) (Err (kept tokens error)) (with_place tokens read)
 answers_placed tokens errors.Memory read e = tt
 answers_placed tokens (errors.Fault (faults.Unexpected left)) read e = ap (with_place tokens) e
 answers_placed tokens (errors.Fault (faults.TooDeep left)) read e = ap (with_place tokens) e
 
-pub answers_fault : (tokens : Tokens) (error : ReadError) → Fails error (whole program_at (all_strict tokens.list)) → Answers {X = PlainProgram} (λ p. p) (Err (kept tokens error)) (parsed tokens)
+pub answers_fault : (tokens : Tokens) (error : ReadError) → Fails error (whole program_at (all_strict tokens.list)) → AnswersBy {X = PlainProgram} (λ p. p) (λ (f : ParseFault). f) (Err (kept tokens error)) (parsed tokens)
 answers_fault tokens error e =
-    subst (Answers {X = PlainProgram} (λ p. p) (Err (kept tokens error))) (sym (parsed_is tokens)) (answers_placed tokens error (whole program_at (all_strict tokens.list)) e)
+    subst (AnswersBy {X = PlainProgram} (λ p. p) (λ (f : ParseFault). f) (Err (kept tokens error))) (sym (parsed_is tokens)) (answers_placed tokens error (whole program_at (all_strict tokens.list)) e)

@@ -1,7 +1,5 @@
 -- The program of tokens, or the fault that is kept, as reading from left to right finds them.
-use Rattle.std.specs.Prelude.{◌≡◌, Result, Ok, Err}
-use Rattle.qbs_base.specs.declared.memory.Fail.{Fail}
-use Rattle.qbs_base.specs.declared.memory.Fail.TheVariants as fails
+use Rattle.std.specs.Prelude.{Result, Ok, Err}
 use Rattle.readers.specs.declared.fault.Fault.{Fault}
 use Rattle.readers.specs.declared.fault.Fault.TheVariants as faults
 use Rattle.readers.specs.Reading.{whole}
@@ -21,9 +19,3 @@ with_place tokens (Err (faults.TooDeep left)) = Err (fault_at tokens rules.TooDe
 -- the program that the tokens have, or the fault that is kept
 unfoldable pub parsed : Tokens → Result PlainProgram ParseFault
 parsed tokens = with_place tokens (whole program_at (all_strict tokens.list))
-
--- what was answered, seen by view, is what is due, or want of memory
-abbrev pub Answers : {X Y : Type 0} → (X → Y) → Result X (Fail ParseFault) → Result Y ParseFault → Type 0
-Answers view (Ok x) due = due ≡ Ok (view x)
-Answers view (Err (fails.Fault fault)) due = due ≡ Err fault
-Answers view (Err fails.NoMemory) due = Unit {0}

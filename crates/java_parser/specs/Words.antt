@@ -5,30 +5,17 @@ use Rattle.qbs_base.specs.declared.scalar.Scalar.{Scalar}
 use Rattle.qbs_base.specs.declared.scalar.Scalar.TheVariants as scalars
 use Rattle.java_lex.specs.declared.token.TokenNode.{TokenNode}
 use Rattle.java_lex.specs.declared.token.TokenNode.TheVariants as tokens
+use Rattle.java_lex.specs.Words.{is_among, is_reserved_word, is_type_word}
 use Rattle.java_ast.specs.declared.tree.Op.{Op}
 use Rattle.java_ast.specs.declared.tree.Op.TheVariants as ops
 use Rattle.java_ast.specs.Tree.{Spelled}
 use Rattle.java_ast.specs.Tree as plain
 
-abbrev pub is_among : List ℕ → List (List ℕ) → Bool
-is_among name [] = false
-is_among name (text ∷ texts) = bytes_eq name text || is_among name texts
-
-abbrev pub reserved_words : List (List ℕ)
-reserved_words =
-    codes "class" ∷ codes "public" ∷ codes "private" ∷ codes "static" ∷ codes "void" ∷ codes "int" ∷ codes "long" ∷ codes "boolean"
-    ∷ codes "if" ∷ codes "else" ∷ codes "for" ∷ codes "while" ∷ codes "return" ∷ codes "new" ∷ codes "true" ∷ codes "false"
-    ∷ codes "import" ∷ codes "package" ∷ codes "break" ∷ []
-
--- the names that are no table's
-abbrev pub other_types : List (List ℕ)
-other_types = codes "List" ∷ codes "Set" ∷ codes "String" ∷ codes "Long" ∷ codes "Integer" ∷ codes "Boolean" ∷ codes "Comparator" ∷ codes "System" ∷ []
-
 abbrev pub is_name : List ℕ → Bool
-is_name w = not (is_among w reserved_words)
+is_name w = not (is_reserved_word w)
 
 abbrev pub is_table : List ℕ → Bool
-is_table w = is_name w && not (is_among w other_types)
+is_table w = is_name w && not (is_type_word w)
 
 -- the two names of numbers, which are no variables
 abbrev pub is_number_type : List ℕ → Bool

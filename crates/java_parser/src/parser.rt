@@ -1,7 +1,7 @@
 // The public readers: whole texts, and the faults that are kept.
 ghost use Rattle.std.specs.Prelude.{◌≡◌, ℕ, List, Ok, IfOk, IfErr, IfSome, IsSomeAnd, MatchResult};
 ghost use Rattle.readers.specs.Reading.{Gives, whole};
-ghost use Rattle.qbs_base.specs.Memory.{IsNoMemory};
+ghost use Rattle.qbs_base.specs.Memory.{AnswersBy, IsNoMemory};
 ghost use Rattle.java_ast.specs.Reading.{spelled, expression as expression_of, program as program_of};
 ghost use Rattle.java_ast.specs.Tree.{Spelled, Expression, PlainProgram};
 ghost use Rattle.java_parser.specs.Marks.{all_strict};
@@ -12,7 +12,7 @@ ghost use Rattle.java_parser.specs.ReadingExpressions.{expression_at};
 ghost use Rattle.java_parser.specs.Grammar.{HasProgram, IsProgram, IsReadable};
 ghost use Rattle.java_parser.specs.ReadingPrograms.{program_in};
 ghost use Rattle.java_parser.specs.Kept.{fault_at, place_of, kept, IsKept};
-ghost use Rattle.java_parser.specs.Parsed.{parsed, Answers};
+ghost use Rattle.java_parser.specs.Parsed.{parsed};
 
 use crate::classes::{DEEPEST, program};
 use crate::expressions::expression;
@@ -166,7 +166,7 @@ pub fn parse(alloc: Global, tokens: &Tokens) -> Result<Program, Fail<ParseFault>
     // A fault is the one that is kept.
     ensures fault { IfErr result (IsKept HasProgram tokens.now) }
     // It answers what reading from left to right gives.
-    ensures exact { Answers (λ p. program_of p) result (parsed tokens.now) }
+    ensures exact { AnswersBy (λ p. program_of p) (λ f. f) result (parsed tokens.now) }
 {
     match whole_program(alloc, DEEPEST, tokens.list.as_slice()) {
         Ok(program) => Ok(program),

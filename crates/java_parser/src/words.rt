@@ -1,54 +1,28 @@
 // What single words and signs are.
-ghost use Rattle.std.specs.Prelude.{◌≡◌, map, option_map, IfOk};
+ghost use Rattle.std.specs.Prelude.{◌≡◌, option_map, IfOk};
 ghost use Rattle.java_ast.specs.Reading.{spelled};
-ghost use Rattle.java_parser.specs.Words.{is_among as word_is_among, is_name as may_be_name, is_table as may_be_table, is_number_type as names_numbers, is_variable as may_be_variable, scalar_type as scalar_of, table_type as table_of, word_type as type_of_word, element_type as element_of, collection as collection_of_word, collection_of, truth_of as truth_of_word, operator_of as operator_of_sign};
+ghost use Rattle.java_parser.specs.Words.{is_name as may_be_name, is_table as may_be_table, is_number_type as names_numbers, is_variable as may_be_variable, scalar_type as scalar_of, table_type as table_of, word_type as type_of_word, element_type as element_of, collection as collection_of_word, collection_of, truth_of as truth_of_word, operator_of as operator_of_sign};
 
 use java_ast::{JTy, Op};
+use java_lex::{is_among, is_reserved_word, is_type_word};
 use qbs_base::{Name, Scalar};
 use std::alloc::{AllocError, Global};
 
-/// The words that are no names.
-const RESERVED_WORDS: [&str; 19] = [
-    "class", "public", "private", "static", "void", "int", "long", "boolean", "if", "else", "for",
-    "while", "return", "new", "true", "false", "import", "package", "break",
-];
-
-/// The names that are no table's.
-const OTHER_TYPES: [&str; 8] = [
-    "List",
-    "Set",
-    "String",
-    "Long",
-    "Integer",
-    "Boolean",
-    "Comparator",
-    "System",
-];
-
 /// The names of numbers, which are no variables in expressions.
 const NUMBER_TYPES: [&str; 2] = ["Long", "Integer"];
-
-fn is_among(word: &str, texts: &[&str]) -> bool
-    ensures { result ≡ word_is_among word.now (map (λ text. text.now) texts.now) }
-{
-    match texts {
-        [] => false,
-        [text, texts @ ..] => word == *text || is_among(word, texts),
-    }
-}
 
 /// Whether a word is a name.
 pub fn is_name(word: &str) -> bool
     ensures { result ≡ may_be_name word.now }
 {
-    !is_among(word, &RESERVED_WORDS)
+    !is_reserved_word(word)
 }
 
 /// Whether a word may name a table.
 pub fn is_table(word: &str) -> bool
     ensures { result ≡ may_be_table word.now }
 {
-    is_name(word) && !is_among(word, &OTHER_TYPES)
+    is_name(word) && !is_type_word(word)
 }
 
 /// Whether a word is Long or Integer.

@@ -22,7 +22,8 @@ use Rattle.java_mean.proofs.First.{first_form_kept}
 use Rattle.schema.specs.Bytes.{begins_with}
 use Rattle.schema.specs.Rules.{AreColumns, IsSchema}
 use Rattle.schema.specs.Schemas.{schema_of}
-use Rattle.schema.specs.Words.{spells, is_among, query_words, source_words, type_words, is_reserved, is_reserved_table}
+use Rattle.schema.specs.Words.{spells, is_among, query_words, is_reserved, is_reserved_table}
+use Rattle.java_lex.specs.Words.{is_reserved_word, is_type_word}
 use Rattle.schema.proofs.Judged.{is_schema}
 use Rattle.sql_ast.specs.declared.tree.Cmp.TheVariants as tests
 use Rattle.sql_ast.specs.declared.tree.FromItem.{FromItem}
@@ -82,7 +83,7 @@ is_other name false e h = refl
 
 not_reserved : (name : List ℕ) → is_reserved name ≡ false → IsFree name
 not_reserved name e =
-    let h = neither (begins_with 95 name || is_among spells query_words name) (is_among bytes_eq source_words name) e in
+    let h = neither (begins_with 95 name || is_among spells query_words name) (is_reserved_word name) e in
     let k = neither (begins_with 95 name) (is_among spells query_words name) h.0 in
     record { free = ap not (none_spelled query_words name k.1); other = is_other name (bytes_eq name (codes "_pos")) refl k.0 }
 
@@ -183,7 +184,7 @@ place_in tables f table column s h =
       there = t.there;
       within = within;
       long = long_type c.held.ty is_long;
-      table_free = not_reserved f.table (neither (is_reserved f.table) (is_among bytes_eq type_words f.table) t_other).0;
+      table_free = not_reserved f.table (neither (is_reserved f.table) (is_type_word f.table) t_other).0;
       column_free = not_reserved f.column c_other;
     }
 

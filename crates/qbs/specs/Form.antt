@@ -9,6 +9,8 @@ use Rattle.std.specs.declared.option.Option.TheVariants.{Some, None}
 use Rattle.java_lex.specs.declared.token.Token.{Token}
 use Rattle.java_lex.specs.declared.token.TokenNode.{TokenNode}
 use Rattle.java_lex.specs.declared.token.TokenNode.TheVariants as tokens
+use Rattle.java_lex.specs.Words.{is_among}
+use Rattle.java_parser.specs.Words.{is_name}
 use Rattle.qbs.specs.declared.form.FirstForm.{FirstForm}
 
 abbrev pub word : List ℕ → TokenNode
@@ -60,23 +62,9 @@ ending f = word (codes "return") ∷ word f.list ∷ sign (codes ";") ∷ sign (
 abbrev pub form_nodes : FirstForm → List TokenNode
 form_nodes f = heading f ++ (declaration f ++ (walk f ++ (test f ++ (adding f ++ ending f))))
 
--- the words that no name may be
-abbrev pub is_among : List ℕ → List (List ℕ) → Bool
-is_among name [] = false
-is_among name (text ∷ texts) = bytes_eq name text || is_among name texts
-
-abbrev pub reserved_words : List (List ℕ)
-reserved_words =
-    codes "class" ∷ codes "public" ∷ codes "private" ∷ codes "static" ∷ codes "void" ∷ codes "int" ∷ codes "long" ∷ codes "boolean"
-    ∷ codes "if" ∷ codes "else" ∷ codes "for" ∷ codes "while" ∷ codes "return" ∷ codes "new" ∷ codes "true" ∷ codes "false"
-    ∷ codes "import" ∷ codes "package" ∷ codes "break" ∷ []
-
 -- what no variable of the form is called besides
 abbrev pub other_words : List (List ℕ)
 other_words = codes "db" ∷ codes "Long" ∷ codes "Integer" ∷ []
-
-abbrev pub is_name : List ℕ → Bool
-is_name name = not (is_among name reserved_words)
 
 abbrev pub is_variable : List ℕ → Bool
 is_variable name = is_name name && not (is_among name other_words)

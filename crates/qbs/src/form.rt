@@ -1,10 +1,11 @@
 // The first form of a source: a class of one method that collects the rows of a table with a number
 // in a column.
-ghost use Rattle.std.specs.Prelude.{◌≡◌, IfOk, Some, map};
+ghost use Rattle.std.specs.Prelude.{◌≡◌, IfOk, Some};
 ghost use Rattle.std.specs.Option.{option_copied};
-ghost use Rattle.qbs.specs.Form.{word as word_node, sign as sign_node, integer as integer_node, heading as heading_nodes, listed as listed_nodes, declaration as declaration_nodes, walk as walk_nodes, test as test_nodes, adding as adding_nodes, ending as ending_nodes, after, after_all, after_form, none_left, Leaves, nodes_of, word_of as word_in_node, word_in, integer_of as integer_in_node, integer_in, proposed as proposed_form, is_among as name_is_among, is_name as may_be_name, is_variable as may_be_variable, is_named_well as form_is_named_well, first_form, FindsFirstForm};
+ghost use Rattle.java_parser.specs.Words.{is_name as may_be_name};
+ghost use Rattle.qbs.specs.Form.{word as word_node, sign as sign_node, integer as integer_node, heading as heading_nodes, listed as listed_nodes, declaration as declaration_nodes, walk as walk_nodes, test as test_nodes, adding as adding_nodes, ending as ending_nodes, after, after_all, after_form, none_left, Leaves, nodes_of, word_of as word_in_node, word_in, integer_of as integer_in_node, integer_in, proposed as proposed_form, is_variable as may_be_variable, is_named_well as form_is_named_well, first_form, FindsFirstForm};
 
-use java_lex::{Token, TokenNode};
+use java_lex::{Token, TokenNode, is_among, is_reserved_word};
 use qbs_base::Name;
 use std::alloc::AllocError;
 
@@ -155,27 +156,13 @@ fn proposed(tokens: &[Token]) -> Result<Option<FirstForm>, AllocError>
     }))
 }
 
-const RESERVED_WORDS: [&str; 19] = [
-    "class", "public", "private", "static", "void", "int", "long", "boolean", "if", "else", "for",
-    "while", "return", "new", "true", "false", "import", "package", "break",
-];
-
 // What no variable of the form is called besides.
 const OTHER_WORDS: [&str; 3] = ["db", "Long", "Integer"];
-
-fn is_among(name: &str, texts: &[&str]) -> bool
-    ensures { result ≡ name_is_among name.now (map (λ text. text.now) texts.now) }
-{
-    match texts {
-        [] => false,
-        [text, texts @ ..] => name == *text || is_among(name, texts),
-    }
-}
 
 fn is_name(name: &Name) -> bool
     ensures { result ≡ may_be_name name.now }
 {
-    !is_among(name.as_str(), &RESERVED_WORDS)
+    !is_reserved_word(name.as_str())
 }
 
 fn is_variable(name: &Name) -> bool

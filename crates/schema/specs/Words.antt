@@ -1,6 +1,7 @@
 -- Keywords and reserved names.
 use Rattle.std.specs.Prelude.{Bool, false, ◌||◌, ℕ, List, [], ◌∷◌, codes}
-use Rattle.std.specs.Str.{bytes_eq, str_eq_ignore_ascii_case}
+use Rattle.std.specs.Str.{str_eq_ignore_ascii_case}
+pub use Rattle.java_lex.specs.Words.{is_reserved_word, is_type_word}
 use Rattle.schema.specs.Bytes.{begins_with}
 
 -- a word is a keyword in any letter case
@@ -18,22 +19,10 @@ query_words =
     codes "SELECT" ∷ codes "FROM" ∷ codes "WHERE" ∷ codes "GROUP" ∷ codes "BY" ∷ codes "ORDER" ∷ codes "LIMIT" ∷ codes "AND" ∷ codes "OR"
     ∷ codes "NOT" ∷ codes "EXISTS" ∷ codes "IN" ∷ codes "AS" ∷ codes "ASC" ∷ codes "DESC" ∷ codes "TRUE" ∷ codes "FALSE" ∷ []
 
--- the reserved words of the source language
-abbrev pub source_words : List (List ℕ)
-source_words =
-    codes "class" ∷ codes "public" ∷ codes "private" ∷ codes "static" ∷ codes "void" ∷ codes "int" ∷ codes "long" ∷ codes "boolean" ∷ codes "if"
-    ∷ codes "else" ∷ codes "for" ∷ codes "while" ∷ codes "return" ∷ codes "new" ∷ codes "true" ∷ codes "false" ∷ codes "import" ∷ codes "package"
-    ∷ codes "break" ∷ []
-
--- the types of the source language that begin with a capital
-abbrev pub type_words : List (List ℕ)
-type_words =
-    codes "List" ∷ codes "Set" ∷ codes "String" ∷ codes "Long" ∷ codes "Integer" ∷ codes "Boolean" ∷ codes "Comparator" ∷ codes "System" ∷ []
-
 -- no column and no table may have such a name
 abbrev pub is_reserved : List ℕ → Bool
-is_reserved name = begins_with 95 name || is_among spells query_words name || is_among bytes_eq source_words name
+is_reserved name = begins_with 95 name || is_among spells query_words name || is_reserved_word name
 
 -- no table may have such a name
 abbrev pub is_reserved_table : List ℕ → Bool
-is_reserved_table name = is_reserved name || is_among bytes_eq type_words name
+is_reserved_table name = is_reserved name || is_type_word name

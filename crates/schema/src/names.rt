@@ -81,7 +81,7 @@ impl Seen {
     {
         if holds(self.tables.as_slice(), name) {
             Some(SchemaRule::DoubleTable)
-        } else if is_reserved_table(name.as_slice()) {
+        } else if is_reserved_table(name.as_str()) {
             Some(SchemaRule::NameReserved)
         } else if self.tables.len() >= MOST_TABLES {
             Some(SchemaRule::TooManyTables)
@@ -95,7 +95,7 @@ impl Seen {
     {
         if holds(self.columns.as_slice(), name) {
             Some(SchemaRule::DoubleColumn)
-        } else if is_reserved(name.as_slice()) {
+        } else if is_reserved(name.as_str()) {
             Some(SchemaRule::NameReserved)
         } else if self.columns.len() >= MOST_COLUMNS {
             Some(SchemaRule::TooManyColumns)

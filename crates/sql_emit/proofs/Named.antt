@@ -11,7 +11,7 @@ use Rattle.qbs_base.specs.Values.{Schema}
 use Rattle.schema.specs.Bytes.{begins_with}
 use Rattle.schema.specs.Bytes as ddl
 use Rattle.schema.specs.Rules.{AreColumns, IsSchema, AreNamed}
-use Rattle.schema.specs.Words.{spells, is_among, query_words, source_words, type_words, is_reserved, is_reserved_table}
+use Rattle.schema.specs.Words.{spells, is_among, query_words, is_reserved_word, is_type_word, is_reserved, is_reserved_table}
 use Rattle.sql_ast.specs.declared.tree.FromItem.{FromItem}
 use Rattle.sql_ast.specs.declared.tree.SqlColumn.TheVariants as columns
 use Rattle.sql_ast.specs.Meaning.{nth}
@@ -55,7 +55,7 @@ free_from name (w ∷ words) h =
 
 pub is_word : (name : List ℕ) → ddl.is_name name ≡ true → is_reserved name ≡ false → IsWord name
 is_word name named free =
-    let query = (or_false (begins_with 95 name) (is_among spells query_words name) (or_false (begins_with 95 name || is_among spells query_words name) (is_among bytes_eq source_words name) free).0).1 in
+    let query = (or_false (begins_with 95 name) (is_among spells query_words name) (or_false (begins_with 95 name || is_among spells query_words name) (is_reserved_word name) free).0).1 in
     (sym (name_same name) ∙ named, ap not (free_from name query_words query))
 
 not_position : (name : List ℕ) → is_reserved name ≡ false → bytes_eq name (codes "_pos") ≡ false
@@ -90,7 +90,7 @@ position_is f xs n x d e =
 
 module _ (schema : Schema) (is : IsSchema schema) (named : AreNamed schema) where
   table_word : (n : ℕ) (t : Table) → slice_get schema n ≡ Some t → IsWord t.name
-  table_word n t e = is_word t.name (all_at (λ t. ddl.is_name t.name ≡ true) schema n t named.names e) (or_false (is_reserved t.name) (is_among bytes_eq type_words t.name) (all_at (λ t. is_reserved_table t.name ≡ false) schema n t is.free e)).0
+  table_word n t e = is_word t.name (all_at (λ t. ddl.is_name t.name ≡ true) schema n t named.names e) (or_false (is_reserved t.name) (is_type_word t.name) (all_at (λ t. is_reserved_table t.name ≡ false) schema n t is.free e)).0
 
   -- the item of a table
   pub is_item : (from : FromItem) (t : Table) → slice_get schema from.table ≡ Some t → from.name ≡ t.name → IsFromItem schema from

@@ -6,7 +6,7 @@ use Rattle.java_parser.specs.Marks.{all_strict}
 use Rattle.java_parser.specs.Grammar.{HasProgram}
 use Rattle.java_parser.specs.ReadingPrograms.{program_at}
 use Rattle.java_parser.proofs.ParsedLaws.{answers_program, answers_fault}
-use Rattle.java_parser.specs.Parsed.{parsed, Answers}
+use Rattle.java_parser.specs.Parsed.{parsed}
 use Rattle.java_parser.proofs.Again.{Any}
 use Rattle.java_parser.proofs.ProgramLaws.{program_reads}
 use Rattle.java_parser.proofs.Whole.{whole_found}
