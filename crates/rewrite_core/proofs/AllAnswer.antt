@@ -14,7 +14,7 @@ use Rattle.kernel_lang.specs.Plain as kernel
 use Rattle.kernel_lang.specs.Pools.{Member, chosen, members_from, members}
 use Rattle.kernel_lang.specs.Postcondition.{postcondition, with_choices, claimed, claims, all_claimed}
 use Rattle.kernel_lang.specs.Running.{ends_as, and_then, ends, all_end}
-use Rattle.kernel_lang.specs.Validity.{starts_rightly}
+use Rattle.kernel_lang.specs.Validity.{takes_a_column}
 use Rattle.kernel_lang.proofs.EndLongs.{end-fits}
 use Rattle.sql_ast.specs.Canonical.{canonical}
 use Rattle.sql_ast.specs.Valid.{IsQueryOf}
@@ -91,8 +91,8 @@ module _ (l : Place) (schema : Schema) (reader : Reader schema) (same : l.settin
   begun = world_given lowered world.db entry
 
   -- one ask has what its accumulator ends with
-  one_answers : (x : List ℕ) (m : Member) (k : ℕ) (v : Value) → slice_get (members lowered l.candidate) k ≡ Some m → m.0.base ≡ 0 → starts_rightly m.0 ≡ true → StartFits m.0.start → IsQueryOf w.schema (emission_of l m).query → ends_as lowered begun m.0 ≡ Some v → v ≡ claimed lowered (members lowered l.candidate) begun m → value_of (ask_of l x m).value world t.store ≡ Ok v
-  one_answers x m k v there base rightly fits query ends is =
+  one_answers : (x : List ℕ) (m : Member) (k : ℕ) (v : Value) → slice_get (members lowered l.candidate) k ≡ Some m → m.0.base ≡ 0 → takes_a_column m.0.update ≡ true → StartFits m.0.start → IsQueryOf w.schema (emission_of l m).query → ends_as lowered begun m.0 ≡ Some v → v ≡ claimed lowered (members lowered l.candidate) begun m → value_of (ask_of l x m).value world t.store ≡ Ok v
+  one_answers x m k v there base takes fits query ends is =
       let e = emission_of l m in
       let xs : List Scalar = values_at entry.values e.entries in
       let asks : world.ask (canonical e.query) xs ≡ Some (emitted.answered v) =
@@ -103,10 +103,10 @@ module _ (l : Place) (schema : Schema) (reader : Reader schema) (same : l.settin
       (arguments_have world t.store (place_of w.fragment.loop) lowered.entries (lowering w).entries entry.values typed matched e.entries (entries l.candidate m).there)
       asks m.0.update m.0.opposite (value (with_choices lowered (members lowered l.candidate) begun) lowered.atoms (postcondition m)) is
       (end-fits w.schema lowered world.db entry m.0 v given.database fits ends)
-      (ends_once lowered begun m.0 v rightly ends)
+      (ends_once lowered begun m.0 v takes ends)
 
   -- All asks have what their accumulators end with.
-  pub all_answer : (k n : ℕ) (xs : Names) (accs : List Accumulator) (vs : List Value) → Follow l k n accs → AreOuter xs accs → AllByRecursion (λ a. starts_rightly a ≡ true) accs → k + length xs ≡ length (needed_in_order l.setting) → all_end (lowering l.setting).fragment (world_given (lowering l.setting).fragment world.db entry) accs ≡ Some vs → vs ≡ all_claimed (lowering l.setting).fragment (members (lowering l.setting).fragment l.candidate) (world_given (lowering l.setting).fragment world.db entry) (members_from l.candidate n accs) → AreAnswers world t.store xs (asks_by l n xs accs) vs
+  pub all_answer : (k n : ℕ) (xs : Names) (accs : List Accumulator) (vs : List Value) → Follow l k n accs → AreOuter xs accs → AllByRecursion (λ a. takes_a_column a.update ≡ true) accs → k + length xs ≡ length (needed_in_order l.setting) → all_end (lowering l.setting).fragment (world_given (lowering l.setting).fragment world.db entry) accs ≡ Some vs → vs ≡ all_claimed (lowering l.setting).fragment (members (lowering l.setting).fragment l.candidate) (world_given (lowering l.setting).fragment world.db entry) (members_from l.candidate n accs) → AreAnswers world t.store xs (asks_by l n xs accs) vs
   all_answer k n [] accs vs h o r count ended is =
       let none : vs ≡ [] = same_ends vs [] (sym ended ∙ no_ends lowered begun accs o) in
       subst (AreAnswers world t.store [] []) (sym none) tt

@@ -10,11 +10,12 @@ use Rattle.kernel_lang.specs.Running.{fragment_end}
 use Rattle.kernel_lang.specs.Sentences.{AccumulatorIsValid}
 use Rattle.kernel_lang.specs.Typed.{is_typed}
 use Rattle.kernel_lang.specs.Validity as validity
-use Rattle.kernel_lang.specs.Validity.{starts_rightly}
+use Rattle.kernel_lang.specs.Validity.{takes_a_column}
 use Rattle.kernel_lang.proofs.Sentences.{valid}
 use Rattle.sql_emit.specs.Given.{AreKnownTo, IsGiven, SaysWhatIsClaimed}
 use Rattle.sql_emit.proofs.Claims.{says}
 use Rattle.sql_emit.proofs.Entries.{entries_are}
+use Rattle.sql_emit.proofs.Flags.{column_taken}
 use Rattle.java_ast.specs.Tree.{Nothing, Then, PlainProgram}
 use Rattle.java_mean.specs.Asks.{frame_of}
 use Rattle.java_mean.specs.Numbers.{NumbersFit}
@@ -86,8 +87,9 @@ module _ (schema : Schema) (reader : Reader schema) (p : PlainProgram) (path : L
   known : AreKnownTo schema (lowering w).fragment (queries_in (lowering w).known) (lowering w).arguments
   known = known_to schema reader.read p path w may.loop may.known
 
-  rightly : AllByRecursion (λ a. starts_rightly a ≡ true) (lowering w).fragment.accs
-  rightly = all_more (AccumulatorIsValid (lowering w).fragment) (λ a. starts_rightly a ≡ true) (λ a h. h.start) (lowering w).fragment.accs (valid (lowering w).fragment unbroken_fragment).accs
+  columns : AllByRecursion (λ a. takes_a_column a.update ≡ true) (lowering w).fragment.accs
+  columns =
+      all_more (AccumulatorIsValid (lowering w).fragment) (λ a. takes_a_column a.update ≡ true) (λ a h. column_taken (lowering w).fragment a h) (lowering w).fragment.accs (valid (lowering w).fragment unbroken_fragment).accs
 
   started : (x : List ℕ) → IsNeeded (needed_of f) x → IsStarted w.sites x f.run
   started x h = accumulator_started w unbroken.starts x (among_filtered _ (accumulators f) x h).0
@@ -141,7 +143,7 @@ module _ (schema : Schema) (reader : Reader schema) (p : PlainProgram) (path : L
       answers values ended =
           subst (λ ks. AreAnswers world t.store (needed_in_order w) ks values) (sym (asks_are l 0 0 (needed_in_order w) (lowering w).fragment.accs (follow_first l) outer))
           (all_answer l schema reader refl here.method world is_world t entry matched typed given_so claimed (entries_are schema (lowering w).fragment (queries_in (lowering w).known) (lowering w).arguments unbroken_fragment known) may.emitted
-          0 0 (needed_in_order w) (lowering w).fragment.accs values (follow_first l) outer rightly (omega arith) ended (may.ends world.db entry values ended))
+          0 0 (needed_in_order w) (lowering w).fragment.accs values (follow_first l) outer columns (omega arith) ended (may.ends world.db entry values ended))
 
   answer_whole : (here : MeansItsLoopThere schema reader.read p path w) → AnswersWithAnswers (frame_of schema reader.read here.method) (seen_at schema here.method here.hole) w (asks_of l)
   answer_whole here world is_world s t from passes entry matched typed whole fitting values ended = answers here world is_world s t from passes entry matched typed whole values ended

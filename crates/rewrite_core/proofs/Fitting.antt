@@ -1,7 +1,7 @@
 -- What a fragment ends with, as an ask needs it: numbers of 64 bits, and a set with each member once.
 use Rattle.std.proofs.Common.{◌≡◌, true, false, not, List, [], ◌∷◌, Some, refl, ap, ◌∙◌, cond}
 use Rattle.std.specs.List.{filter, list_any}
-use Rattle.std.proofs.lemmas.Bool.{and_parts, or_parts}
+use Rattle.std.proofs.lemmas.Bool.{or_parts}
 use Rattle.qbs_base.specs.declared.scalar.Row.{Row}
 use Rattle.qbs_base.specs.declared.scalar.Value.{Value}
 use Rattle.qbs_base.specs.declared.scalar.Value.TheVariants as values
@@ -12,7 +12,7 @@ use Rattle.kernel_lang.specs.declared.parts.Update.TheVariants as updates
 use Rattle.kernel_lang.specs.Ends.{AreDistinct}
 use Rattle.kernel_lang.specs.Plain.{Accumulator, Fragment}
 use Rattle.kernel_lang.specs.Running.{ends_as}
-use Rattle.kernel_lang.specs.Validity.{takes_a_column, start_is_valid, starts_rightly}
+use Rattle.kernel_lang.specs.Validity.{takes_a_column}
 use Rattle.kernel_lang.proofs.EndSets.{set-distinct}
 use Rattle.sql_ast.specs.Grouped.{firsts}
 use Rattle.java_mean.specs.Expression.{same_member}
@@ -37,10 +37,6 @@ abbrev pub IsOnce : Update → Value → Type 0
 IsOnce (updates.PushNew e) v = (rows : List Row) → v ≡ values.Many rows → firsts same_member rows ≡ rows
 IsOnce _ v = Unit {0}
 
-pub column_taken : (a : Accumulator) → starts_rightly a ≡ true → takes_a_column a.update ≡ true
-unfolding starts_rightly
-column_taken a h = (and_parts (start_is_valid a.update a.start) (takes_a_column a.update) h).1
-
 once_by : (f : Fragment) (w : World) (a : Accumulator) (u : Update) (v : Value) → a.update ≡ u → takes_a_column u ≡ true → ends_as f w a ≡ Some v → IsOnce u v
 once_by f w a (updates.PushNew (elems.Field j c)) v is h e = λ rows many. distinct_firsts rows (set-distinct f w a j c rows is (e ∙ ap (λ z. Some z) many))
 once_by f w a (updates.PushNew (elems.Whole j)) v is h e = absurd cc
@@ -50,6 +46,6 @@ once_by f w a (updates.Plus x) v is h e = tt
 once_by f w a (updates.Best way x) v is h e = tt
 once_by f w a updates.Mark v is h e = tt
 
--- Where an accumulator starts rightly, what it ends with has each member once, if it is a set.
-pub ends_once : (f : Fragment) (w : World) (a : Accumulator) (v : Value) → starts_rightly a ≡ true → ends_as f w a ≡ Some v → IsOnce a.update v
-ends_once f w a v h e = once_by f w a a.update v refl (column_taken a h) e
+-- What an accumulator ends with has each member once, if it is a set, which takes a column.
+pub ends_once : (f : Fragment) (w : World) (a : Accumulator) (v : Value) → takes_a_column a.update ≡ true → ends_as f w a ≡ Some v → IsOnce a.update v
+ends_once f w a v h e = once_by f w a a.update v refl h e

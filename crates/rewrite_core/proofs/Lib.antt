@@ -5,11 +5,15 @@ pub mod Asked
 pub mod Asks
 pub mod Claimed
 pub mod Computed
+pub mod FaultlessArguments
+pub mod FaultlessAsks
+pub mod FaultlessCalls
 pub mod Fitting
 pub mod Keeping
 pub mod Known
 pub mod May
 pub mod Outer
+pub mod SpelledElements
 pub mod TypedAnswers
 pub mod TypedArguments
 pub mod TypedAsks

@@ -25,6 +25,19 @@ use Rattle.std.proofs.lemmas.Bool.{or_left}
 use Rattle.rewrite_core.specs.Asked.{entry_at, arguments_of}
 use Rattle.rewrite_core.proofs.Arguments.{entry_reads}
 
+module _ (w : Setting) where
+  -- the expression of an entry with a type
+  pub record EntryThere (es : List Expression) (k : ℕ) (ty : Ty) : Type 0 where
+    pub entry : Expression
+    pub there : slice_get es k ≡ Some entry
+    pub good : IsGoodEntry w entry
+    pub type : type_of_entry w.schema w.types entry ≡ ty
+
+  pub entry_there : (es : List Expression) → AllByRecursion (IsGoodEntry w) es → (k : ℕ) (ty : Ty) → slice_get (map (type_of_entry w.schema w.types) es) k ≡ Some ty → EntryThere es k ty
+  entry_there [] h k ty e = absurd cc
+  entry_there (d ∷ ds) h zero ty e = record { entry = d; there = refl; good = h.0; type = cc }
+  entry_there (d ∷ ds) h (suc k) ty e = let r : EntryThere ds k ty = entry_there ds h.1 k ty e in record { entry = r.entry; there = r.there; good = r.good; type = r.type }
+
 module _ (w : Setting) (c : Frame) (same : c.schema ≡ w.schema) (g : Types) (at : Span) where
   -- the types agree on what an expression reads
   abbrev Agree : Expression → Type 0
@@ -47,18 +60,6 @@ module _ (w : Setting) (c : Frame) (same : c.schema ≡ w.schema) (g : Types) (a
   good_typed : (e : Expression) → IsGoodEntry w e → Agree e → HasType c g (placed at e) (Of (ScalarOf (type_of_entry w.schema w.types e)))
   good_typed e k agree = entry_typed e (entry_from w k.number e k.entry) k.known agree
 
-  -- the expression of an entry with a type
-  record EntryThere (es : List Expression) (k : ℕ) (ty : Ty) : Type 0 where
-    entry : Expression
-    there : slice_get es k ≡ Some entry
-    good : IsGoodEntry w entry
-    type : type_of_entry w.schema w.types entry ≡ ty
-
-  entry_there : (es : List Expression) → AllByRecursion (IsGoodEntry w) es → (k : ℕ) (ty : Ty) → slice_get (map (type_of_entry w.schema w.types) es) k ≡ Some ty → EntryThere es k ty
-  entry_there [] h k ty e = absurd cc
-  entry_there (d ∷ ds) h zero ty e = record { entry = d; there = refl; good = h.0; type = cc }
-  entry_there (d ∷ ds) h (suc k) ty e = let r : EntryThere ds k ty = entry_there ds h.1 k ty e in record { entry = r.entry; there = r.there; good = r.good; type = r.type }
-
   -- Arguments have the types of their entries.
   pub arguments_typed : (es : List Expression) → AllByRecursion (IsGoodEntry w) es → ((x : List ℕ) (k : JavaType) → is_among (names_read es) x ≡ true → w.types x ≡ Some k → g x ≡ Some k) → (ks : List ℕ) (types : List Ty) → map (slice_get (map (type_of_entry w.schema w.types) es)) ks ≡ map Some types → HaveTypes c g (arguments_of at es ks) types
   arguments_typed es h agree [] [] e = typing.no_more
@@ -68,6 +69,6 @@ module _ (w : Setting) (c : Frame) (same : c.schema ≡ w.schema) (g : Types) (a
       let both : slice_get (map (type_of_entry w.schema w.types) es) k ∷ map (slice_get (map (type_of_entry w.schema w.types) es)) ks ≡ Some ty ∷ map Some types = e in
       let first : slice_get (map (type_of_entry w.schema w.types) es) k ≡ Some ty = cc in
       let rest : map (slice_get (map (type_of_entry w.schema w.types) es)) ks ≡ map Some types = cc in
-      let i : EntryThere es k ty = entry_there es h k ty first in
+      let i : EntryThere w es k ty = entry_there w es h k ty first in
       let value : HasType c g (placed at i.entry) (Of (ScalarOf ty)) = subst (λ z. HasType c g (placed at i.entry) (Of (ScalarOf z))) i.type (good_typed i.entry i.good (λ x j a t. agree x j (entry_reads es k i.entry i.there x a) t)) in
       typing.and (entry_at at (slice_get es k)) (arguments_of at es ks) ty types (subst (λ o. HasType c g (entry_at at o) (Of (ScalarOf ty))) (sym i.there) value) (arguments_typed es h agree ks types rest)

@@ -1,5 +1,5 @@
 -- The asks that stand for a loop are typed: each has the type that its variable has at the loop.
-use Rattle.std.proofs.Common.{◌≡◌, ℕ, suc, ◌+◌, true, false, List, [], ◌∷◌, length, slice_get, Some, refl, sym, ap, ◌∙◌, subst, arith}
+use Rattle.std.proofs.Common.{◌≡◌, ℕ, suc, ◌+◌, true, false, List, [], ◌∷◌, length, slice_get, Option, Some, refl, sym, ap, ◌∙◌, subst, arith}
 use Rattle.std.specs.List.{AllByRecursion}
 use Rattle.std.specs.Option.{option_map}
 use Rattle.qbs_base.specs.declared.scalar.Ty.TheVariants as tys
@@ -21,8 +21,9 @@ use Rattle.sql_emit.specs.Given.{EntriesAreThere}
 use Rattle.sql_emit.specs.Numbered.{Emission, emission}
 use Rattle.sql_emit.specs.Scopes.{ground}
 use Rattle.sql_emit.proofs.Entries.{entries_are}
+use Rattle.sql_emit.proofs.Flags.{column_taken}
 use Rattle.sql_emit.proofs.Valid.{element_in}
-use Rattle.java_ast.specs.Tree.{Spelled, Expressions, PlainMethod}
+use Rattle.java_ast.specs.Tree.{Spelled, Expressions, PlainMethod, PlainProgram}
 use Rattle.java_mean.specs.Asks.{answer_type, type_of_found, frame_of}
 use Rattle.java_mean.specs.declared.types.JavaType.{JavaType}
 use Rattle.java_mean.specs.declared.types.JavaType.TheVariants.{Of, Listed, Distinct}
@@ -45,13 +46,12 @@ use Rattle.java_loops.proofs.Lowering.LowerChains.{at_setting}
 use Rattle.java_loops.proofs.Lowering.LowerValid.{fragments_valid}
 use Rattle.java_loops.proofs.Placing.PlaceLoop.{kernel_unbroken}
 use Rattle.java_loops.proofs.Typing.TypedAccumulators.{accumulators_there as needed_there}
-use Rattle.fragments.specs.Asked.{queries_in}
+use Rattle.fragments.specs.Asked.{queries_in, IsKernelLoop}
 use Rattle.fragments.proofs.Known.KnownLoop.{known_to}
 use Rattle.rewrite_core.specs.Asked.{Place, value_by, arguments_of, table_taken, spelled_or_text, asks_of}
 use Rattle.rewrite_core.specs.Asking.{QueriesAreValid, MayBeAsked, AgreeOnEntries, IsTypedAsk}
 use Rattle.rewrite_core.proofs.Answering.{canonical_read}
 use Rattle.rewrite_core.proofs.Asks.{emission_of, ask_of, asks_by, Follow, follow_first, follow_next, follow_here, asks_are}
-use Rattle.rewrite_core.proofs.Fitting.{column_taken}
 use Rattle.rewrite_core.proofs.Outer.{AreOuter, accumulators_there}
 use Rattle.rewrite_core.proofs.TypedAnswers.{listed_of, made_found, some_same, answer_typed}
 use Rattle.rewrite_core.proofs.TypedArguments.{arguments_typed}
@@ -92,13 +92,13 @@ module _ (c : Frame) (g : Types) (schema : Schema) (f : kernel.Fragment) (at : S
 -- ---- What accumulators collect
 
 -- the accumulator collects what the variable may hold
-record Collects (w : Setting) (x : List ℕ) (a : Accumulator) : Type 0 where
-  type : JavaType
-  visible : w.types x ≡ Some type
-  collects : collected_type w.schema (lowering w).fragment a.update ≡ Some type
+pub record Collects (w : Setting) (x : List ℕ) (a : Accumulator) : Type 0 where
+  pub type : JavaType
+  pub visible : w.types x ≡ Some type
+  pub collects : collected_type w.schema (lowering w).fragment a.update ≡ Some type
 
 -- so it is for each of the names and its accumulator
-abbrev AllCollect : Setting → Names → List Accumulator → Type 0
+abbrev pub AllCollect : Setting → Names → List Accumulator → Type 0
 AllCollect w [] accs = Unit {0}
 AllCollect w (x ∷ xs) [] = ⊥
 AllCollect w (x ∷ xs) (a ∷ accs) = Collects w x a × AllCollect w xs accs
@@ -114,8 +114,14 @@ all_collect w (x ∷ xs) (a ∷ accs) o h =
     let same : first.0 ≡ a = (let e : Some a ≡ Some first.0 = first.1 in cc) in
     (subst (Collects w x) same first.2, all_collect w xs accs o.2 (λ i y e. h (suc i) y e))
 
+-- the accumulators of a loop's needed variables collect what these may hold
+pub collects_there : (schema : Schema) (read : List ℕ → Option PlainQuery) (p : PlainProgram) (path : List ℕ) (w : Setting) → IsKernelLoop schema read p path w → AreOuter (needed_in_order w) (lowering w).fragment.accs → AllCollect w (needed_in_order w) (lowering w).fragment.accs
+collects_there schema read p path w k outer =
+    let needed : AreForNeeded w = needed_there schema read p path w k.typed k.numbers k.there k.unbroken in
+    all_collect w (needed_in_order w) (lowering w).fragment.accs outer (λ i x e. let n : IsForNeeded w i x = needed.needed i x e in (n.accumulator, n.there, record { type = n.type; visible = n.visible; collects = n.collects }))
+
 -- a set takes columns
-takes_column : (u : Update) → takes_a_column u ≡ true → (j : ℕ) → u ≡ updates.PushNew (elems.Whole j) → ⊥
+pub takes_column : (u : Update) → takes_a_column u ≡ true → (j : ℕ) → u ≡ updates.PushNew (elems.Whole j) → ⊥
 takes_column u h j e = let no : false ≡ true = sym (ap takes_a_column e) ∙ h in absurd cc
 
 -- ---- All asks
@@ -137,7 +143,7 @@ module _ (l : Place) (schema : Schema) (reader : Reader schema) (same : l.settin
   one_typed x m k v query =
       let e : Emission = emission_of l m in
       let at : Span = place_of w.fragment.loop in
-      let answer : answer_type w.schema e.query ≡ Some (listed_of k.type) = answer_typed w.schema lowered (ground w.schema lowered l.candidate (queries_in (lowering w).known) (lowering w).arguments) refl m lowered.entries k.type (element_in lowered m.0 v) (takes_column m.0.update (column_taken m.0 v.start)) k.collects in
+      let answer : answer_type w.schema e.query ≡ Some (listed_of k.type) = answer_typed w.schema lowered (ground w.schema lowered l.candidate (queries_in (lowering w).known) (lowering w).arguments) refl m lowered.entries k.type (element_in lowered m.0 v) (takes_column m.0.update (column_taken lowered m.0 v)) k.collects in
       let have : HaveTypes c g (arguments_of at (lowering w).entries e.entries) (params_in e.query) = arguments_typed w c (sym same) g at (lowering w).entries good agree e.entries (params_in e.query) (entries l.candidate m).types in
       record {
         type = k.type;
@@ -166,8 +172,7 @@ asks_are_typed schema reader l method g may agree =
     let p : Place = record { program = l.program; path = l.path; setting = setting_of schema reader.read h f; candidate = l.candidate } in
     let unbroken = fragments_valid schema reader.read l.program l.path w may'.loop.typed may'.loop.numbers may'.loop.there may'.loop.unbroken in
     let outer : AreOuter (needed_in_order w) (lowering w).fragment.accs = accumulators_there schema reader.read l.program l.path f h may'.loop.typed there rules in
-    let needed : AreForNeeded w = needed_there schema reader.read l.program l.path w may'.loop.typed may'.loop.numbers may'.loop.there may'.loop.unbroken in
-    let collect : AllCollect w (needed_in_order w) (lowering w).fragment.accs = all_collect w (needed_in_order w) (lowering w).fragment.accs outer (λ i x e. let k : IsForNeeded w i x = needed.needed i x e in (k.accumulator, k.there, record { type = k.type; visible = k.visible; collects = k.collects })) in
+    let collect : AllCollect w (needed_in_order w) (lowering w).fragment.accs = collects_there schema reader.read l.program l.path w may'.loop outer in
     let entries = entries_are schema (lowering w).fragment (queries_in (lowering w).known) (lowering w).arguments unbroken (known_to schema reader.read l.program l.path w may'.loop may'.known) in
     let good = entries_good schema reader.read f h (fragment_seen schema reader.read l.program l.path f h may'.loop.typed there) (kernel_unbroken w rules).conditions in
     subst (AllByRecursion (IsTypedAsk (frame_of schema reader.read method) w g)) (sym (asks_are p 0 0 (needed_in_order w) (lowering w).fragment.accs (follow_first p) outer))

@@ -1,5 +1,5 @@
 -- What is asked of a loop whose asks have what its fragment ends with.
-use Rattle.std.specs.Prelude.{◌≡◌, ℕ, ◌<◌, true, List, length}
+use Rattle.std.specs.Prelude.{◌≡◌, ℕ, ◌<◌, true, List, [], length}
 use Rattle.std.specs.declared.option.Option.{Option}
 use Rattle.std.specs.declared.option.Option.TheVariants.{Some}
 use Rattle.qbs_base.specs.Values.{Schema}
@@ -7,10 +7,15 @@ use Rattle.sql_ast.specs.Tree.{PlainQuery}
 use Rattle.sql_ast.specs.Valid.{IsQueryOf}
 use Rattle.sql_emit.specs.Numbered.{Emission}
 use Rattle.vc_gen.specs.Soundness.{EndsAnywhere}
-use Rattle.java_ast.specs.Tree.{PlainProgram}
+use Rattle.java_ast.specs.Tree.{Spelled, PlainProgram}
 use Rattle.java_mean.specs.declared.types.JavaType.{JavaType}
+use Rattle.java_mean.specs.Places.{in_expression}
+use Rattle.java_mean.specs.declared.types.Kindred.TheVariants.{Only}
+use Rattle.java_mean.specs.Rules.{type_of}
 use Rattle.java_mean.specs.Types.{Types}
 use Rattle.java_mean.specs.Typing.{Frame, HasType}
+use Rattle.java_mean.specs.Visible.{Visible, is_visible, type_at}
+use Rattle.java_mean.specs.WellTyped.{faults_in}
 use Rattle.loop_text.specs.Statements.Names.{is_among}
 use Rattle.java_loops.specs.Kernel.Kernel.{lowering}
 use Rattle.java_loops.specs.Kernel.Setting.{Setting}
@@ -42,3 +47,16 @@ pub record IsTypedAsk (c : Frame) (w : Setting) (g : Types) (k : Ask) : Type 0 w
   pub type : JavaType
   pub visible : w.types k.name ≡ Some type
   pub value : HasType c g k.value type
+
+-- ---- Rules
+
+-- what the fragment's entry values read is visible, with its type at the loop
+abbrev pub SeesEntries : Setting → Visible → Type 0
+SeesEntries w vs = (x : List ℕ) (k : JavaType) → is_among (names_read (lowering w).entries) x ≡ true → w.types x ≡ Some k → (is_visible vs x ≡ true) × (type_at vs x ≡ Some k)
+
+-- where this is visible, an ask's expression breaks no rule, and is of the type that its variable has at the loop
+pub record IsFaultlessAsk (schema : Schema) (read : List ℕ → Option PlainQuery) (result : Option Spelled) (w : Setting) (vs : Visible) (k : Ask) : Type 0 where
+  pub type : JavaType
+  pub visible : w.types k.name ≡ Some type
+  pub kindred : type_of schema vs k.value ≡ Some (Only type)
+  pub faultless : faults_in schema read result (in_expression vs k.value) ≡ []

@@ -12,12 +12,13 @@ ghost use Rattle.vc_gen.specs.Conditions.{conditions};
 ghost use Rattle.vc_gen.specs.Soundness.{AllAccepted, EndsAnywhere};
 ghost use Rattle.sql_ast.specs.Tree.{PlainQuery};
 ghost use Rattle.sql_emit.specs.Given.{IsHeld, QueryIsCounted};
-ghost use Rattle.java_ast.specs.Tree.{PlainMethod, PlainProgram};
+ghost use Rattle.java_ast.specs.Tree.{Spelled, PlainMethod, PlainProgram};
 ghost use Rattle.java_mean.specs.Asks.{frame_of};
 ghost use Rattle.java_mean.specs.Keeps.{Keeps};
 ghost use Rattle.java_mean.specs.Numbers.{NumbersFit};
 ghost use Rattle.java_mean.specs.Queries.{Reader};
 ghost use Rattle.java_mean.specs.Types.{Types};
+ghost use Rattle.java_mean.specs.Visible.{Visible};
 ghost use Rattle.java_mean.specs.WellTyped.{IsWellTyped};
 ghost use Rattle.loop_text.specs.Statements.KeptStatements.{first_at};
 ghost use Rattle.java_loops.specs.Kernel.Kernel.{lowering};
@@ -25,7 +26,7 @@ ghost use Rattle.java_loops.specs.Kernel.Setting.{Setting};
 ghost use Rattle.java_loops.specs.Meant.Asking.{AskForLoop};
 ghost use Rattle.fragments.specs.Asked.{queries_in, IsKernelLoop, HasQueriesOf};
 ghost use Rattle.rewrite_core.specs.Asked.{Place, asks_of, replaced};
-ghost use Rattle.rewrite_core.specs.Asking.{QueriesAreValid, MayBeAsked, AgreeOnEntries, IsTypedAsk};
+ghost use Rattle.rewrite_core.specs.Asking.{QueriesAreValid, MayBeAsked, AgreeOnEntries, IsTypedAsk, SeesEntries, IsFaultlessAsk};
 
 /// The asks that stand for a loop of the kernel form ask for what the loop makes: each is for the variable of a needed
 /// accumulator, reads what the fragment's entry values read, and has what the fragment ends with, wherever the loop stands in a
@@ -74,6 +75,17 @@ pub fn asks_have_the_types_of_their_variables()
         → MayBeAsked schema reader.read l.program l.path l.setting l.candidate
         → AgreeOnEntries l.setting g
         → AllByRecursion (IsTypedAsk (frame_of schema reader.read method) l.setting g) (asks_of l) }
+{}
+
+/// The expressions of the asks that stand for a loop break no rule, in any method, where what the fragment's entry values read is
+/// visible with its type at the loop: the texts have queries of the calls' forms, whose orders are complete and whose elements are
+/// spelled as the asks' variables are, and the arguments are as many as the parameters and of their types. Each expression is of
+/// the type of the ask's variable.
+pub fn asks_break_no_rule()
+    ensures { (schema : Schema) (reader : Reader schema) (l : Place) (result : Option Spelled) (vs : Visible)
+        → MayBeAsked schema reader.read l.program l.path l.setting l.candidate
+        → SeesEntries l.setting vs
+        → AllByRecursion (IsFaultlessAsk schema reader.read result l.setting vs) (asks_of l) }
 {}
 
 /// A program keeps what it does where a loop gives way to the asks that stand for it, if it stays well typed and its literals
