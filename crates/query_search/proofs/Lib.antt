@@ -1,5 +1,6 @@
 mod Alone
 mod Counts
+pub mod Firsts
 mod Hits
 mod Judged
 mod Parts

@@ -7,6 +7,7 @@ mod asking;
 mod extra;
 mod found;
 mod judge;
+pub mod laws;
 mod nth;
 mod pruner;
 mod searching;
