@@ -11,6 +11,7 @@ use Rattle.qbs_base.specs.declared.scalar.Row.{Row}
 use Rattle.qbs_base.specs.Scalar.{scalar_same, same_cells}
 use Rattle.sql_ast.specs.Grouped.{firsts}
 use Rattle.sql_exec.proofs.Finding.{any_append}
+use Rattle.sql_exec.proofs.Meeting.{or_swap, not_true, not_false}
 use Rattle.sql_ast.proofs.FirstOnes.{firsts_more}
 use Rattle.java_mean.specs.Expression.{same_member, is_among}
 use Rattle.java_mean.specs.Statement.{added}
@@ -62,12 +63,6 @@ any_same : {X : Type 0} (p q : X → Bool) → ((x : X) → p x ≡ q x) → (xs
 any_same p q h [] = refl
 any_same p q h (x ∷ xs) = ap₂ (λ (a b : Bool). a || b) (h x) (any_same p q h xs)
 
-or_swap : (a b : Bool) → cond b true a ≡ (a || (b || false))
-or_swap true true = refl
-or_swap true false = refl
-or_swap false true = refl
-or_swap false false = refl
-
 on_false : (b : Bool) (P : Type 0) → OnFalse b P → b ≡ false → P
 on_false true P h e = absurd cc
 on_false false P h e = h
@@ -95,14 +90,6 @@ module _ (cmp : Key → Key → Ordering) (same : (j k : Key) → is_eq (cmp j k
 
 among_back : (rows : List Row) (row : Row) → list_any (λ b. same_member b row) rows ≡ is_among rows row
 among_back rows row = any_same (λ b. same_member b row) (same_member row) (λ b. cells_back b.cells row.cells) rows
-
-not_true : (a b : Bool) → b ≡ not a → b ≡ true → a ≡ false
-not_true true b e f = absurd cc
-not_true false b e f = refl
-
-not_false : (a b : Bool) → b ≡ not a → b ≡ false → a ≡ true
-not_false true b e f = refl
-not_false false b e f = absurd cc
 
 module _ (s t : BTreeSet Key) (row : Row) (new : Bool) (h : Meets s row new t) where
   firsts_then : (list rows : List Row) (b : Bool) → AreFirsts s list rows → is_among rows row ≡ b → firsts same_member (rows ++ row ∷ []) ≡ cond b list (list ++ row ∷ [])

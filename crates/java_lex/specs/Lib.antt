@@ -7,3 +7,4 @@ pub mod Kept
 pub mod Cutting
 pub mod Spans
 pub mod Words
+pub mod RuleNames

@@ -1,4 +1,7 @@
 // Tokens, and why bytes have none.
+ghost use Rattle.std.specs.Prelude.{◌≡◌};
+ghost use Rattle.java_lex.specs.RuleNames.{rule_number, rule_name};
+
 use qbs_base::{Items, Name, Span, Text};
 use thiserror::Error;
 
@@ -44,6 +47,32 @@ pub enum LexRule {
     /// An integer above 9223372036854775807.
     #[error("an integer of more than 64 bits")]
     LongTooLarge,
+}
+
+impl LexRule {
+    /// Its number, from 1 to 4.
+    pub fn number(self) -> u64
+        ensures { result ≡ rule_number self }
+    {
+        match self {
+            LexRule::BadByte => 1,
+            LexRule::OpenText => 2,
+            LexRule::OpenComment => 3,
+            LexRule::LongTooLarge => 4,
+        }
+    }
+
+    /// Its name, as lines of refusals have it.
+    pub fn name(self) -> &'static str
+        ensures { result.now ≡ rule_name self }
+    {
+        match self {
+            LexRule::BadByte => "BadByte",
+            LexRule::OpenText => "OpenText",
+            LexRule::OpenComment => "OpenComment",
+            LexRule::LongTooLarge => "LongTooLarge",
+        }
+    }
 }
 
 /// The first fault of a text and its place.

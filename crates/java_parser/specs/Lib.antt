@@ -16,6 +16,7 @@ pub mod ReadingExpressions
 pub mod ReadingPrograms
 pub mod ReadingStatements
 pub mod ReadingTypes
+pub mod RuleNames
 pub mod Rules
 pub mod Statements
 pub mod Tails

@@ -1,4 +1,7 @@
 // Why tokens are no program.
+ghost use Rattle.std.specs.Prelude.{◌≡◌};
+ghost use Rattle.java_parser.specs.RuleNames.{rule_number, rule_name};
+
 use qbs_base::Span;
 use thiserror::Error;
 
@@ -11,6 +14,28 @@ pub enum ParseRule {
     /// More than 64 things are open at this token, or a chain has more than 64 operators.
     #[error("nested too deeply")]
     TooDeep,
+}
+
+impl ParseRule {
+    /// Its number, 1 or 2.
+    pub fn number(self) -> u64
+        ensures { result ≡ rule_number self }
+    {
+        match self {
+            ParseRule::Unexpected => 1,
+            ParseRule::TooDeep => 2,
+        }
+    }
+
+    /// Its name, as lines of refusals have it.
+    pub fn name(self) -> &'static str
+        ensures { result.now ≡ rule_name self }
+    {
+        match self {
+            ParseRule::Unexpected => "Unexpected",
+            ParseRule::TooDeep => "TooDeep",
+        }
+    }
 }
 
 /// The fault kept: its rule, its place, and the number of the token, counted from 0. At the end of

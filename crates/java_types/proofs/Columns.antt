@@ -9,7 +9,7 @@ use Rattle.java_ast.specs.declared.tree.Expr.{Expr}
 use Rattle.java_ast.specs.Reading.{expressions}
 use Rattle.java_mean.specs.Rules.{same_length}
 
-pub number_in_table : (schema : Schema) (n : ℕ) (f : List ℕ) → numbers.column_number schema n f ≡ column_number (columns_at schema n) f
+pub number_in_table : (schema : Schema) (n : ℕ) (f : List ℕ) → numbers.column_number_at schema n f ≡ column_number (columns_at schema n) f
 number_in_table [] n f = refl
 number_in_table (t ∷ ts) zero f = refl
 number_in_table (t ∷ ts) (suc n) f = number_in_table ts n f

@@ -12,7 +12,6 @@ mod made;
 mod plan;
 mod results;
 mod rewrite;
-mod rules;
 mod run;
 mod sql;
 mod tables;

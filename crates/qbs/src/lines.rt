@@ -6,10 +6,6 @@ ghost use Rattle.qbs.specs.Plan.{line, refusal};
 
 use crate::Plan;
 use crate::fetch::Stop;
-use crate::rules::{
-    data_name, data_number, lex_name, lex_number, parse_name, parse_number, run_name, run_number,
-    schema_name, schema_number, type_name, type_number,
-};
 use java_lex::LexFault;
 use java_mean::{RunFault, TypeFault, TypeRule};
 use java_parser::ParseFault;
@@ -47,8 +43,8 @@ fn stop(alloc: Global, status: Status, line: String) -> Stop
 pub fn lex_refused(alloc: Global, fault: &LexFault) -> Stop
     ensures { StopsWith (refusal Status.Source (lex_text fault.now)) result }
 {
-    let number = lex_number(fault.rule);
-    let name = lex_name(fault.rule);
+    let number = fault.rule.number();
+    let name = fault.rule.name();
     match rule_line(alloc, "qbs: source: lex ", number, name, fault.at) {
         Ok(line) => stop(alloc, Status::Source, line),
         Err(_) => Stop::Memory,
@@ -59,8 +55,8 @@ pub fn lex_refused(alloc: Global, fault: &LexFault) -> Stop
 pub fn schema_refused(alloc: Global, fault: &SchemaFault) -> Stop
     ensures { StopsWith (refusal Status.Schema (schema_text fault.now)) result }
 {
-    let number = schema_number(fault.rule);
-    let name = schema_name(fault.rule);
+    let number = fault.rule.number();
+    let name = fault.rule.name();
     match rule_line(alloc, "qbs: schema: ", number, name, fault.at) {
         Ok(line) => stop(alloc, Status::Schema, line),
         Err(_) => Stop::Memory,
@@ -71,8 +67,8 @@ pub fn schema_refused(alloc: Global, fault: &SchemaFault) -> Stop
 pub fn parse_refused(alloc: Global, fault: &ParseFault) -> Stop
     ensures { StopsWith (refusal Status.Source (parse_text fault.now)) result }
 {
-    let number = parse_number(fault.rule);
-    let name = parse_name(fault.rule);
+    let number = fault.rule.number();
+    let name = fault.rule.name();
     match rule_line(alloc, "qbs: source: parse ", number, name, fault.at) {
         Ok(line) => stop(alloc, Status::Source, line),
         Err(_) => Stop::Memory,
@@ -83,8 +79,8 @@ pub fn parse_refused(alloc: Global, fault: &ParseFault) -> Stop
 pub fn type_refused(alloc: Global, fault: &TypeFault) -> Stop
     ensures { StopsWith (refusal Status.Types (type_text fault.now)) result }
 {
-    let number = type_number(fault.rule);
-    let name = type_name(fault.rule);
+    let number = fault.rule.number();
+    let name = fault.rule.name();
     match rule_line(alloc, "qbs: types: ", number, name, fault.at) {
         Ok(line) => stop(alloc, Status::Types, line),
         Err(_) => Stop::Memory,
@@ -133,8 +129,8 @@ fn row_line(
 pub fn data_refused(alloc: Global, table: &Name, fault: &DataFault) -> Stop
     ensures { StopsWith (refusal Status.Data (data_text table.now fault.now)) result }
 {
-    let number = data_number(fault.rule);
-    let name = data_name(fault.rule);
+    let number = fault.rule.number();
+    let name = fault.rule.name();
     match row_line(alloc, table.as_str(), number, name, fault.row) {
         Ok(line) => stop(alloc, Status::Data, line),
         Err(_) => Stop::Memory,
@@ -145,8 +141,8 @@ pub fn data_refused(alloc: Global, table: &Name, fault: &DataFault) -> Stop
 pub fn fault_refused(alloc: Global, fault: RunFault, at: Span) -> Stop
     ensures { StopsWith (refusal Status.Faulted (fault_text fault at)) result }
 {
-    let number = run_number(fault);
-    let name = run_name(fault);
+    let number = fault.number();
+    let name = fault.name();
     match rule_line(alloc, "qbs: fault: ", number, name, at) {
         Ok(line) => stop(alloc, Status::Faulted, line),
         Err(_) => Stop::Memory,

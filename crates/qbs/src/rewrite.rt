@@ -2,7 +2,6 @@
 ghost use Rattle.std.specs.Prelude.{◌≡◌, IfOk, Some};
 ghost use Rattle.java_lex.specs.Lexing.{lexed};
 ghost use Rattle.qbs_base.specs.Outside.{Rose};
-ghost use Rattle.qbs_base.specs.Columns.{columns_at};
 ghost use Rattle.qbs.specs.Fetch.{OrMemory};
 ghost use Rattle.qbs.specs.Form.{nodes_of, first_form};
 ghost use Rattle.qbs.specs.Plan.{Due, given};
@@ -19,7 +18,7 @@ use java_ast::Program;
 use java_lex::{Token, Tokens, lex};
 use java_parser::parse;
 use java_types::check;
-use qbs_base::{Bytes, Column, Fail, Files, NoMemory, Span, Status, Text, Ty};
+use qbs_base::{Bytes, Fail, Files, NoMemory, Span, Status, Text, Ty, columns_at};
 use schema::{Schema, parse_schema};
 use std::alloc::Global;
 
@@ -154,20 +153,11 @@ fn is_long_type(ty: Ty) -> bool
     }
 }
 
-fn columns_of(schema: &Schema, table: u32) -> &[Column]
-    ensures { result.now ≡ columns_at schema.now table }
-{
-    match schema.tables().get(table as usize) {
-        Some(table) => table.columns.as_slice(),
-        None => &[],
-    }
-}
-
 // Whether the column is of type Long.
 fn is_long(schema: &Schema, table: u32, column: u32) -> bool
     ensures { result ≡ is_long_at schema.now table column }
 {
-    match columns_of(schema, table).get(column as usize) {
+    match columns_at(schema.tables(), table).get(column as usize) {
         Some(column) => is_long_type(column.ty),
         None => false,
     }

@@ -1,19 +1,15 @@
 -- Columns of a table by its number.
-use Rattle.std.proofs.Common.{◌≡◌, ℕ, zero, suc, ◌<◌, List, [], ◌∷◌, length, get_or, Some, refl, sym, ap, ◌∙◌, arith}
-use Rattle.std.specs.Prelude.{position}
-use Rattle.std.specs.List.{slice_get}
-use Rattle.std.specs.Str.{bytes_eq}
+use Rattle.std.proofs.Common.{◌≡◌, ℕ, ◌<◌, ◌≤◌, List, length, get_or, None, sym, ap, ◌∙◌}
 use Rattle.qbs_base.specs.declared.columns.Column.{Column}
 use Rattle.qbs_base.specs.declared.columns.Table.{Table}
-use Rattle.schema.specs.Numbers.{column_number}
+use Rattle.qbs_base.specs.Columns.{column_number}
+use Rattle.qbs_base.specs.Values.{Schema}
+use Rattle.qbs_base.proofs.ColumnNumbers.{columns_some, columns_none}
+use Rattle.schema.specs.Numbers.{column_number_at}
 
-pub slice_get-within : {X : Type 0} (xs : List X) (i : ℕ) (d : X) → i < length xs → slice_get xs i ≡ Some (get_or xs i d)
-slice_get-within [] i d lt = absurd (omega arith)
-slice_get-within (x ∷ xs) zero d lt = refl
-slice_get-within (x ∷ xs) (suc i) d lt = slice_get-within xs i d (omega arith)
+pub number-within : (schema : Schema) (number : ℕ) (name : List ℕ) (t : Table) (columns : List Column) → number < length schema → t ≡ get_or schema number t → columns ≡ t.columns
+    → column_number_at schema number name ≡ column_number columns name
+number-within schema number name t columns lt is same = ap (λ (cs : List Column). column_number cs name) (sym (same ∙ columns_some schema number t t lt is))
 
-pub column_number-within : (tables : List Table) (number : ℕ) (name : List ℕ) (t : Table) (columns : List Column) → number < length tables → t ≡ get_or tables number t → columns ≡ t.columns
-    → column_number tables number name ≡ position (λ c. bytes_eq c.name name) columns
-column_number-within tables number name t columns lt is same =
-    let found : slice_get tables number ≡ Some t = slice_get-within tables number t lt ∙ ap (λ (u : Table). Some u) (sym is) in
-    rw (found, same) refl
+pub number-outside : (schema : Schema) (number : ℕ) (name : List ℕ) → length schema ≤ number → None ≡ column_number_at schema number name
+number-outside schema number name above = ap (λ (cs : List Column). column_number cs name) (columns_none schema number above)

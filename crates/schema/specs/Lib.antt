@@ -6,6 +6,7 @@ pub mod Naming
 pub mod Numbers
 pub mod Reading
 pub mod Rows
+pub mod RuleNames
 pub mod Rules
 pub mod Schemas
 pub mod Series

@@ -1,4 +1,7 @@
 // What is wrong with a schema or with a table.
+ghost use Rattle.std.specs.Prelude.{◌≡◌};
+ghost use Rattle.schema.specs.RuleNames.{rule_number, rule_name, data_rule_number, data_rule_name};
+
 use qbs_base::Span;
 use thiserror::Error;
 
@@ -24,6 +27,36 @@ pub enum SchemaRule {
     /// The 33rd column of a table.
     #[error("more than 32 columns")]
     TooManyColumns,
+}
+
+impl SchemaRule {
+    /// Its number, from 1 to 6.
+    pub fn number(self) -> u64
+        ensures { result ≡ rule_number self }
+    {
+        match self {
+            SchemaRule::BadToken => 1,
+            SchemaRule::DoubleTable => 2,
+            SchemaRule::DoubleColumn => 3,
+            SchemaRule::NameReserved => 4,
+            SchemaRule::TooManyTables => 5,
+            SchemaRule::TooManyColumns => 6,
+        }
+    }
+
+    /// Its name, as lines of refusals have it.
+    pub fn name(self) -> &'static str
+        ensures { result.now ≡ rule_name self }
+    {
+        match self {
+            SchemaRule::BadToken => "BadToken",
+            SchemaRule::DoubleTable => "DoubleTable",
+            SchemaRule::DoubleColumn => "DoubleColumn",
+            SchemaRule::NameReserved => "NameReserved",
+            SchemaRule::TooManyTables => "TooManyTables",
+            SchemaRule::TooManyColumns => "TooManyColumns",
+        }
+    }
 }
 
 /// The first fault of a text and its place: of two rules that one name breaks the one of the
@@ -56,6 +89,36 @@ pub enum DataRule {
     /// The record 1000001.
     #[error("more than 1000000 rows")]
     TooManyRows,
+}
+
+impl DataRule {
+    /// Its number, from 1 to 6.
+    pub fn number(self) -> u64
+        ensures { result ≡ data_rule_number self }
+    {
+        match self {
+            DataRule::Header => 1,
+            DataRule::Width => 2,
+            DataRule::BadLong => 3,
+            DataRule::BadBool => 4,
+            DataRule::BadUtf8 => 5,
+            DataRule::TooManyRows => 6,
+        }
+    }
+
+    /// Its name, as lines of refusals have it.
+    pub fn name(self) -> &'static str
+        ensures { result.now ≡ data_rule_name self }
+    {
+        match self {
+            DataRule::Header => "Header",
+            DataRule::Width => "Width",
+            DataRule::BadLong => "BadLong",
+            DataRule::BadBool => "BadBool",
+            DataRule::BadUtf8 => "BadUtf8",
+            DataRule::TooManyRows => "TooManyRows",
+        }
+    }
 }
 
 /// The rule that the first bad row breaks in its first bad field, and the number of the row: the

@@ -1,8 +1,8 @@
 // Schemas: reading one, and its tables.
-ghost use Rattle.std.specs.Prelude.{◌≡◌, ◌<◌, List, IfOk, IfErr, IfSome, Ok, length, position};
-ghost use Rattle.std.specs.Str.{bytes_eq};
-ghost use Rattle.schema.specs.Numbers.{table_number, column_number};
+ghost use Rattle.std.specs.Prelude.{◌≡◌, ◌<◌, List, IfOk, IfErr, IfSome, Ok, length};
+ghost use Rattle.schema.specs.Numbers.{column_number_at};
 ghost use Rattle.qbs_base.specs.declared.columns.Table.{Table as PlainTable};
+ghost use Rattle.qbs_base.specs.Columns.{table_number, column_number};
 ghost use Rattle.qbs_base.specs.Memory.{Answers};
 ghost use Rattle.schema.specs.Tokens.{tokens_of, kinds_of};
 ghost use Rattle.schema.specs.Grammar.{HasSchema};
@@ -60,7 +60,7 @@ impl Schema {
     /// The number of the column of this name in the table of that number, and None where there is
     /// no such table. It takes no memory.
     pub fn column(&self, table: u32, name: &Name) -> Option<u32>
-        ensures { result ≡ column_number self.now table name.now }
+        ensures { result ≡ column_number_at self.now table name.now }
     {
         let table = self.tables.as_slice().get(table as usize)?;
         let place = column_place(table.columns.as_slice(), name)?;
@@ -70,7 +70,7 @@ impl Schema {
 
 /// The place of the first table of this name.
 fn table_place(tables: &[Table], name: &Name) -> Option<usize>
-    ensures value { result ≡ position (λ t. bytes_eq t.name name.now) tables.now }
+    ensures value { result ≡ table_number tables.now name.now }
     ensures within { IfSome result (λ place. place < length tables.now) }
 {
     tables.iter().position(|table| table.name == *name)
@@ -78,7 +78,7 @@ fn table_place(tables: &[Table], name: &Name) -> Option<usize>
 
 /// The place of the first column of this name.
 fn column_place(columns: &[Column], name: &Name) -> Option<usize>
-    ensures value { result ≡ position (λ c. bytes_eq c.name name.now) columns.now }
+    ensures value { result ≡ column_number columns.now name.now }
     ensures within { IfSome result (λ place. place < length columns.now) }
 {
     columns.iter().position(|column| column.name == *name)
