@@ -7,6 +7,7 @@ use Rattle.std.specs.declared.option.Option.TheVariants.{Some, None}
 use Rattle.qbs_base.specs.declared.span.Span.{Span}
 use Rattle.java_ast.specs.Tree.{Expression, Statement, Statements, Nothing, Then}
 use Rattle.java_ast.specs.Tree as plain
+pub use Rattle.java_ast.specs.Spans.{place_of}
 use Rattle.loop_text.specs.Statements.Fragment.{is_name}
 pub use Rattle.loop_text.specs.declared.sites.bindings.Binding.{Binding}
 pub use Rattle.loop_text.specs.declared.sites.bindings.Binding.TheVariants.{Row, Local, Outer}
@@ -89,20 +90,6 @@ abbrev pub sites_of : Statement → List Site
 sites_of loop = walk_all (in_loop outside 0) None (kernel_body loop) (with_site [] outside None loop)
 
 -- ---- Sites one by one
-
--- the place of a statement
-abbrev pub place_of : Statement → Span
-place_of (plain.Declare at ty x e) = at
-place_of (plain.Assign at x e) = at
-place_of (plain.Add at x e) = at
-place_of (plain.Sort at x keys downs) = at
-place_of (plain.If at c a) = at
-place_of (plain.IfElse at c a b) = at
-place_of (plain.ForEach at ty x e b) = at
-place_of (plain.While at c b) = at
-place_of (plain.Print at e) = at
-place_of (plain.Return at e) = at
-place_of (plain.Break at) = at
 
 abbrev pub first_place : Option Span → Option Span → Option Span
 first_place (Some at) other = Some at
