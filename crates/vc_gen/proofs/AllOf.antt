@@ -1,7 +1,7 @@
 -- What holds of all elements of a list.
-use Rattle.std.proofs.Common.{◌≡◌, ℕ, zero, suc, Bool, true, false, cond, ◌&&◌, List, [], ◌∷◌, ◌++◌, map, take, slice_get, refl, ap, ap₂, subst}
+use Rattle.std.proofs.Common.{◌≡◌, ℕ, zero, suc, Bool, true, false, cond, ◌&&◌, List, [], ◌∷◌, ◌++◌, map, take, slice_get, refl, ap₂}
 use Rattle.std.specs.List.{filter, flat_map, list_all, AllByRecursion}
-use Rattle.std.specs.declared.option.Option.TheVariants.{Some, None}
+use Rattle.std.specs.declared.option.Option.TheVariants.{Some}
 use Rattle.tor_axioms.proofs.Decided.{and_left, and_right}
 
 module _ {X : Type 0} where

@@ -26,3 +26,5 @@ pub mod Refused
 pub mod Short
 pub mod Joined
 pub mod Unguarded
+pub mod Seeking
+pub mod ByAccumulator

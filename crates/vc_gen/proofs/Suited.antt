@@ -1,5 +1,5 @@
 -- What a fragment is given, as an environment, and what its rows have where its parts fit.
-use Rattle.std.proofs.Common.{◌≡◌, ℕ, zero, suc, ◌<◌, Bool, true, false, cond, ◌&&◌, List, [], ◌∷◌, map, length, is_some, nat_eq, nat_lt, get_or, slice_get, refl, sym, ap, ◌∙◌, subst, arith}
+use Rattle.std.proofs.Common.{◌≡◌, ℕ, zero, suc, ◌<◌, Bool, true, false, cond, ◌&&◌, List, [], ◌∷◌, map, length, is_some, nat_eq, nat_lt, slice_get, refl, sym, ap, ◌∙◌, subst, arith}
 use mathlib.Core.Path.{fun_ext}
 use Rattle.std.specs.List.{flat_map, list_all, list_any, AllByRecursion}
 use Rattle.std.proofs.lemmas.Bool.Decides.{nat_tests}
@@ -17,8 +17,7 @@ use Rattle.tor_terms.specs.declared.env.FlagTable.{FlagTable}
 use Rattle.tor_terms.specs.declared.term.Elem.{Elem}
 use Rattle.tor_terms.specs.declared.term.Elem.TheVariants as elems
 use Rattle.tor_terms.specs.Plain.{Form}
-use Rattle.tor_terms.specs.Truth.{World, form_within}
-use Rattle.tor_terms.specs.Value.{plain_row}
+use Rattle.tor_terms.specs.Truth.{form_within}
 use Rattle.tor_terms.specs.Worlds.{flag_truth, world_of}
 use Rattle.tor_axioms.proofs.Decided.{and_left, and_right}
 use Rattle.kernel_lang.specs.declared.parts.Entry.{Entry}
@@ -27,7 +26,7 @@ use Rattle.kernel_lang.specs.declared.parts.Update.{Update}
 use Rattle.kernel_lang.specs.declared.parts.Update.TheVariants.{Push, PushNew, Tick, Plus, Best, Mark}
 use Rattle.kernel_lang.specs.Fitting.{key_places, atom_places, element_places, is_of, table_at, ColumnFits, UpdateFits, PartsFit}
 use Rattle.qbs_base.specs.Tables.{rows_of}
-use Rattle.kernel_lang.specs.Given.{before, listed, list_at, world_given}
+use Rattle.kernel_lang.specs.Given.{before, listed, list_at, world_given, world_over}
 use Rattle.kernel_lang.specs.Plain.{Accumulator, Fragment}
 use Rattle.kernel_lang.specs.Pools.{chosen}
 use Rattle.kernel_lang.specs.Sentences.{AccumulatorIsValid}
@@ -48,18 +47,6 @@ list_there : (db : Database) (defs : List ListDef) (j : ℕ) → lists_in (map (
 list_there db [] j = refl
 list_there db (d ∷ ds) zero = refl
 list_there db (d ∷ ds) (suc j) = list_there db ds j
-
-abbrev world_over : (ℕ → List Row) → Entry → World
-world_over lists entry =
-    record {
-      lists = lists;
-      turns = λ j. 0;
-      current = λ j. plain_row None;
-      entries = λ k. slice_get entry.values k;
-      known = λ q. get_or entry.known q [];
-      held = λ n. [];
-      flags = λ k rows. false;
-    }
 
 pub same_given : (f : Fragment) (db : Database) (entry : Entry) (tables : List FlagTable) → world_of (env_given f db entry tables) ≡ record (world_given f db entry) { flags = λ k. flag_truth (slice_get tables k) }
 same_given f db entry tables = ap (λ (lists : ℕ → List Row). record (world_over lists entry) { flags = λ k. flag_truth (slice_get tables k) }) (fun_ext (λ j. list_there db f.lists j))

@@ -3,3 +3,4 @@ pub mod Levels
 pub mod Short
 pub mod Soundness
 pub mod Worked
+pub mod Sought

@@ -1,11 +1,13 @@
 //! Laws of conditions. These functions do nothing.
 ghost use Rattle.std.specs.Prelude.{◌≡◌, ℕ, List, [], ◌∷◌, None};
+ghost use Rattle.std.specs.List.{flat_map};
 ghost use Rattle.tor_axioms.specs.Accepts.{Proof, Claim};
 ghost use Rattle.kernel_lang.specs.Plain.{Fragment};
+ghost use Rattle.kernel_lang.specs.Pools.{members};
 ghost use Rattle.kernel_lang.specs.Refuted.{IsRefuted};
 ghost use Rattle.kernel_lang.specs.Validity.{broken};
 ghost use Rattle.kernel_lang.specs.Worked.{class_A, class_B, class_C, class_D, class_E, name_set};
-ghost use Rattle.vc_gen.specs.Conditions.{conditions};
+ghost use Rattle.vc_gen.specs.Conditions.{conditions, own_conditions};
 ghost use Rattle.vc_gen.specs.Soundness.{AllValid, AllValidAnywhere, AllSound, AllAccepted, EndsAsClaimed, EndsAnywhere};
 ghost use Rattle.vc_gen.specs.Worked.{of_one_loop, of_a_nest, of_a_flag, of_the_greatest, of_a_sum, of_a_set};
 
@@ -17,6 +19,12 @@ pub fn worked_conditions()
     ensures greatest { conditions class_C [] ≡ of_the_greatest }
     ensures sum { conditions class_D [] ≡ of_a_sum }
     ensures set { conditions name_set [] ≡ of_a_set }
+{}
+
+/// The conditions of a candidate are those of its accumulators, each with its own choice, one
+/// accumulator after the other.
+pub fn conditions_by_accumulator()
+    ensures { (f : Fragment) (c : List ℕ) → conditions f c ≡ flat_map (own_conditions f.atoms) (members f c) }
 {}
 
 /// Conditions are valid where each is sound, as the checker of derivations says, and so where each

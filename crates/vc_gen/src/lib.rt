@@ -4,8 +4,10 @@
 mod all;
 pub mod laws;
 mod level;
+mod nth;
 mod own;
 mod paths;
 mod terms;
 
 pub use all::conditions;
+pub use nth::own_condition;

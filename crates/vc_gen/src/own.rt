@@ -15,24 +15,25 @@ use kernel_lang::{Acc, Update};
 use qbs_base::{Items, NoMemory, Scalar};
 use std::alloc::Global;
 use tor_axioms::{Literal, Literals, Vc, Vcs};
-use tor_terms::{Atoms, Formulas, Index, Loops, Term, copy_atoms, copy_term};
+use tor_terms::{Atoms, Formula, Formulas, Index, Loops, Term, copy_atoms, copy_term};
 
 /// The update of an accumulator and its chosen formulas, over these atoms.
-#[derive(Drop)]
-struct Chosen {
-    atoms: Atoms,
-    update: Update,
-    formulas: Formulas,
+#[derive(Clone, Copy)]
+pub struct Chosen<'a> {
+    pub atoms: &'a Atoms,
+    pub update: Update,
+    pub formulas: &'a [Formula],
 }
 
 /// Where a level stands: the loops round it, and what the accumulator has at entry.
 #[derive(Drop)]
-struct Place {
-    outer: Loops,
-    entry: Term,
+pub struct Place {
+    pub outer: Loops,
+    pub entry: Term,
 }
 
-fn literals(alloc: Global, path: &[(u32, bool)]) -> Result<Literals, NoMemory>
+/// The facts of a path.
+pub fn literals(alloc: Global, path: &[(u32, bool)]) -> Result<Literals, NoMemory>
     ensures { IfOk result (λ facts. facts ≡ spec.facts_of path.now) }
 {
     let mut facts = Items::new(alloc);
@@ -85,8 +86,8 @@ fn add_by_paths(
     Ok(())
 }
 
-// What is so after some turns of a level's loop.
-fn turns(
+/// What is so after some turns of a level's loop.
+pub fn turns(
     alloc: Global,
     chosen: &Chosen,
     place: &Place,
@@ -96,9 +97,9 @@ fn turns(
 ) -> Result<Term, NoMemory>
     ensures { IfOk result (λ t.
         tree_of t
-        ≡ post.part chosen.now.update (forms_of chosen.now.formulas) place.now.outer (tree_of place.now.entry) (layer_seen y.now) (layers_seen ys.now) index) }
+        ≡ post.part chosen.now.update (forms_of chosen.now.formulas.now) place.now.outer (tree_of place.now.entry) (layer_seen y.now) (layers_seen ys.now) index) }
 {
-    let fs = chosen.formulas.as_slice();
+    let fs = chosen.formulas;
     let outer = place.outer.as_slice();
     part(alloc, chosen.update, fs, outer, &place.entry, y, ys, index)
 }
@@ -115,11 +116,11 @@ fn add_entry(
     ensures { IfOk result (λ _.
         spec.claims_of all.new
         ≡ spec.claims_of all.old
-        ++ spec.entry chosen.now.atoms chosen.now.update (forms_of chosen.now.formulas) place.now.outer (tree_of place.now.entry) (layer_seen y.now) (layers_seen ys.now) way.now ∷ []) }
+        ++ spec.entry chosen.now.atoms.now chosen.now.update (forms_of chosen.now.formulas.now) place.now.outer (tree_of place.now.entry) (layer_seen y.now) (layers_seen ys.now) way.now ∷ []) }
 {
     let none = turns(alloc, chosen, place, y, ys, Index::Zero)?;
     let entry = copy_term(alloc, &place.entry)?;
-    add_condition(alloc, &chosen.atoms, way, none, entry, all)
+    add_condition(alloc, chosen.atoms, way, none, entry, all)
 }
 
 fn add_true_steps(
@@ -134,9 +135,9 @@ fn add_true_steps(
     ensures { IfOk result (λ _.
         spec.claims_of all.new
         ≡ spec.claims_of all.old
-        ++ spec.true_steps chosen.now.atoms chosen.now.update (forms_of chosen.now.formulas) place.now.outer (tree_of place.now.entry) (layer_seen y.now) (layers_seen ys.now) way.now) }
+        ++ spec.true_steps chosen.now.atoms.now chosen.now.update (forms_of chosen.now.formulas.now) place.now.outer (tree_of place.now.entry) (layer_seen y.now) (layers_seen ys.now) way.now) }
 {
-    let fs = chosen.formulas.as_slice();
+    let fs = chosen.formulas;
     let outer = place.outer.as_slice();
     let passes = guard_paths(alloc, &y.guard, true)?;
     let before = turns(alloc, chosen, place, y, ys, Index::At(y.over))?;
@@ -145,7 +146,7 @@ fn add_true_steps(
     let done = whole(alloc, chosen.update, fs, inside.as_slice(), before, ys)?;
     add_by_paths(
         alloc,
-        &chosen.atoms,
+        chosen.atoms,
         way,
         &advanced,
         &done,
@@ -166,14 +167,14 @@ fn add_false_steps(
     ensures { IfOk result (λ _.
         spec.claims_of all.new
         ≡ spec.claims_of all.old
-        ++ spec.false_steps chosen.now.atoms chosen.now.update (forms_of chosen.now.formulas) place.now.outer (tree_of place.now.entry) (layer_seen y.now) (layers_seen ys.now) way.now) }
+        ++ spec.false_steps chosen.now.atoms.now chosen.now.update (forms_of chosen.now.formulas.now) place.now.outer (tree_of place.now.entry) (layer_seen y.now) (layers_seen ys.now) way.now) }
 {
     let fails = guard_paths(alloc, &y.guard, false)?;
     let before = turns(alloc, chosen, place, y, ys, Index::At(y.over))?;
     let after = turns(alloc, chosen, place, y, ys, Index::Next(y.over))?;
     add_by_paths(
         alloc,
-        &chosen.atoms,
+        chosen.atoms,
         way,
         &after,
         &before,
@@ -194,14 +195,14 @@ fn add_exit(
     ensures { IfOk result (λ _.
         spec.claims_of all.new
         ≡ spec.claims_of all.old
-        ++ spec.exit chosen.now.atoms chosen.now.update (forms_of chosen.now.formulas) place.now.outer (tree_of place.now.entry) (layer_seen y.now) (layers_seen ys.now) way.now ∷ []) }
+        ++ spec.exit chosen.now.atoms.now chosen.now.update (forms_of chosen.now.formulas.now) place.now.outer (tree_of place.now.entry) (layer_seen y.now) (layers_seen ys.now) way.now ∷ []) }
 {
-    let fs = chosen.formulas.as_slice();
+    let fs = chosen.formulas;
     let outer = place.outer.as_slice();
     let full = turns(alloc, chosen, place, y, ys, Index::Len(y.over))?;
     let entry = copy_term(alloc, &place.entry)?;
     let ended = whole_level(alloc, chosen.update, fs, outer, entry, y, ys)?;
-    add_condition(alloc, &chosen.atoms, way, full, ended, all)
+    add_condition(alloc, chosen.atoms, way, full, ended, all)
 }
 
 fn add_at_level(
@@ -216,7 +217,7 @@ fn add_at_level(
     ensures { IfOk result (λ _.
         spec.claims_of all.new
         ≡ spec.claims_of all.old
-        ++ spec.at_level chosen.now.atoms chosen.now.update (forms_of chosen.now.formulas) place.now.outer (tree_of place.now.entry) (layer_seen y.now) (layers_seen ys.now) way.now) }
+        ++ spec.at_level chosen.now.atoms.now chosen.now.update (forms_of chosen.now.formulas.now) place.now.outer (tree_of place.now.entry) (layer_seen y.now) (layers_seen ys.now) way.now) }
 {
     add_entry(alloc, chosen, place, y, ys, way, all)?;
     add_true_steps(alloc, chosen, place, y, ys, way, all)?;
@@ -236,7 +237,7 @@ fn add_level(
     ensures { IfOk result (λ _.
         spec.claims_of all.new
         ≡ spec.claims_of all.old
-        ++ spec.level chosen.now.atoms chosen.now.update (forms_of chosen.now.formulas) place.now.outer ways.now (tree_of place.now.entry) (layer_seen y.now) (layers_seen ys.now)) }
+        ++ spec.level chosen.now.atoms.now chosen.now.update (forms_of chosen.now.formulas.now) place.now.outer ways.now (tree_of place.now.entry) (layer_seen y.now) (layers_seen ys.now)) }
 {
     for way in ways {
         add_at_level(alloc, chosen, place, y, ys, way.as_slice(), all)?;
@@ -244,7 +245,8 @@ fn add_level(
     Ok(())
 }
 
-fn with_loop(alloc: Global, outer: &[u32], over: u32) -> Result<Loops, NoMemory>
+/// Loops, and one more inside them.
+pub fn with_loop(alloc: Global, outer: &[u32], over: u32) -> Result<Loops, NoMemory>
     ensures { IfOk result (λ loops. loops ≡ outer.now ++ over ∷ []) }
 {
     let mut inside = Items::from_vec(outer.to_vec(alloc)?);
@@ -252,7 +254,8 @@ fn with_loop(alloc: Global, outer: &[u32], over: u32) -> Result<Loops, NoMemory>
     Ok(inside)
 }
 
-fn place_inside(alloc: Global, place: &Place, over: u32) -> Result<Place, NoMemory>
+/// Where the level inside a level stands.
+pub fn place_inside(alloc: Global, place: &Place, over: u32) -> Result<Place, NoMemory>
     requires { length place.now.outer ≤ 3 }
     ensures outer { IfOk result (λ inner. inner.outer ≡ place.now.outer ++ over ∷ []) }
     ensures entry { IfOk result (λ inner. tree_of inner.entry ≡ plain.Hold (length place.now.outer + 2)) }
@@ -262,8 +265,12 @@ fn place_inside(alloc: Global, place: &Place, over: u32) -> Result<Place, NoMemo
     Ok(Place { outer, entry })
 }
 
-// Where the first level inside a declaration stands.
-fn first_place(alloc: Global, start: &Option<Scalar>, outside: &[Level]) -> Result<Place, NoMemory>
+/// Where the first level inside a declaration stands.
+pub fn first_place(
+    alloc: Global,
+    start: &Option<Scalar>,
+    outside: &[Level],
+) -> Result<Place, NoMemory>
     ensures outer { IfOk result (λ place. place.outer ≡ loops_of (layers_seen outside.now)) }
     ensures entry { IfOk result (λ place. tree_of place.entry ≡ post.start_term start.now) }
     ensures length { IfOk result (λ place. length place.outer ≡ length outside.now) }
@@ -271,24 +278,6 @@ fn first_place(alloc: Global, start: &Option<Scalar>, outside: &[Level]) -> Resu
     let outer = loops(alloc, outside)?;
     let entry = start_term(start)?;
     Ok(Place { outer, entry })
-}
-
-fn over_atoms(
-    alloc: Global,
-    atoms: &Atoms,
-    update: Update,
-    formulas: Formulas,
-) -> Result<Chosen, NoMemory>
-    ensures atoms { IfOk result (λ chosen. chosen.atoms ≡ atoms.now) }
-    ensures update { IfOk result (λ chosen. chosen.update ≡ update) }
-    ensures formulas { IfOk result (λ chosen. chosen.formulas ≡ formulas) }
-{
-    let atoms = copy_atoms(alloc, atoms.as_slice())?;
-    Ok(Chosen {
-        atoms,
-        update,
-        formulas,
-    })
 }
 
 fn add_inside(
@@ -303,7 +292,7 @@ fn add_inside(
     ensures { IfOk result (λ _.
         spec.claims_of all.new
         ≡ spec.claims_of all.old
-        ++ spec.conditions_in chosen.now.atoms chosen.now.update (forms_of chosen.now.formulas) place.now.outer ways.now (tree_of place.now.entry) (layers_seen ys.now)) }
+        ++ spec.conditions_in chosen.now.atoms.now chosen.now.update (forms_of chosen.now.formulas.now) place.now.outer ways.now (tree_of place.now.entry) (layers_seen ys.now)) }
 {
     match ys.split_first() {
         None => Ok(()),
@@ -317,7 +306,8 @@ fn add_inside(
     }
 }
 
-fn ways_through(alloc: Global, outside: &[Level]) -> Result<Paths, NoMemory>
+/// The ways through the guards of these levels.
+pub fn ways_through(alloc: Global, outside: &[Level]) -> Result<Paths, NoMemory>
     ensures { IfOk result (λ ways. ways ≡ spec.ways_through ([] ∷ []) (layers_seen outside.now)) }
 {
     let mut ways = empty_path(alloc)?;
@@ -340,7 +330,7 @@ fn add_in_place(
     ensures { IfOk result (λ _.
         spec.claims_of all.new
         ≡ spec.claims_of all.old
-        ++ spec.conditions_in chosen.now.atoms chosen.now.update (forms_of chosen.now.formulas) (loops_of (layers_seen outside.now)) (spec.ways_through ([] ∷ []) (layers_seen outside.now)) (post.start_term start.now) (layers_seen inside.now)) }
+        ++ spec.conditions_in chosen.now.atoms.now chosen.now.update (forms_of chosen.now.formulas.now) (loops_of (layers_seen outside.now)) (spec.ways_through ([] ∷ []) (layers_seen outside.now)) (post.start_term start.now) (layers_seen inside.now)) }
 {
     let ways = ways_through(alloc, outside)?;
     let place = first_place(alloc, start, outside)?;
@@ -359,8 +349,12 @@ pub fn add_own(
     ensures { IfOk result (λ _. spec.claims_of all.new ≡ spec.claims_of all.old ++ spec.own_conditions atoms.now (accumulator a.now, forms_of formulas)) }
 {
     let levels = levels(alloc, a)?;
-    let chosen = over_atoms(alloc, atoms, a.update, formulas)?;
     let outside = first_levels(levels.as_slice(), a.base as usize);
     let inside = last_levels(levels.as_slice(), a.base as usize);
+    let chosen = Chosen {
+        atoms,
+        update: a.update,
+        formulas: formulas.as_slice(),
+    };
     add_in_place(alloc, &chosen, &a.start, outside, inside, all)
 }
