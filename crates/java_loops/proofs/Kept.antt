@@ -1,3 +1,4 @@
+pub mod EntryNames
 pub mod KeptAlone
 pub mod KeptAsks
 pub mod KeptMeant

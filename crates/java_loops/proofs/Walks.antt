@@ -26,6 +26,7 @@ pub mod Flags
 pub mod Given
 pub mod KeptRuns
 pub mod Left
+pub mod Named
 pub mod Names
 pub mod Nests
 pub mod Passing

@@ -1,18 +1,21 @@
 //! Laws of the variables that a loop is there for: their accumulators, and the types with which they are declared. They do nothing.
-ghost use Rattle.std.specs.Prelude.{◌≡◌, ℕ, List};
+ghost use Rattle.std.specs.Prelude.{◌≡◌, ℕ, List, slice_get};
 ghost use Rattle.std.specs.declared.option.Option.{Option};
 ghost use Rattle.std.specs.declared.option.Option.TheVariants.{Some, None};
 ghost use Rattle.qbs_base.specs.Values.{Schema};
 ghost use Rattle.sql_ast.specs.Tree.{PlainQuery};
 ghost use Rattle.java_ast.specs.Path.{found_in};
-ghost use Rattle.java_ast.specs.Tree.{PlainProgram};
+ghost use Rattle.java_ast.specs.Tree.{Expression, PlainProgram};
 ghost use Rattle.java_mean.specs.Numbers.{NumbersFit};
 ghost use Rattle.java_mean.specs.Types.{type_spelled};
 ghost use Rattle.java_mean.specs.WellTyped.{IsWellTyped};
+ghost use Rattle.loop_text.specs.Statements.Names.{is_among};
 ghost use Rattle.java_loops.specs.Kernel.Kernel.{broken, setting_at};
 ghost use Rattle.java_loops.specs.Kernel.Setting.{Setting};
 ghost use Rattle.java_loops.specs.Lowering.Collected.{AreForNeeded};
+ghost use Rattle.java_loops.specs.Lowering.Lowered.{names_read};
 ghost use Rattle.java_loops.specs.Lowering.Spelling.{spelled_at};
+ghost use Rattle.java_loops.specs.Walks.Reads.{Reads};
 
 /// A variable has at a loop the type that the program spells where it declares the variable, and no type where none that is in
 /// sight declares it.
@@ -32,4 +35,9 @@ pub fn accumulators_are_for_needed_variables()
         → setting_at schema read path p ≡ Some w
         → broken w ≡ None
         → AreForNeeded w }
+{}
+
+/// What an entry value reads is among the names that are read for entry values.
+pub fn entry_values_read_what_is_read()
+    ensures { (entries : List Expression) (k : ℕ) (e : Expression) → slice_get entries k ≡ Some e → Reads (is_among (names_read entries)) e }
 {}

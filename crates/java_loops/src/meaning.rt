@@ -117,11 +117,9 @@ pub fn loops_give_way_to_asks()
 /// stay are these (`only`), and they are such numbers (`kept`).
 pub fn kept_statements_have_their_numbers()
     ensures only { (f : Fragment) (further : Names) (n : ℕ) (run : Statements) (numbers : List ℕ)
-        → are_simple f.run ≡ true
         → AreKept f further n run numbers
         → numbers ≡ kept_numbers f further n run }
     ensures kept { (f : Fragment) (further : Names) (n : ℕ) (run : Statements)
-        → are_simple f.run ≡ true
         → AreKept f further n run (kept_numbers f further n run) }
 {}
 

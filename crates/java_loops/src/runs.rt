@@ -11,7 +11,8 @@ ghost use Rattle.java_mean.specs.Statement.{State, Passed, GoesOn, in_order, is_
 ghost use Rattle.java_mean.specs.Store.{Variable};
 ghost use Rattle.java_mean.specs.World.{World};
 ghost use Rattle.java_loops.specs.Walks.Reads.{Set, Reads};
-ghost use Rattle.java_loops.specs.Walks.Runs.{are_simple, is_set_in, settings, SplitsAt, unset_in, set_held, constant, Gives, IsSilent, IsGiven, IsSorted, HasRows, kept, KeptRead, KeptPasses};
+ghost use Rattle.loop_text.specs.Statements.Fragment.{are_simple};
+ghost use Rattle.java_loops.specs.Walks.Runs.{is_set_in, settings, SplitsAt, unset_in, set_held, constant, Gives, IsSilent, IsGiven, IsSorted, HasRows, kept, KeptRead, KeptPasses};
 
 /// A run never prints, takes no turn, leaves no loop and returns nothing. The variables that none of its
 /// statements sets are as they were.

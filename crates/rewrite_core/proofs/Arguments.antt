@@ -19,7 +19,7 @@ use Rattle.loop_text.specs.Statements.Names.{is_among, names_in}
 use Rattle.java_loops.specs.Lowering.Lowered.{names_read}
 use Rattle.java_loops.specs.Meant.Means.{AreMatched, HasScalar}
 use Rattle.java_loops.specs.Walks.Reads.{Set, Reads, AllRead}
-use Rattle.java_loops.proofs.Known.KnownLists.{reads_named}
+use Rattle.java_loops.proofs.Walks.Named.{reads_named}
 use Rattle.java_loops.proofs.Nested.NestNames.{among_left, among_right}
 use Rattle.rewrite_core.specs.Asked.{entry_at, arguments_of}
 

@@ -7,13 +7,14 @@ use Rattle.sql_ast.proofs.Tools.{all_at}
 use Rattle.java_ast.specs.Tree.{Expression}
 use Rattle.java_mean.proofs.Members.{all_filtered}
 use Rattle.loop_text.specs.Kernel.KernelConditions.{leaves, name_where, is_taking, best_under, all_best_under, compares, is_excepted, condition_of}
-use Rattle.loop_text.specs.Kernel.KernelForms.{Form, adds, counts, sums, takes, marks, other, form_of, Claim, claims, mentions, Found, found_at, mentioning, best_claims}
+use Rattle.loop_text.specs.Kernel.KernelForms.{form_of, Claim, claims, mentions, Found, found_at, mentioning, best_claims}
 use Rattle.java_loops.specs.Kernel.KernelForms.{broken_forms}
 use Rattle.loop_text.specs.Statements.Names.{is_among, names_in}
 use Rattle.java_loops.specs.Kernel.Setting.{Setting}
 use Rattle.loop_text.specs.Sites.Sites.{Test, Site, RowColumn, is_under, inner_tests, target_of, is_update}
 use Rattle.java_loops.proofs.Formed.FormExcepted.{any_at, TakesBest, takes_best_at, OnlyFound, found_of, other_under, best_under_is}
 use Rattle.java_loops.proofs.Formed.FormMentions.{unmentioned, leaves_fail}
+use Rattle.java_loops.proofs.Nested.NestBest.{Taking, taking}
 use Rattle.java_loops.proofs.Numbers.NumberLists.{Numbered, numbered}
 use Rattle.java_loops.proofs.Standing.StandingKnown.{Tested, Known}
 use Rattle.java_loops.proofs.Standing.StandingRules.{get_same}
@@ -63,18 +64,6 @@ found_number m (q ∷ ts) zero t f e h differs =
 found_number m (q ∷ ts) (suc k) t f e h differs = later_number m ts k t (mentioning m q) f h e differs (λ rest. found_number m ts k t f e rest differs)
 
 -- ---- Where a best value is taken
-
-record Taking (form : Form) : Type 0 where
-  column : RowColumn
-  is : form ≡ takes column
-
-taking : (form : Form) → is_taking form ≡ true → Taking form
-taking (adds t) h = absurd cc
-taking counts h = absurd cc
-taking (sums c) h = absurd cc
-taking (takes c) h = record { column = c; is = refl }
-taking (marks b) h = absurd cc
-taking other h = absurd cc
 
 record NamedWhere (b : Bool) (o : Option (List ℕ)) (test : List ℕ → Bool) : Type 0 where
   name : List ℕ

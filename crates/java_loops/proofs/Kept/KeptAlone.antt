@@ -6,22 +6,20 @@ use Rattle.java_ast.specs.Tree as tree
 use Rattle.java_ast.specs.Tree.{Expression, Statement, Statements, Then}
 use Rattle.java_mean.proofs.Puts.{names_equal, name_same}
 use Rattle.java_loops.specs.Walks.Needed.{needed, KeptAlone}
-use Rattle.java_loops.specs.Walks.Runs as runs
 use Rattle.java_loops.specs.Walks.Runs.{Gives, declares, assigns, KeptRead}
 use Rattle.java_loops.proofs.Walks.EnoughWalks.{needed_closed}
 use Rattle.java_loops.proofs.Walks.Walks.{closed_reads}
-use Rattle.loop_text.specs.Statements.Fragment.{Fragment, are_simple, accumulators, counter, is_name, is_live, set_by, StandsIn, first, after}
+use Rattle.loop_text.specs.Statements.Fragment.{Fragment, accumulators, counter, is_name, is_live, set_by, StandsIn, first, after}
 use Rattle.loop_text.specs.Kernel.KernelLoop.{starts_at_zero}
 use Rattle.java_loops.specs.Kernel.KernelLoop.{broken_loop}
 use Rattle.loop_text.specs.Statements.Names.{Names, is_among, mentioned_in}
 use Rattle.java_loops.specs.Kernel.Setting.{Setting}
 use Rattle.loop_text.specs.Statements.Setting.{touches, first_touching, is_found, given_by}
 use Rattle.java_loops.specs.Meant.KeptNumbers.{base_of, dropped_of, kept_set}
-use Rattle.java_loops.proofs.Kept.KeptRuns.{mentions_are, stands_here, simple_in}
 use Rattle.java_loops.proofs.Nested.NestCounter.{Kind, each, counts, loop_kind, counted_name}
 use Rattle.java_loops.proofs.Nested.NestRules.{Unbroken}
 use Rattle.java_loops.proofs.Nested.NestStarts.{Starts, here, later, accumulator_starts, counter_starts}
-use Rattle.java_loops.proofs.Placing.PlaceRuns.{set_by_is, gives}
+use Rattle.java_loops.proofs.Placing.PlaceRuns.{gives}
 use Rattle.java_loops.proofs.Starts.StartCounter.{IsCounted, loop_counts}
 
 -- ---- The one statement that mentions a variable
@@ -68,20 +66,18 @@ dropped_started w u x h =
     (or_cases (is_among (accumulators w.fragment) x) (is_name (counter w.fragment.loop) x) h)
 
 -- No kept statement mentions a dropped variable.
-dropped_alone : (w : Setting) → Unbroken w → are_simple w.fragment.run ≡ true → KeptAlone (dropped_of w.fragment) w.fragment.run
-dropped_alone w u simple s x i d m =
+dropped_alone : (w : Setting) → Unbroken w → KeptAlone (dropped_of w.fragment) w.fragment.run
+dropped_alone w u s x i d m =
     false_from_ne_true (dropped_of w.fragment x) (λ e.
-    let there : StandsIn s w.fragment.run = stands_here s w.fragment.run i in
-    let mention : is_among (mentioned_in s) x ≡ true = sym (mentions_are s x (simple_in s w.fragment.run there simple)) ∙ m in
-    let sets : bytes_eq (set_by s) x ≡ true = mention_sets x s w.fragment.run there (dropped_started w u x e) mention in
-    let same : dropped_of w.fragment (runs.set_by s) ≡ dropped_of w.fragment x = ap (dropped_of w.fragment) (set_by_is s ∙ names_equal (set_by s) x sets) in
+    let sets : bytes_eq (set_by s) x ≡ true = mention_sets x s w.fragment.run i (dropped_started w u x e) m in
+    let same : dropped_of w.fragment (set_by s) ≡ dropped_of w.fragment x = ap (dropped_of w.fragment) (names_equal (set_by s) x sets) in
     absurd cc)
 
 -- Kept statements read kept variables alone.
-pub kept_read : (w : Setting) → Unbroken w → (further : Names) → are_simple w.fragment.run ≡ true → KeptRead (kept_set w.fragment further) w.fragment.run
-kept_read w u further simple =
+pub kept_read : (w : Setting) → Unbroken w → (further : Names) → KeptRead (kept_set w.fragment further) w.fragment.run
+kept_read w u further =
     closed_reads (base_of w.fragment further) (dropped_of w.fragment) w.fragment.run (needed (base_of w.fragment further) (dropped_of w.fragment) w.fragment.run)
-    (needed_closed (base_of w.fragment further) (dropped_of w.fragment) w.fragment.run) (dropped_alone w u simple)
+    (needed_closed (base_of w.fragment further) (dropped_of w.fragment) w.fragment.run) (dropped_alone w u)
 
 -- ---- The counter isn't live
 

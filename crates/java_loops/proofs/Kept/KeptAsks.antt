@@ -254,7 +254,7 @@ module _ (schema : Schema) (read : List ℕ → Option PlainQuery) (p : PlainPro
   unbroken = kernel_unbroken w rules
 
   set : IsKeptSet f further r
-  set = is_kept_set f further simple
+  set = is_kept_set f further
 
   not_kept : (x : List ℕ) → dropped_of f x ≡ true → r x ≡ false
   not_kept x d = false_from_ne_true (r x) (λ h. let e : dropped_of f x ≡ false = set.not_dropped x h in absurd cc)
@@ -296,7 +296,7 @@ module _ (schema : Schema) (read : List ℕ → Option PlainQuery) (p : PlainPro
   pub asks_stand : MayStandForLoop (frame_of schema read there.place.method) (types_before schema p path f there.place) (setting_of schema read g f) (kept_set f (names_read (lowering (setting_of schema read g f)).entries)) ks
   asks_stand =
       record {
-        reads = kept_read w unbroken further simple;
+        reads = kept_read w unbroken further;
         fits = all_fit w schema before r (needed_in_order w) ks asks.starts (order_apart (needed_of f) f.run (λ x h. inl (needed_started x h))) all_ready asks_read;
         types = all_same w schema before r (needed_in_order w) ks asks.starts all_ready;
         known = λ x k seen. live_known x (is_among (accumulators f) x) refl (before_live x k seen);

@@ -1,5 +1,5 @@
 -- A lowered fragment means its loop, and the kept statements of its run leave the rest as the run and the loop do.
-use Rattle.std.proofs.Common.{◌≡◌, ℕ, ◌≤◌, true, false, List, ◌∷◌, Option, Some, None, sym, ap, ◌∙◌, subst}
+use Rattle.std.proofs.Common.{◌≡◌, ℕ, ◌≤◌, true, false, List, Option, Some, None, sym, ap, ◌∙◌, subst}
 use Rattle.std.proofs.lemmas.Bool.{or_from}
 use Rattle.qbs_base.specs.Named.{at_name}
 use Rattle.qbs_base.specs.Values.{Schema}
@@ -28,10 +28,9 @@ use Rattle.java_loops.proofs.Kept.KeptAlone.{kept_read, live_uncounted}
 use Rattle.java_loops.specs.Meant.KeptNumbers.{kept_set}
 use Rattle.java_loops.proofs.Kept.KeptRuns.{IsKeptSet, is_kept_set, numbers_keep}
 use Rattle.java_loops.proofs.Lowering.LowerChains.{fragment_chains, at_setting}
-use Rattle.java_loops.proofs.Meant.MeanWhole.{fragment_means}
+use Rattle.java_loops.proofs.Meant.MeanWhole.{fragment_means, means_there}
 use Rattle.java_loops.proofs.Nested.NestRules.{Unbroken}
 use Rattle.java_loops.proofs.Placing.PlaceLoop.{kernel_unbroken}
-use Rattle.java_loops.proofs.Placing.PlaceRuns.{are_simple_is}
 use Rattle.java_loops.proofs.Placing.PlaceTyped.{types_before, FragmentThere}
 
 -- ---- What kept statements leave
@@ -39,14 +38,14 @@ use Rattle.java_loops.proofs.Placing.PlaceTyped.{types_before, FragmentThere}
 -- a live variable that is no accumulator is kept
 live_kept : (w : Setting) → Unbroken w → (further : Names) → are_simple w.fragment.run ≡ true → (x : List ℕ) → is_live w.fragment x ≡ true → is_among (accumulators w.fragment) x ≡ false → kept_set w.fragment further x ≡ true
 live_kept w u further simple x l plain =
-    let set : IsKeptSet w.fragment further (kept_set w.fragment further) = is_kept_set w.fragment further simple in
+    let set : IsKeptSet w.fragment further (kept_set w.fragment further) = is_kept_set w.fragment further in
     set.holds x (or_from (is_among (accumulators w.fragment) x) (is_name (counter w.fragment.loop) x) plain (live_uncounted w u.loop x l)) (live x l)
 
 -- The kept statements stand for the rest, where the fragment means its loop.
 kept_stand : (c : Frame) (before : Types) (w : Setting) → Unbroken w → are_simple w.fragment.run ≡ true → MeansItsLoop c before w → (further : Names) → StandForTheRest c before w (runs.kept (kept_set w.fragment further) w.fragment.run)
 kept_stand c before w u simple means further world is_world s t last typed passes goes =
     let r : Set = kept_set w.fragment further in
-    let k : KeptPasses world r (runs.kept r w.fragment.run) s t = kept_passes world r w.fragment.run s t (are_simple_is w.fragment.run ∙ simple) (kept_read w u further simple) passes in
+    let k : KeptPasses world r (runs.kept r w.fragment.run) s t = kept_passes world r w.fragment.run s t simple (kept_read w u further) passes in
     let e : GoesOnAsItsFragment w world t (GoesOn last) = means world is_world s t typed passes (GoesOn last) goes in
     let same : e.state ≡ last = sym (same_state last e.state e.is) in
     let turns : last.turns ≤ t.turns = subst (λ (z : State). z.turns ≤ t.turns) same e.ends.turns in
@@ -66,18 +65,7 @@ module _ (schema : Schema) (read : List ℕ → Option PlainQuery) (p : PlainPro
 
   -- the loop of a lowered fragment means what the fragment says, where it stands
   abbrev pub meant_there : MeansItsLoopThere schema read p path (setting_of schema read g f)
-  meant_there =
-      record {
-        number = there.place.number;
-        rest = there.place.first ∷ there.place.down;
-        leads = there.place.is;
-        method = there.place.method;
-        found = there.place.found;
-        hole = there.place.placed.hole;
-        stands = there.place.placed.is;
-        types = there.is;
-        means = fragment_means schema read p path f g well there rules (fragment_chains schema read p path f g well there rules);
-      }
+  meant_there = means_there schema read p path f g well there rules (fragment_chains schema read p path f g well there rules)
 
   -- and the statements with the numbers of kept ones leave the rest
   meant_here : (further : Names) (first : ℕ) (kept : List ℕ) → AreKept f further first f.run kept → IsMeant schema read p path (setting_of schema read g f) (with_numbers kept first f.run)
@@ -86,7 +74,7 @@ module _ (schema : Schema) (read : List ℕ → Option PlainQuery) (p : PlainPro
       let c : Frame = frame_of schema read there.place.method in
       let before : Types = types_before schema p path f there.place in
       let means : MeansItsLoop c before w = fragment_means schema read p path f g well there rules (fragment_chains schema read p path f g well there rules) in
-      let same : with_numbers kept first f.run ≡ runs.kept (kept_set f further) f.run = numbers_keep f further (kept_set f further) (is_kept_set f further simple) first f.run kept k in
+      let same : with_numbers kept first f.run ≡ runs.kept (kept_set f further) f.run = numbers_keep f further (kept_set f further) (is_kept_set f further) first f.run kept k in
       record {
         there = meant_there;
         rest = subst (StandForTheRest c before w) (sym same) (kept_stand c before w (kernel_unbroken w rules) simple means further);

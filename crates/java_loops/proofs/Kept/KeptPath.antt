@@ -128,7 +128,7 @@ module _ (schema : Schema) (reader : Reader schema) (p : PlainProgram) (path : L
   new_is : and_then (with_numbers kept first f.run) (asked ks) ≡ replacement r f.run ks
   new_is =
       and_then_is (with_numbers kept first f.run) (asked ks)
-      ∙ ap (λ q. followed_by q (asked ks)) (numbers_keep f further r (is_kept_set f further there.place.placed.simple) first f.run kept numbers)
+      ∙ ap (λ q. followed_by q (asked ks)) (numbers_keep f further r (is_kept_set f further) first f.run kept numbers)
 
   replaced_is : (new : Statements) → replaced_at path first new p ≡ with_statements p there.place.number there.place.placed.hole new
   replaced_is new =

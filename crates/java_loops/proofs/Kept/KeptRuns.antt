@@ -1,104 +1,34 @@
 -- The kept statements of a run, by their numbers, are those that set a needed variable which isn't dropped.
-use Rattle.std.proofs.Common.{◌≡◌, ℕ, suc, ◌≤◌, Bool, true, false, not, ◌||◌, List, [], ◌∷◌, ◌++◌, refl, sym, ap, ap₂, ◌∙◌, subst, cond, nat_eq, bytes_eq, arith}
+use Rattle.std.proofs.Common.{◌≡◌, ℕ, suc, ◌≤◌, Bool, true, false, not, ◌||◌, List, [], ◌∷◌, refl, sym, ap, ◌∙◌, cond, nat_eq, arith}
 use Rattle.std.specs.List.{AllByRecursion}
 use Rattle.std.proofs.lemmas.Bool.{and_parts, and_from, or_left, or_right, not_from_false, false_from_ne_true, eq-eqb, eqb-true}
-use Rattle.java_ast.specs.Tree as tree
-use Rattle.java_ast.specs.Tree.{Expression, Expressions, NoMore, And, Statement, Statements, Nothing, Then}
+use Rattle.java_ast.specs.Tree.{Statement, Statements, Nothing, Then}
 use Rattle.java_loops.specs.Walks.Needed as needs
 use Rattle.java_loops.specs.Walks.Needed.{needed, keeping}
 use Rattle.java_loops.specs.Walks.Reads.{Set}
 use Rattle.java_loops.specs.Meant.KeptNumbers.{base_of, dropped_of, kept_set, numbers_setting, kept_numbers}
 use Rattle.java_loops.specs.Walks.Runs as runs
 use Rattle.java_loops.proofs.Walks.EnoughWalks.{all_needed, needed_found}
-use Rattle.loop_text.specs.Statements.Fragment.{Fragment, is_simple, are_simple, is_live, set_by, StandsIn, first, after, IsWanted, live, read, mentioned, IsKept}
+use Rattle.loop_text.specs.Statements.Fragment.{Fragment, is_live, set_by, IsWanted, live, read, mentioned, IsKept}
 use Rattle.loop_text.specs.Statements.KeptStatements.{AreKept, none, keeps, drops, with_numbers}
-use Rattle.loop_text.specs.Statements.Names.{Names, is_among, names_in, names_among, mentioned_in}
+use Rattle.loop_text.specs.Statements.Names.{Names, is_among}
 use Rattle.loop_text.specs.Sites.Sites.{has_number}
-use Rattle.loop_text.proofs.Trees.Mentions.{among_both}
 use Rattle.java_loops.proofs.Nested.NestRules.{false_from_not}
-use Rattle.java_loops.proofs.Placing.PlaceRuns.{set_by_is}
-
--- ---- What a statement mentions
-
-or_none : (b : Bool) → b ≡ (b || false)
-or_none true = refl
-or_none false = refl
-
-joined : (p q : Bool) (xs ys : Names) (x : List ℕ) → p ≡ is_among xs x → q ≡ is_among ys x → (p || q) ≡ is_among (xs ++ ys) x
-joined p q xs ys x e h = ap₂ (λ a b. a || b) e h ∙ sym (among_both xs ys x)
-
-mutual
-  -- the laws of runs and the fragments find the same names in an expression
-  names_are : (e : Expression) (x : List ℕ) → needs.names_in e x ≡ is_among (names_in e) x
-  names_are (tree.Lit at v) x = refl
-  names_are (tree.Var at y) x = or_none (bytes_eq x y)
-  names_are (tree.Field at e n) x = names_are e x
-  names_are (tree.Binary at op a b) x = joined (needs.names_in a x) (needs.names_in b x) (names_in a) (names_in b) x (names_are a x) (names_are b x)
-  names_are (tree.Not at e) x = names_are e x
-  names_are (tree.Equals at a b) x = joined (needs.names_in a x) (needs.names_in b x) (names_in a) (names_in b) x (names_are a x) (names_are b x)
-  names_are (tree.Size at y) x = or_none (bytes_eq x y)
-  names_are (tree.Get at y e) x = ap (λ b. bytes_eq x y || b) (names_are e x)
-  names_are (tree.Contains at y e) x = ap (λ b. bytes_eq x y || b) (names_are e x)
-  names_are (tree.Fetch at t) x = refl
-  names_are (tree.Query at ty text es) x = all_names_are es x
-  names_are (tree.QueryLong at text es) x = all_names_are es x
-  names_are (tree.QueryBoolean at text es) x = all_names_are es x
-  names_are (tree.NewList at) x = refl
-  names_are (tree.NewSet at) x = refl
-  names_are (tree.NewSetOf at e) x = names_are e x
-
-  all_names_are : (es : Expressions) (x : List ℕ) → needs.names_among es x ≡ is_among (names_among es) x
-  all_names_are NoMore x = refl
-  all_names_are (And e es) x = joined (needs.names_in e x) (needs.names_among es x) (names_in e) (names_among es) x (names_are e x) (all_names_are es x)
-
-pub mentions_are : (s : Statement) (x : List ℕ) → is_simple s ≡ true → needs.mentions s x ≡ is_among (mentioned_in s) x
-mentions_are (tree.Declare at ty y e) x h = names_are e x
-mentions_are (tree.Assign at y e) x h = ap (λ b. bytes_eq x y || b) (names_are e x)
-mentions_are (tree.Sort at y keys downs) x h = or_none (bytes_eq x y)
-mentions_are (tree.Add at y e) x h = absurd cc
-mentions_are (tree.If at c p) x h = absurd cc
-mentions_are (tree.IfElse at c p q) x h = absurd cc
-mentions_are (tree.ForEach at ty y e b) x h = absurd cc
-mentions_are (tree.While at c b) x h = absurd cc
-mentions_are (tree.Print at e) x h = absurd cc
-mentions_are (tree.Return at e) x h = absurd cc
-mentions_are (tree.Break at) x h = absurd cc
-
--- ---- Statements of a run
-
-stands_there : (s : Statement) (p : Statements) → StandsIn s p → needs.StandsIn s p
-stands_there _ _ (first s ss) = needs.first s ss
-stands_there _ _ (after s a ss h) = needs.after s a ss (stands_there s ss h)
-
-pub stands_here : (s : Statement) (p : Statements) → needs.StandsIn s p → StandsIn s p
-stands_here _ _ (needs.first s ss) = first s ss
-stands_here _ _ (needs.after s a ss h) = after s a ss (stands_here s ss h)
-
-pub simple_in : (s : Statement) (p : Statements) → StandsIn s p → are_simple p ≡ true → is_simple s ≡ true
-simple_in _ _ (first s ss) h = (and_parts (is_simple s) (are_simple ss) h).0
-simple_in _ _ (after s a ss i) h = simple_in s ss i (and_parts (is_simple a) (are_simple ss) h).1
 
 -- ---- The needed variables of a fragment
 
-wanted_needed : (f : Fragment) (further : Names) → are_simple f.run ≡ true → (x : List ℕ) → IsWanted f further x → needs.IsNeeded (base_of f further) (dropped_of f) f.run x
-wanted_needed f further simple _ (live x h) = needs.based x (or_left (is_live f x) (is_among further x) h)
-wanted_needed f further simple _ (read x h) = needs.based x (or_right (is_live f x) (is_among further x) h)
-wanted_needed f further simple _ (mentioned s x i d w h) =
-    needs.mentioned s x (stands_there s f.run i) (ap (dropped_of f) (set_by_is s) ∙ d)
-    (subst (needs.IsNeeded (base_of f further) (dropped_of f) f.run) (sym (set_by_is s)) (wanted_needed f further simple (set_by s) w))
-    (mentions_are s x (simple_in s f.run i simple) ∙ h)
+wanted_needed : (f : Fragment) (further : Names) (x : List ℕ) → IsWanted f further x → needs.IsNeeded (base_of f further) (dropped_of f) f.run x
+wanted_needed f further _ (live x h) = needs.based x (or_left (is_live f x) (is_among further x) h)
+wanted_needed f further _ (read x h) = needs.based x (or_right (is_live f x) (is_among further x) h)
+wanted_needed f further _ (mentioned s x i d w h) = needs.mentioned s x i d (wanted_needed f further (set_by s) w) h
 
 based_wanted : (f : Fragment) (further : Names) (x : List ℕ) (b : Bool) → is_live f x ≡ b → (b || is_among further x) ≡ true → IsWanted f further x
 based_wanted f further x true e h = live x e
 based_wanted f further x false e h = read x h
 
-needed_wanted : (f : Fragment) (further : Names) → are_simple f.run ≡ true → (x : List ℕ) → needs.IsNeeded (base_of f further) (dropped_of f) f.run x → IsWanted f further x
-needed_wanted f further simple _ (needs.based x h) = based_wanted f further x (is_live f x) refl h
-needed_wanted f further simple _ (needs.mentioned s x i d n h) =
-    let there : StandsIn s f.run = stands_here s f.run i in
-    mentioned s x there (ap (dropped_of f) (sym (set_by_is s)) ∙ d)
-    (subst (IsWanted f further) (set_by_is s) (needed_wanted f further simple (runs.set_by s) n))
-    (sym (mentions_are s x (simple_in s f.run there simple)) ∙ h)
+needed_wanted : (f : Fragment) (further : Names) (x : List ℕ) → needs.IsNeeded (base_of f further) (dropped_of f) f.run x → IsWanted f further x
+needed_wanted f further _ (needs.based x h) = based_wanted f further x (is_live f x) refl h
+needed_wanted f further _ (needs.mentioned s x i d n h) = mentioned s x i d (needed_wanted f further (set_by s) n) h
 
 -- the set has the wanted variables whose statements aren't dropped, and no others
 pub record IsKeptSet (f : Fragment) (further : Names) (r : Set) : Type 0 where
@@ -106,19 +36,19 @@ pub record IsKeptSet (f : Fragment) (further : Names) (r : Set) : Type 0 where
   pub wanted : (x : List ℕ) → r x ≡ true → IsWanted f further x
   pub holds : (x : List ℕ) → dropped_of f x ≡ false → IsWanted f further x → r x ≡ true
 
-pub is_kept_set : (f : Fragment) (further : Names) → are_simple f.run ≡ true → IsKeptSet f further (kept_set f further)
-is_kept_set f further simple =
+pub is_kept_set : (f : Fragment) (further : Names) → IsKeptSet f further (kept_set f further)
+is_kept_set f further =
     let base : Set = base_of f further in
     let dropped : Set = dropped_of f in
     record {
       not_dropped = λ x h. false_from_not (dropped x) (and_parts (needed base dropped f.run x) (not (dropped x)) h).1;
-      wanted = λ x h. needed_wanted f further simple x (all_needed base dropped f.run x (and_parts (needed base dropped f.run x) (not (dropped x)) h).0);
-      holds = λ x d w. and_from (needed base dropped f.run x) (not (dropped x)) (needed_found base dropped f.run x (wanted_needed f further simple x w)) (not_from_false (dropped x) d);
+      wanted = λ x h. needed_wanted f further x (all_needed base dropped f.run x (and_parts (needed base dropped f.run x) (not (dropped x)) h).0);
+      holds = λ x d w. and_from (needed base dropped f.run x) (not (dropped x)) (needed_found base dropped f.run x (wanted_needed f further x w)) (not_from_false (dropped x) d);
     }
 
 -- ---- The numbers of kept statements
 
-abbrev AreFrom : ℕ → List ℕ → Type 0
+abbrev pub AreFrom : ℕ → List ℕ → Type 0
 AreFrom n numbers = AllByRecursion (λ (m : ℕ). n ≤ m) numbers
 
 from_next : (n : ℕ) (numbers : List ℕ) → AreFrom (suc n) numbers → AreFrom n numbers
@@ -126,7 +56,7 @@ from_next n [] h = tt
 from_next n (m ∷ ms) h = let i : suc n ≤ m = h.0 in (omega arith, from_next n ms h.1)
 
 -- the numbers of kept statements are at least that of the first one
-numbers_from : (f : Fragment) (further : Names) (n : ℕ) (p : Statements) (numbers : List ℕ) → AreKept f further n p numbers → AreFrom n numbers
+pub numbers_from : (f : Fragment) (further : Names) (n : ℕ) (p : Statements) (numbers : List ℕ) → AreKept f further n p numbers → AreFrom n numbers
 numbers_from f further _ _ _ (none n) = tt
 numbers_from f further _ _ _ (keeps n s ss numbers k h) = (omega arith, from_next n numbers (numbers_from f further (suc n) ss numbers h))
 numbers_from f further _ _ _ (drops n s ss numbers k h) = from_next n numbers (numbers_from f further (suc n) ss numbers h)
@@ -137,12 +67,12 @@ other_number n m h = false_from_ne_true (nat_eq n m) (λ e. h (eqb-true n m e))
 below : (n m : ℕ) → suc n ≤ m → n ≡ m → ⊥
 below n m h e = absurd (omega arith)
 
-none_there : (n : ℕ) (numbers : List ℕ) → AreFrom (suc n) numbers → has_number numbers n ≡ false
+pub none_there : (n : ℕ) (numbers : List ℕ) → AreFrom (suc n) numbers → has_number numbers n ≡ false
 none_there n [] h = refl
 none_there n (m ∷ ms) h = ap (λ b. b || has_number ms n) (other_number n m (below n m h.0)) ∙ none_there n ms h.1
 
 -- a number before those of the statements changes nothing
-earlier_number : (numbers : List ℕ) (n m : ℕ) (p : Statements) → suc n ≤ m → with_numbers (n ∷ numbers) m p ≡ with_numbers numbers m p
+pub earlier_number : (numbers : List ℕ) (n m : ℕ) (p : Statements) → suc n ≤ m → with_numbers (n ∷ numbers) m p ≡ with_numbers numbers m p
 earlier_number numbers n m Nothing h = refl
 earlier_number numbers n m (Then s p) h =
     let other : nat_eq m n ≡ false = other_number m n (λ e. below n m h (sym e)) in
@@ -151,14 +81,12 @@ earlier_number numbers n m (Then s p) h =
     ∙ ap (λ q. cond (has_number numbers m) (Then s q) q) (earlier_number numbers n (suc m) p next)
 
 module _ (f : Fragment) (further : Names) (r : Set) (set : IsKeptSet f further r) where
-  kept_there : (s : Statement) → IsKept f further s → r (runs.set_by s) ≡ true
-  kept_there s k = ap r (set_by_is s) ∙ set.holds (set_by s) k.not_dropped k.wanted
+  kept_there : (s : Statement) → IsKept f further s → r (set_by s) ≡ true
+  kept_there s k = set.holds (set_by s) k.not_dropped k.wanted
 
-  dropped_there : (s : Statement) → (IsKept f further s → ⊥) → r (runs.set_by s) ≡ false
+  dropped_there : (s : Statement) → (IsKept f further s → ⊥) → r (set_by s) ≡ false
   dropped_there s h =
-      false_from_ne_true (r (runs.set_by s)) (λ e.
-      let there : r (set_by s) ≡ true = ap r (sym (set_by_is s)) ∙ e in
-      h (record { not_dropped = set.not_dropped (set_by s) there; wanted = set.wanted (set_by s) there }))
+      false_from_ne_true (r (set_by s)) (λ e. h (record { not_dropped = set.not_dropped (set_by s) e; wanted = set.wanted (set_by s) e }))
 
   -- The statements with the kept numbers are those that set a variable of the set.
   pub numbers_keep : (n : ℕ) (p : Statements) (numbers : List ℕ) → AreKept f further n p numbers → with_numbers numbers n p ≡ runs.kept r p
@@ -191,8 +119,8 @@ module _ (f : Fragment) (further : Names) (r : Set) (set : IsKeptSet f further r
   set_numbers_are_kept n Nothing = none n
   set_numbers_are_kept n (Then s ss) = kept_or_not n s ss (numbers_setting r (suc n) ss) (r (set_by s)) refl (set_numbers_are_kept (suc n) ss)
 
-pub kept_numbers_only : (f : Fragment) (further : Names) (n : ℕ) (run : Statements) (numbers : List ℕ) → are_simple f.run ≡ true → AreKept f further n run numbers → numbers ≡ kept_numbers f further n run
-kept_numbers_only f further n run numbers simple h = numbers_are f further (kept_set f further) (is_kept_set f further simple) n run numbers h
+pub kept_numbers_only : (f : Fragment) (further : Names) (n : ℕ) (run : Statements) (numbers : List ℕ) → AreKept f further n run numbers → numbers ≡ kept_numbers f further n run
+kept_numbers_only f further n run numbers h = numbers_are f further (kept_set f further) (is_kept_set f further) n run numbers h
 
-pub kept_numbers_kept : (f : Fragment) (further : Names) (n : ℕ) (run : Statements) → are_simple f.run ≡ true → AreKept f further n run (kept_numbers f further n run)
-kept_numbers_kept f further n run simple = set_numbers_are_kept f further (kept_set f further) (is_kept_set f further simple) n run
+pub kept_numbers_kept : (f : Fragment) (further : Names) (n : ℕ) (run : Statements) → AreKept f further n run (kept_numbers f further n run)
+kept_numbers_kept f further n run = set_numbers_are_kept f further (kept_set f further) (is_kept_set f further) n run

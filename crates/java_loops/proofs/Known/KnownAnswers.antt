@@ -44,19 +44,18 @@ use Rattle.java_mean.proofs.Simulates.{Holds}
 use Rattle.java_mean.proofs.TypedRuns.{extends_statements}
 use Rattle.java_mean.proofs.TypedValues.{typed_value}
 use Rattle.java_loops.specs.Walks.Reads.{Set, Reads, AllRead}
-use Rattle.java_loops.specs.Walks.Runs as runs
 use Rattle.java_loops.specs.Walks.Runs.{is_set_in, unset_in, Gives, declares, assigns}
 use Rattle.java_loops.proofs.Walks.Given.{given_still}
 use Rattle.java_loops.proofs.Walks.Passing.{Went, went, same_ok}
 use Rattle.java_loops.proofs.Walks.Visibility.{TypedNext, next_of, TypedParts, typed_parts}
-use Rattle.loop_text.specs.Statements.Fragment.{is_simple, are_simple}
+use Rattle.loop_text.specs.Statements.Fragment.{is_simple, are_simple, set_by}
 use Rattle.java_loops.specs.Kernel.KernelConditions.{is_scalar_type, is_row_type, is_column_item, is_column_query}
 use Rattle.loop_text.specs.Kernel.KernelConditions.{Asked, behind_setting}
 use Rattle.loop_text.specs.Statements.Names.{is_among, names_among}
 use Rattle.java_loops.specs.Kernel.Setting.{Setting}
 use Rattle.loop_text.specs.Statements.Setting.{is_found}
-use Rattle.java_loops.proofs.Known.KnownLists.{AsksBy, as_list, as_set, IsAskedFor, IsKnownList, unset_names, all_read_named, arguments_single}
-use Rattle.java_loops.proofs.Placing.PlaceRuns.{are_simple_is}
+use Rattle.java_loops.proofs.Known.KnownLists.{AsksBy, as_list, as_set, IsAskedFor, IsKnownList, unset_names, arguments_single}
+use Rattle.java_loops.proofs.Walks.Named.{all_read_named}
 
 -- ---- Types of known lists
 
@@ -237,7 +236,7 @@ not_itself types ids y set a true e k h =
     absurd cc
 not_itself types ids y set a false e k h = e
 
-set_by_given : (s : Statement) (x : List ℕ) (e : Expression) → Gives s x e → runs.set_by s ≡ x
+set_by_given : (s : Statement) (x : List ℕ) (e : Expression) → Gives s x e → set_by s ≡ x
 set_by_given _ _ _ (declares at ty x e) = refl
 set_by_given _ _ _ (assigns at x e) = refl
 
@@ -263,11 +262,11 @@ known_holds w m l start n ids k world s t run i typed simple passes =
     let ask : AsksTyped c given.before k.asked q.asks.set given.type = asks_typed w.schema w.read m given.before k.asked q.asks.set q.value given.type q.asks.form k.column given.value in
     let there : w.types ids ≡ Some (many_of q.asks.set (ScalarOf ask.ty)) = given.there ∙ ap Some ask.type in
     let still : (y : List ℕ) → is_among (names_among k.asked.arguments) y ≡ true → unset_in (Then q.statement behind) y ≡ true =
-    λ y h. neither (bytes_eq (runs.set_by q.statement) y) (is_set_in behind y)
+    λ y h. neither (bytes_eq (set_by q.statement) y) (is_set_in behind y)
     (ap (λ z. bytes_eq z y) (set_by_given q.statement ids q.value q.gives) ∙ not_itself w.types ids y q.asks.set (ScalarOf ask.ty) (bytes_eq ids y) refl there (arguments_single w n k.asked.arguments y k.entries h))
     (unset_names (names_among k.asked.arguments) behind y (simple_behind q.before q.statement behind (subst (λ p. are_simple p ≡ true) q.is simple)) k.still h) in
     let reads : Reads (unset_in (Then q.statement behind)) q.value = asks_read (unset_in (Then q.statement behind)) k.asked q.asks.set q.value q.asks.form (all_read_named k.asked.arguments (unset_in (Then q.statement behind)) still) in
-    let simple_so : runs.are_simple (followed_by q.before (Then q.statement behind)) ≡ true = ap runs.are_simple (sym q.is) ∙ are_simple_is w.fragment.run ∙ simple in
+    let simple_so : are_simple (followed_by q.before (Then q.statement behind)) ≡ true = ap are_simple (sym q.is) ∙ simple in
     let v = given_still world q.before q.statement ids q.value behind s t q.gives simple_so q.once reads (ap (λ p. meanings p world s) (sym q.is) ∙ passes) in
     let typed_before : IsTyped w.schema given.before t.store = record { held = λ x z e. typed.held x z (given.extends x z e) } in
     let a = value_answers c given.before world t.store k.asked q.asks.set q.value ask.ty v.0.value q.asks.form i typed_before (λ at ty. query_anywhere c given.before ask.at at ask.spelled ty k.asked.text k.asked.arguments (Listed (ScalarOf ask.ty)) ask.query) v.2 in

@@ -1,8 +1,8 @@
 -- What known lists hold at the loop: the scalars that the query of each answers to the values that its arguments have
 -- there, in a set each once.
-use Rattle.std.proofs.Common.{◌≡◌, ℕ, Bool, true, false, not, ◌&&◌, ◌||◌, List, [], ◌∷◌, ◌++◌, Option, Some, None, refl, sym, ap, ◌∙◌, subst, cond}
+use Rattle.std.proofs.Common.{◌≡◌, ℕ, Bool, true, false, not, ◌&&◌, ◌||◌, List, Option, Some, None, refl, sym, ap, ◌∙◌, subst, cond}
 use Rattle.std.specs.Prelude.{bytes_eq}
-use Rattle.std.proofs.lemmas.Bool.{and_parts, or_parts}
+use Rattle.std.proofs.lemmas.Bool.{and_parts, or_parts, or_left, or_right}
 use Rattle.std.proofs.lemmas.List.Folds.{list_any-append}
 use Rattle.qbs_base.specs.declared.span.Span.{Span}
 use Rattle.java_ast.specs.Tree as tree
@@ -10,8 +10,7 @@ use Rattle.java_ast.specs.Tree.{Spelled, Expression, Expressions, NoMore, And, S
 use Rattle.java_mean.specs.declared.types.JavaType.{JavaType}
 use Rattle.java_mean.specs.Refines.{followed_by}
 use Rattle.java_mean.specs.Types.{Types}
-use Rattle.java_mean.proofs.Puts.{names_equal, name_same}
-use Rattle.java_loops.specs.Walks.Reads.{Set, Reads, AllRead}
+use Rattle.java_mean.proofs.Puts.{names_equal}
 use Rattle.java_loops.specs.Walks.Runs.{is_set_in, Gives, declares, assigns}
 use Rattle.loop_text.specs.Statements.Fragment.{set_by, is_simple, are_simple}
 use Rattle.java_loops.specs.Kernel.KernelConditions.{is_scalar_type, is_row_type, is_steady, is_entry, is_column_query, are_entries, is_known_query, is_known}
@@ -20,7 +19,6 @@ use Rattle.loop_text.specs.Statements.Names.{Names, is_among, names_in, names_am
 use Rattle.java_loops.specs.Kernel.Setting.{Setting}
 use Rattle.loop_text.specs.Statements.Setting.{is_found}
 use Rattle.java_loops.proofs.Nested.NestRules.{false_from_not}
-use Rattle.java_loops.proofs.Placing.PlaceRuns.{set_by_is}
 
 -- ---- The statement that asks
 
@@ -107,7 +105,7 @@ first_set x (Then a p) s h = first_step x a p s (bytes_eq (set_by a) x) refl h (
 
 unset_step : (x : List ℕ) (a : Statement) (p : Statements) (t : Bool) → bytes_eq (set_by a) x ≡ t → cond t (Some a) (first_setting x p) ≡ None → (first_setting x p ≡ None → is_set_in p x ≡ false) → is_set_in (Then a p) x ≡ false
 unset_step x a p true e h ih = absurd cc
-unset_step x a p false e h ih = ap (λ b. b || is_set_in p x) (ap (λ y. bytes_eq y x) (set_by_is a) ∙ e) ∙ ih h
+unset_step x a p false e h ih = ap (λ b. b || is_set_in p x) e ∙ ih h
 
 never_set : (x : List ℕ) (p : Statements) → first_setting x p ≡ None → is_set_in p x ≡ false
 never_set x Nothing h = refl
@@ -196,51 +194,7 @@ unset_names names Nothing x simple n h = refl
 unset_names names (Then s p) x simple n h =
     let two = or_parts (sets_one names s) (sets_some names p) n in
     let each = and_parts (is_simple s) (are_simple p) simple in
-    ap (λ b. b || is_set_in p x) (ap (λ y. bytes_eq y x) (set_by_is s) ∙ unset_here names x (set_by s) (bytes_eq (set_by s) x) refl (unset_one names s x each.0 two.0) h) ∙ unset_names names p x each.1 two.1 h
-
-or_left : (a b : Bool) → a ≡ true → (a || b) ≡ true
-or_left true b e = refl
-or_left false b e = absurd cc
-
-or_right : (a b : Bool) → b ≡ true → (a || b) ≡ true
-or_right true b e = refl
-or_right false b e = e
-
-among_front : (xs ys : Names) (x : List ℕ) → is_among xs x ≡ true → is_among (xs ++ ys) x ≡ true
-among_front xs ys x h = list_any-append (bytes_eq x) xs ys ∙ or_left (is_among xs x) (is_among ys x) h
-
-among_back : (xs ys : Names) (x : List ℕ) → is_among ys x ≡ true → is_among (xs ++ ys) x ≡ true
-among_back xs ys x h = list_any-append (bytes_eq x) xs ys ∙ or_right (is_among xs x) (is_among ys x) h
-
-among_first : (x : List ℕ) (xs : Names) → is_among (x ∷ xs) x ≡ true
-among_first x xs = or_left (bytes_eq x x) (is_among xs x) (name_same x)
-
-among_more : (x y : List ℕ) (xs : Names) → is_among xs y ≡ true → is_among (x ∷ xs) y ≡ true
-among_more x y xs h = or_right (bytes_eq y x) (is_among xs y) h
-
--- an expression whose names are of a set reads the set
-mutual
-  pub reads_named : (e : Expression) (f : Set) → ((x : List ℕ) → is_among (names_in e) x ≡ true → f x ≡ true) → Reads f e
-  reads_named (tree.Lit at x) f h = tt
-  reads_named (tree.Var at x) f h = h x (among_first x [])
-  reads_named (tree.Field at e n) f h = reads_named e f h
-  reads_named (tree.Binary at op a b) f h = (reads_named a f (λ x i. h x (among_front (names_in a) (names_in b) x i)), reads_named b f (λ x i. h x (among_back (names_in a) (names_in b) x i)))
-  reads_named (tree.Not at e) f h = reads_named e f h
-  reads_named (tree.Equals at a b) f h = (reads_named a f (λ x i. h x (among_front (names_in a) (names_in b) x i)), reads_named b f (λ x i. h x (among_back (names_in a) (names_in b) x i)))
-  reads_named (tree.Size at x) f h = h x (among_first x [])
-  reads_named (tree.Get at x e) f h = (h x (among_first x (names_in e)), reads_named e f (λ y i. h y (among_more x y (names_in e) i)))
-  reads_named (tree.Contains at x e) f h = (h x (among_first x (names_in e)), reads_named e f (λ y i. h y (among_more x y (names_in e) i)))
-  reads_named (tree.Fetch at n) f h = tt
-  reads_named (tree.Query at ty text es) f h = all_read_named es f h
-  reads_named (tree.QueryLong at text es) f h = all_read_named es f h
-  reads_named (tree.QueryBoolean at text es) f h = all_read_named es f h
-  reads_named (tree.NewList at) f h = tt
-  reads_named (tree.NewSet at) f h = tt
-  reads_named (tree.NewSetOf at e) f h = reads_named e f h
-
-  pub all_read_named : (es : Expressions) (f : Set) → ((x : List ℕ) → is_among (names_among es) x ≡ true → f x ≡ true) → AllRead f es
-  all_read_named NoMore f h = tt
-  all_read_named (And e es) f h = (reads_named e f (λ x i. h x (among_front (names_in e) (names_among es) x i)), all_read_named es f (λ x i. h x (among_back (names_in e) (names_among es) x i)))
+    ap (λ b. b || is_set_in p x) (unset_here names x (set_by s) (bytes_eq (set_by s) x) refl (unset_one names s x each.0 two.0) h) ∙ unset_names names p x each.1 two.1 h
 
 -- ---- Arguments are no lists
 

@@ -27,18 +27,16 @@ use Rattle.java_mean.specs.Store.{Store, Variable, put}
 use Rattle.java_mean.specs.World.{World}
 use Rattle.java_mean.proofs.Numbered.{rows_of_table}
 use Rattle.java_mean.proofs.Puts.{names_equal, put_same, put_other}
-use Rattle.java_loops.specs.Walks.Runs as runs
 use Rattle.java_loops.specs.Walks.Runs.{made, ran}
 use Rattle.java_loops.proofs.Walks.Passing.{Went, went, same_ok, run_store}
 use Rattle.qbs_base.specs.Tables.{rows_of}
 use Rattle.kernel_lang.specs.Given.{before, cut, listed}
-use Rattle.loop_text.specs.Statements.Fragment.{are_simple}
+use Rattle.loop_text.specs.Statements.Fragment.{is_simple, are_simple, set_by}
 use Rattle.loop_text.specs.Kernel.KernelLists.{Source, has_keys, is_sorted, fetched, sorted_by, source_after, source_past, source_in}
 use Rattle.loop_text.specs.Kernel.KernelLoop.{counting_in, limit_of}
 use Rattle.java_loops.specs.Lowering.Lowered.{keys_of, keys_found, list_of}
 use Rattle.java_loops.specs.Lowering.Numbering.{found_number, table_of_loop}
 use Rattle.java_loops.specs.Kernel.Setting.{Setting}
-use Rattle.java_loops.proofs.Placing.PlaceRuns.{are_simple_is}
 
 -- ---- The rows of a source
 
@@ -160,7 +158,7 @@ sorted_step w keys downs o x y store v true q m h = λ s e.
     subst (λ z. HasSource w z x (put store y v)) (sym f.now) now
 sorted_step w keys downs o x y store v false q m h = kept_source w o x y store v q h
 
-source_step : (w : World) (a : Statement) (o : Option Source) (x : List ℕ) (store : Store) (v : Variable) → runs.is_simple a ≡ true → made a w store ≡ Ok v → Sourced w o x store → Sourced w (source_after x a o) x (put store (runs.set_by a) v)
+source_step : (w : World) (a : Statement) (o : Option Source) (x : List ℕ) (store : Store) (v : Variable) → is_simple a ≡ true → made a w store ≡ Ok v → Sourced w o x store → Sourced w (source_after x a o) x (put store (set_by a) v)
 source_step w (tree.Declare at ty y e) o x store v i m h = fetched_step w e o x y store v (bytes_eq y x) refl (declared_value (value_of e w store) (is_set_type ty) v m) h
 source_step w (tree.Assign at y e) o x store v i m h = fetched_step w e o x y store v (bytes_eq y x) refl (assigned_value (value_of e w store) (at_name store y) v m) h
 source_step w (tree.Sort at y keys downs) o x store v i m h = sorted_step w keys downs o x y store v (bytes_eq y x) refl m h
@@ -173,17 +171,17 @@ source_step w (tree.Print at e) o x store v i m h = absurd cc
 source_step w (tree.Return at e) o x store v i m h = absurd cc
 source_step w (tree.Break at) o x store v i m h = absurd cc
 
-source_ran : (p : Statements) (w : World) (o : Option Source) (x : List ℕ) (store last : Store) → runs.are_simple p ≡ true → ran p w store ≡ Ok last → Sourced w o x store → Sourced w (source_past x o p) x last
+source_ran : (p : Statements) (w : World) (o : Option Source) (x : List ℕ) (store last : Store) → are_simple p ≡ true → ran p w store ≡ Ok last → Sourced w o x store → Sourced w (source_past x o p) x last
 source_ran Nothing w o x store last i e h = subst (Sourced w o x) (same_ok (Ok store) store last refl e) h
 source_ran (Then a p) w o x store last i e h =
-    let two = and_parts (runs.is_simple a) (runs.are_simple p) i in
-    let k : Went (made a w store) (λ v. ran p w (put store (runs.set_by a) v)) last = went (made a w store) (λ v. ran p w (put store (runs.set_by a) v)) last e in
-    source_ran p w (source_after x a o) x (put store (runs.set_by a) k.value) last two.1 k.rest (source_step w a o x store k.value two.0 k.first h)
+    let two = and_parts (is_simple a) (are_simple p) i in
+    let k : Went (made a w store) (λ v. ran p w (put store (set_by a) v)) last = went (made a w store) (λ v. ran p w (put store (set_by a) v)) last e in
+    source_ran p w (source_after x a o) x (put store (set_by a) k.value) last two.1 k.rest (source_step w a o x store k.value two.0 k.first h)
 
 -- A variable whose list comes from a table behind the run has its rows, in the order of the keys, where the run passes.
 pub source_left : (w : World) (run : Statements) (x : List ℕ) (src : Source) (s t : State) → are_simple run ≡ true → meanings run w s ≡ Ok (GoesOn t) → source_past x None run ≡ Some src → HasSource w src x t.store
 source_left w run x src s t i m e =
-    let simple : runs.are_simple run ≡ true = are_simple_is run ∙ i in
+    let simple : are_simple run ≡ true = i in
     source_ran run w None x s.store t.store simple (run_store run w s t simple m) (λ z q. absurd cc) src e
 
 -- ---- The order of keys

@@ -26,7 +26,6 @@ use Rattle.java_loops.specs.Meant.Members.{AreMatched}
 use Rattle.java_loops.specs.Meant.Means.{HasValue, EndsAsItsFragment, GoesOnAsItsFragment, MeansItsLoop}
 use Rattle.loop_text.specs.Statements.Names.{Names}
 use Rattle.java_loops.specs.Kernel.Setting.{Setting}
-use Rattle.java_loops.proofs.Placing.PlaceRuns.{are_simple_is}
 
 -- ---- Types behind the loop
 
@@ -115,7 +114,7 @@ module _ (c : Frame) (l : Option Types) (before end : Types) (w : Setting) (type
   pub loop_gives_way : AreSeen (needed_in_order w) → MayGiveWay c before (types_past c.schema before (replacement r w.fragment.run ks)) w.fragment.run w.fragment.loop r ks
   loop_gives_way visible =
       record {
-        simple = are_simple_is w.fragment.run ∙ simple;
+        simple = simple;
         reads = stands.reads;
         fits = stands.fits;
         known = known_behind;

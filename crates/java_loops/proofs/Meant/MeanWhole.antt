@@ -128,7 +128,8 @@ module _ (schema : Schema) (read : List ℕ → Option PlainQuery) (p : PlainPro
 
 -- ---- By the path to the loop
 
-means_there : (schema : Schema) (read : List ℕ → Option PlainQuery) (p : PlainProgram) (path : List ℕ) (f : Fragment) (g : Types) → IsWellTyped schema read p → FragmentThere schema read p path f g → broken (setting_of schema read g f) ≡ None → HasChains (setting_of schema read g f) → MeansItsLoopThere schema read p path (setting_of schema read g f)
+-- where it stands
+abbrev pub means_there : (schema : Schema) (read : List ℕ → Option PlainQuery) (p : PlainProgram) (path : List ℕ) (f : Fragment) (g : Types) → IsWellTyped schema read p → FragmentThere schema read p path f g → broken (setting_of schema read g f) ≡ None → HasChains (setting_of schema read g f) → MeansItsLoopThere schema read p path (setting_of schema read g f)
 means_there schema read p path f g well there rules chains =
     record {
       number = there.place.number;

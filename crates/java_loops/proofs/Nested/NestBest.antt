@@ -186,11 +186,11 @@ named true (Some x) m h = (refl, ⊎_elim (λ e. ap Some (sym e)) (λ k. absurd 
 named true None m h = absurd h
 named false o m h = absurd h
 
-record Taking (form : Form) : Type 0 where
-  column : RowColumn
-  is : form ≡ takes column
+pub record Taking (form : Form) : Type 0 where
+  pub column : RowColumn
+  pub is : form ≡ takes column
 
-taking : (form : Form) → is_taking form ≡ true → Taking form
+pub taking : (form : Form) → is_taking form ≡ true → Taking form
 taking (adds t) h = absurd cc
 taking counts h = absurd cc
 taking (sums c) h = absurd cc

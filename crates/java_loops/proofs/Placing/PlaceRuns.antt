@@ -1,45 +1,14 @@
 -- Runs of fragments as the laws of runs speak of them.
-use Rattle.std.proofs.Common.{◌≡◌, ℕ, Bool, true, false, ◌&&◌, ◌||◌, List, Some, None, refl, ap, ◌∙◌, subst, cond}
+use Rattle.std.proofs.Common.{◌≡◌, ℕ, Bool, true, false, ◌||◌, List, Some, None, refl, ap, ◌∙◌, subst, cond}
 use Rattle.std.specs.Prelude.{bytes_eq}
 use Rattle.java_ast.specs.Tree as tree
 use Rattle.java_ast.specs.Tree.{Expression, Statement, Statements, Nothing, Then}
 use Rattle.java_mean.proofs.Puts.{names_equal}
-use Rattle.java_loops.specs.Walks.Runs as runs
 use Rattle.java_loops.specs.Walks.Runs.{is_set_in, Gives, declares, assigns}
 use Rattle.std.proofs.lemmas.Bool.{or_parts}
-use Rattle.loop_text.specs.Statements.Fragment.{is_simple, are_simple, set_by}
+use Rattle.loop_text.specs.Statements.Fragment.{set_by}
 use Rattle.loop_text.specs.Statements.Names.{is_among, mentioned_in}
 use Rattle.loop_text.specs.Statements.Setting.{touches, first_touching, given_by}
-
-pub set_by_is : (s : Statement) → runs.set_by s ≡ set_by s
-set_by_is (tree.Declare at ty x e) = refl
-set_by_is (tree.Assign at x e) = refl
-set_by_is (tree.Sort at x keys downs) = refl
-set_by_is (tree.Add at x e) = refl
-set_by_is (tree.If at c p) = refl
-set_by_is (tree.IfElse at c p q) = refl
-set_by_is (tree.ForEach at ty x e b) = refl
-set_by_is (tree.While at c b) = refl
-set_by_is (tree.Print at e) = refl
-set_by_is (tree.Return at e) = refl
-set_by_is (tree.Break at) = refl
-
-is_simple_is : (s : Statement) → runs.is_simple s ≡ is_simple s
-is_simple_is (tree.Declare at ty x e) = refl
-is_simple_is (tree.Assign at x e) = refl
-is_simple_is (tree.Sort at x keys downs) = refl
-is_simple_is (tree.Add at x e) = refl
-is_simple_is (tree.If at c p) = refl
-is_simple_is (tree.IfElse at c p q) = refl
-is_simple_is (tree.ForEach at ty x e b) = refl
-is_simple_is (tree.While at c b) = refl
-is_simple_is (tree.Print at e) = refl
-is_simple_is (tree.Return at e) = refl
-is_simple_is (tree.Break at) = refl
-
-pub are_simple_is : (p : Statements) → runs.are_simple p ≡ are_simple p
-are_simple_is Nothing = refl
-are_simple_is (Then s p) = ap (λ b. b && runs.are_simple p) (is_simple_is s) ∙ ap (λ b. is_simple s && b) (are_simple_is p)
 
 -- ---- Statements that mention a variable
 
@@ -47,7 +16,7 @@ untouched_step : (x : List ℕ) (s : Statement) (p : Statements) (t : Bool) → 
 untouched_step x s p true e h ih = absurd cc
 untouched_step x s p false e h ih =
     let n = or_parts (bytes_eq (set_by s) x) (is_among (mentioned_in s) x) e in
-    ap (λ b. b || is_set_in p x) (ap (λ y. bytes_eq y x) (set_by_is s) ∙ n.0) ∙ ih h
+    ap (λ b. b || is_set_in p x) n.0 ∙ ih h
 
 -- what no statement mentions none sets
 pub untouched_unset : (x : List ℕ) (p : Statements) → first_touching x p ≡ None → is_set_in p x ≡ false

@@ -37,7 +37,7 @@ use Rattle.java_loops.specs.Kernel.Setting.{Setting}
 use Rattle.loop_text.specs.Statements.Setting.{touches, first_touching, is_found, given_by, is_number, is_literal_number}
 use Rattle.loop_text.specs.Sites.Sites.{Site, place_of, place_where, first_broken}
 use Rattle.java_loops.proofs.Nested.NestRules.{true_from_not}
-use Rattle.java_loops.proofs.Placing.PlaceRuns.{are_simple_is, untouched_unset, gives}
+use Rattle.java_loops.proofs.Placing.PlaceRuns.{untouched_unset, gives}
 use Rattle.java_loops.proofs.Standing.StandingRules.{first_none, none_where, unbroken_at}
 
 -- ---- The statement that starts an accumulator
@@ -261,14 +261,14 @@ set_as_typed schema g t x held typed e k q =
     ap (λ (u : Variable). u.is_set) same ∙ v.2.set
 
 -- the value that one statement gives and no later one sets
-value_left : (w : World) (before : Statements) (a : Statement) (x : List ℕ) (e : Expression) (v : Value) (after : Statements) (s t : State) → Gives a x e → constant e ≡ Some v → runs.are_simple (followed_by before (Then a after)) ≡ true → runs.is_set_in after x ≡ false → meanings (followed_by before (Then a after)) w s ≡ Ok (GoesOn t) → (held : Variable) × (at_name t.store x ≡ Some held) × (held.value ≡ v)
+value_left : (w : World) (before : Statements) (a : Statement) (x : List ℕ) (e : Expression) (v : Value) (after : Statements) (s t : State) → Gives a x e → constant e ≡ Some v → are_simple (followed_by before (Then a after)) ≡ true → runs.is_set_in after x ≡ false → meanings (followed_by before (Then a after)) w s ≡ Ok (GoesOn t) → (held : Variable) × (at_name t.store x ≡ Some held) × (held.value ≡ v)
 value_left w before _ _ _ v after s t (declares at ty x e) c h n m = (_, declared_constant w before at ty x e v after s t c h n m, refl)
 value_left w before _ _ _ v after s t (assigns at x e) c h n m = (_, (assigned_constant w before at x e v after s t c h n m).2, refl)
 
 -- a variable to which a statement of the run gives a constant, and which no later one sets, has it at the loop
 pub value_held : (w : World) (schema : Schema) (g : Types) (x : List ℕ) (before : Statements) (a : Statement) (after run : Statements) (e : Expression) (v : Value) (s t : State) → run ≡ followed_by before (Then a after) → given_by x a ≡ Some e → constant e ≡ Some v → runs.is_set_in after x ≡ false → are_simple run ≡ true → IsTyped schema g t.store → meanings run w s ≡ Ok (GoesOn t) → HoldsStart schema g x v t
 value_held w schema g x before a after run e v s t is q c n h typed m =
-    let simple : runs.are_simple (followed_by before (Then a after)) ≡ true = ap runs.are_simple (sym is) ∙ are_simple_is run ∙ h in
+    let simple : are_simple (followed_by before (Then a after)) ≡ true = ap are_simple (sym is) ∙ h in
     let l = value_left w before a x e v after s t (gives x a e q) c simple n (ap (λ p. meanings p w s) (sym is) ∙ m) in
     record { held = l.0; left = l.1; value = l.2; set = set_as_typed schema g t x l.0 typed l.1 }
 

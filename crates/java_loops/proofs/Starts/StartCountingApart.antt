@@ -15,9 +15,10 @@ use Rattle.java_mean.specs.Typing.{Frame, Has, listed, distinct, TypedStatement,
 use Rattle.java_mean.proofs.Alike.{extends_new}
 use Rattle.java_mean.proofs.Puts.{names_equal, name_same}
 use Rattle.java_mean.proofs.TypedRuns.{extends_statement}
-use Rattle.java_loops.specs.Walks.Reads.{other_than, Reads, Within, AllWithin, ReturnsOnly, touches, all_touch}
+use Rattle.java_mean.specs.Mentions.{EachReturned}
+use Rattle.java_loops.specs.Walks.Reads.{other_than, Reads, Within, AllWithin, touches, all_touch}
 use Rattle.loop_text.specs.Statements.Names.{Names, is_among, names_in, names_of_returned, mentioned_in, mentioned_among}
-use Rattle.java_loops.proofs.Known.KnownLists.{reads_named}
+use Rattle.java_loops.proofs.Walks.Named.{reads_named}
 use Rattle.java_loops.proofs.Starts.StartCounting.{AreCounted}
 
 -- ---- What isn't mentioned
@@ -39,7 +40,7 @@ reads_other e i h = reads_named e (other_than i) (λ x k. other_named (names_in 
 first_other : (x i : List ℕ) (names : Names) → is_among (x ∷ names) i ≡ false → (other_than i x ≡ true) × (is_among names i ≡ false)
 first_other x i names h = let two = or_parts (bytes_eq i x) (is_among names i) h in (ap not two.0, two.1)
 
-returns_other : (o : Option Expression) (i : List ℕ) → is_among (names_of_returned o) i ≡ false → ReturnsOnly (other_than i) o
+returns_other : (o : Option Expression) (i : List ℕ) → is_among (names_of_returned o) i ≡ false → EachReturned (λ x. other_than i x ≡ true) o
 returns_other None i h = tt
 returns_other (Some e) i h = reads_other e i h
 
@@ -54,7 +55,7 @@ mutual
   within_other (tree.IfElse at c p q) i h =
       let two = either_part (names_in c) (mentioned_among p ++ mentioned_among q) i h in
       let more = either_part (mentioned_among p) (mentioned_among q) i two.1 in
-      (reads_other c i two.0, all_within_other p i more.0, all_within_other q i more.1)
+      (reads_other c i two.0, (all_within_other p i more.0, all_within_other q i more.1))
   within_other (tree.ForEach at ty x e p) i h = let two = either_part (names_in e) (mentioned_among p) i h in (reads_other e i two.0, all_within_other p i two.1)
   within_other (tree.While at c p) i h = let two = either_part (names_in c) (mentioned_among p) i h in (reads_other c i two.0, all_within_other p i two.1)
   within_other (tree.Print at e) i h = reads_other e i h

@@ -30,12 +30,12 @@ use Rattle.java_loops.proofs.Valid.ValidVisits.{all_weaker}
 -- ---- A test of a known list
 
 -- the operand has the type of the scalars of the known list with this number
-record IsMember (w : Setting) (a : Operand) (q : ℕ) : Type 0 where
-  type : Ty
-  known : slice_get (numbering w).known_types q ≡ Some type
-  is : operand_type w.schema (lowering w).fragment a ≡ Some type
+pub record IsMember (w : Setting) (a : Operand) (q : ℕ) : Type 0 where
+  pub type : Ty
+  pub known : slice_get (numbering w).known_types q ≡ Some type
+  pub is : operand_type w.schema (lowering w).fragment a ≡ Some type
 
-abbrev MemberTyped : Setting → Atom → Type 0
+abbrev pub MemberTyped : Setting → Atom → Type 0
 MemberTyped w (atoms.Member a q) = IsMember w a q
 MemberTyped w _ = Unit {0}
 
@@ -65,7 +65,8 @@ atom_member w loops flags _ _ _ (forms.texts_turned at a b o p h i) t = tt
 atom_member w loops flags _ _ _ (forms.truth e j c h) t = tt
 atom_member w loops flags _ _ _ (forms.flag at x k opposite own e) t = tt
 
-members_typed : (w : Setting) → AllByRecursion (StandsForCondition (numbering w)) (numbers_of w).atoms → list_all (atom_is_typed w.schema (lowering w).fragment) (numbers_of w).atoms ≡ true → AllByRecursion (MemberTyped w) (numbers_of w).atoms
+-- the tests of known lists are typed so, where the atoms stand for conditions and are typed
+pub members_typed : (w : Setting) → AllByRecursion (StandsForCondition (numbering w)) (numbers_of w).atoms → list_all (atom_is_typed w.schema (lowering w).fragment) (numbers_of w).atoms ≡ true → AllByRecursion (MemberTyped w) (numbers_of w).atoms
 members_typed w stand typed =
     all_weaker (λ a. StandsForCondition (numbering w) a × (atom_is_typed w.schema (lowering w).fragment a ≡ true)) (MemberTyped w) (numbers_of w).atoms (λ a h. atom_member w h.0.loops h.0.flags h.0.condition a h.0.truth h.0.is h.1)
     (zip_all (StandsForCondition (numbering w)) (λ a. atom_is_typed w.schema (lowering w).fragment a ≡ true) (numbers_of w).atoms stand (each_passes (atom_is_typed w.schema (lowering w).fragment) (numbers_of w).atoms typed))

@@ -26,7 +26,6 @@ use Rattle.java_loops.specs.Lowering.Lowered.{added, update_with, keys_of, keys_
 use Rattle.java_loops.specs.Lowering.Lowered as lowered
 use Rattle.java_loops.specs.Lowering.Numbering.{Numbers, numbers_of, loop_number}
 use Rattle.java_loops.specs.Kernel.Setting.{Setting}
-use Rattle.loop_text.specs.declared.sites.bindings.Binding.{Binding}
 use Rattle.loop_text.specs.declared.sites.bindings.Binding.TheVariants.{Outer}
 use Rattle.loop_text.specs.Sites.Sites.{Site, Test, Round, binding_at, any_site, depth, in_loop, outside, target_of}
 use Rattle.java_loops.proofs.Nested.NestRules.{formed_at}

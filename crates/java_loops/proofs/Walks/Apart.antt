@@ -1,5 +1,5 @@
 -- Statements do the same in states that are the same in all variables that they mention.
-use Rattle.std.proofs.Common.{◌≡◌, ℕ, zero, suc, List, [], ◌∷◌, ◌++◌, Option, Some, None, Result, Ok, Err, refl, ap, subst, arith}
+use Rattle.std.proofs.Common.{◌≡◌, ℕ, zero, suc, true, List, [], ◌∷◌, ◌++◌, Option, Some, None, Result, Ok, Err, refl, ap, subst, arith}
 use Rattle.qbs_base.specs.declared.scalar.Row.{Row}
 use Rattle.qbs_base.specs.declared.scalar.Value.TheVariants.{Many}
 use Rattle.qbs_base.specs.Named.{at_name}
@@ -15,7 +15,8 @@ use Rattle.java_mean.specs.Statement.{State, Passed, Returns, Does, Test, done, 
 use Rattle.java_mean.specs.Store.{Store, Variable, plainly}
 use Rattle.java_mean.specs.World.{World}
 use Rattle.java_mean.proofs.Simulates.{Loops, follows_turn, follows_branch, simulates_done, simulates_then}
-use Rattle.java_loops.specs.Walks.Reads.{Set, Reads, ReturnsOnly, Within, AllWithin, SameOn}
+use Rattle.java_mean.specs.Mentions.{EachReturned}
+use Rattle.java_loops.specs.Walks.Reads.{Set, Reads, Within, AllWithin, SameOn}
 use Rattle.java_loops.specs.Walks.Counting.{SameState, same_ways}
 use Rattle.java_loops.proofs.Walks.SameReads.{reads_same, test_reads_same, same_put}
 
@@ -73,7 +74,7 @@ repeat_same f test g q sim (suc n) (suc m) e =
           follows_turn (SameState f) (SameState f) (same_ways f) (same_ways f) (g u) (g v) (repeat n test g) (repeat m test g) (loops_same f) (sim.by u v (record { store = a.store; lines = a.lines; turns = i })) (repeat_same f test g q sim n m (omega (arith, e))).by))) (goes_same f s t a));
     }
 
-returned_same : (f : Set) (o : Option Expression) (w : World) → ReturnsOnly f o → Same f (returned o w)
+returned_same : (f : Set) (o : Option Expression) (w : World) → EachReturned (λ x. f x ≡ true) o → Same f (returned o w)
 returned_same f None w h = record { by = λ s t a. (record { state = t; is = refl; lines = a.lines }, tt) }
 returned_same f (Some e) w h = record { by = λ s t a. follows_bind (SameState f) f (value_of e w s.store) (value_of e w t.store) (λ v. Ok (Returns s (Some v))) (λ v. Ok (Returns t (Some v))) (reads_same e f w s.store t.store h a.store) (λ v. (record { state = t; is = refl; lines = a.lines }, tt)) }
 
@@ -92,7 +93,7 @@ mutual
   within_same (tree.Add at x e) f w h = record { by = λ s t a. follows_bind (SameState f) f (value_of e w s.store) (value_of e w t.store) (λ v. as_member v >>= λ row. found (at_name s.store x) >>= λ held. as_rows held.value >>= λ rows. done (with_value s x held (Many (added held.is_set rows row)))) (λ v. as_member v >>= λ row. found (at_name t.store x) >>= λ held. as_rows held.value >>= λ rows. done (with_value t x held (Many (added held.is_set rows row)))) (reads_same e f w s.store t.store h.1 a.store) (λ v. follows_bind (SameState f) f (as_member v) (as_member v) (λ row. found (at_name s.store x) >>= λ held. as_rows held.value >>= λ rows. done (with_value s x held (Many (added held.is_set rows row)))) (λ row. found (at_name t.store x) >>= λ held. as_rows held.value >>= λ rows. done (with_value t x held (Many (added held.is_set rows row)))) refl (λ row. follows_bind (SameState f) f (found (at_name s.store x)) (found (at_name t.store x)) (λ held. as_rows held.value >>= λ rows. done (with_value s x held (Many (added held.is_set rows row)))) (λ held. as_rows held.value >>= λ rows. done (with_value t x held (Many (added held.is_set rows row)))) (ap found (a.store.by x h.0)) (λ held. follows_bind (SameState f) f (as_rows held.value) (as_rows held.value) (λ rows. done (with_value s x held (Many (added held.is_set rows row)))) (λ rows. done (with_value t x held (Many (added held.is_set rows row)))) refl (λ rows. goes_same f _ _ (same_variable f s t x (record { value = Many (added held.is_set rows row); is_set = held.is_set }) a))))) }
   within_same (tree.Sort at x keys down) f w h = record { by = λ s t a. follows_bind (SameState f) f (found (at_name s.store x)) (found (at_name t.store x)) (λ held. as_rows held.value >>= λ rows. done (with_value s x held (Many (stable_sort (in_order w.schema keys down) rows)))) (λ held. as_rows held.value >>= λ rows. done (with_value t x held (Many (stable_sort (in_order w.schema keys down) rows)))) (ap found (a.store.by x h)) (λ held. follows_bind (SameState f) f (as_rows held.value) (as_rows held.value) (λ rows. done (with_value s x held (Many (stable_sort (in_order w.schema keys down) rows)))) (λ rows. done (with_value t x held (Many (stable_sort (in_order w.schema keys down) rows)))) refl (λ rows. goes_same f _ _ (same_variable f s t x (record { value = Many (stable_sort (in_order w.schema keys down) rows); is_set = held.is_set }) a))) }
   within_same (tree.If at c p) f w h = branches_same f c w (meanings p w) done h.0 (all_within_same p f w h.1) (done_same f)
-  within_same (tree.IfElse at c p q) f w h = branches_same f c w (meanings p w) (meanings q w) h.0 (all_within_same p f w h.1) (all_within_same q f w h.2)
+  within_same (tree.IfElse at c p q) f w h = branches_same f c w (meanings p w) (meanings q w) h.0 (all_within_same p f w h.1.0) (all_within_same q f w h.1.1)
   within_same (tree.ForEach at ty x e b) f w h = record { by = λ s t a. follows_bind (SameState f) f (value_of e w s.store) (value_of e w t.store) (λ v. as_rows v >>= λ rows. each rows x (meanings b w) s) (λ v. as_rows v >>= λ rows. each rows x (meanings b w) t) (reads_same e f w s.store t.store h.0 a.store) (λ v. follows_bind (SameState f) f (as_rows v) (as_rows v) (λ rows. each rows x (meanings b w) s) (λ rows. each rows x (meanings b w) t) refl (λ rows. (each_same f x (meanings b w) (all_within_same b f w h.1) rows).by s t a)) }
   within_same (tree.While at c b) f w h = record { by = λ s t a. (repeat_same f (test_of c w) (meanings b w) (λ u v i. test_reads_same c f w u v h.0 i) (all_within_same b f w h.1) s.turns t.turns a.turns).by s t a }
   within_same (tree.Print at e) f w h = record { by = λ s t a. follows_bind (SameState f) f (value_of e w s.store) (value_of e w t.store) (λ v. as_scalar v >>= λ x. done (with_line s (printed x))) (λ v. as_scalar v >>= λ x. done (with_line t (printed x))) (reads_same e f w s.store t.store h a.store) (λ v. follows_bind (SameState f) f (as_scalar v) (as_scalar v) (λ x. done (with_line s (printed x))) (λ x. done (with_line t (printed x))) refl (λ x. goes_same f _ _ (record { store = a.store; lines = ap (λ (l : List (List ℕ)). l ++ printed x ∷ []) a.lines; turns = a.turns }))) }

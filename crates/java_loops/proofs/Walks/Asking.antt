@@ -20,7 +20,8 @@ use Rattle.java_mean.proofs.Alike.{put_at}
 use Rattle.java_mean.proofs.Puts.{names_equal, name_same, put_other}
 use Rattle.java_mean.proofs.Replaced.{meanings_followed}
 use Rattle.java_loops.specs.Walks.Reads.{Set, SameOn}
-use Rattle.java_loops.specs.Walks.Runs.{are_simple, set_by, is_set_in, kept, KeptPasses, IsSilent}
+use Rattle.loop_text.specs.Statements.Fragment.{are_simple, set_by}
+use Rattle.java_loops.specs.Walks.Runs.{is_set_in, kept, KeptPasses, IsSilent}
 use Rattle.java_loops.specs.Walks.Replacing.{Ask, asking, asked, is_asked, replacement, run_and_loop, set_typed, set_asked, IsThere, AllFit, AllAnswered, LoopAnswers, MayGiveWay}
 use Rattle.java_loops.proofs.Walks.SameReads.{put_outside, outside, reads_same}
 use Rattle.java_loops.proofs.Walks.Passing.{same_state, run_silent, run_unset}

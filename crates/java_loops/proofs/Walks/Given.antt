@@ -17,7 +17,8 @@ use Rattle.java_mean.specs.Store.{Store, Variable, put}
 use Rattle.java_mean.specs.World.{World}
 use Rattle.java_mean.proofs.Puts.{put_same}
 use Rattle.java_loops.specs.Walks.Reads.{Reads, SameOn}
-use Rattle.java_loops.specs.Walks.Runs.{are_simple, set_by, is_set_in, unset_in, made, ran, Gives, declares, assigns, set_held, set_after, IsGiven, IsSorted, HasRows, constant}
+use Rattle.loop_text.specs.Statements.Fragment.{are_simple, set_by}
+use Rattle.java_loops.specs.Walks.Runs.{is_set_in, unset_in, made, ran, Gives, declares, assigns, set_held, set_after, IsGiven, IsSorted, HasRows, constant}
 use Rattle.java_loops.proofs.Walks.SameReads.{reads_same}
 use Rattle.java_loops.proofs.Walks.Passing.{Went, went, same_ok, run_store, ran_unset, Parts, ran_parts, LastSet, last_set}
 use Rattle.java_loops.proofs.Walks.Truth.{not_true}

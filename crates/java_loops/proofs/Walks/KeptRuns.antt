@@ -11,7 +11,8 @@ use Rattle.java_mean.specs.Statement.{State, GoesOn, in_order, is_set_type, mean
 use Rattle.java_mean.specs.Store.{Store, Variable, put}
 use Rattle.java_mean.specs.World.{World}
 use Rattle.java_loops.specs.Walks.Reads.{Set, SameOn}
-use Rattle.java_loops.specs.Walks.Runs.{is_simple, are_simple, set_by, made, ran, kept, StepReads, KeptRead, KeptPasses}
+use Rattle.loop_text.specs.Statements.Fragment.{is_simple, are_simple, set_by}
+use Rattle.java_loops.specs.Walks.Runs.{made, ran, kept, StepReads, KeptRead, KeptPasses}
 use Rattle.java_loops.proofs.Walks.SameReads.{same_self, same_back, reads_same, same_put, put_outside}
 use Rattle.java_loops.proofs.Walks.Passing.{Went, went, goes, same_ok, with_store, run_store, run_lines, run_goes}
 use Rattle.java_loops.proofs.Walks.Truth.{and_true}

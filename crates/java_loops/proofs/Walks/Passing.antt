@@ -16,7 +16,8 @@ use Rattle.java_mean.specs.Statement.{State, Passed, GoesOn, Does, done, then_do
 use Rattle.java_mean.specs.Store.{Store, Variable, put}
 use Rattle.java_mean.specs.World.{World}
 use Rattle.java_mean.proofs.Puts.{put_same, put_other}
-use Rattle.java_loops.specs.Walks.Runs.{is_simple, are_simple, set_by, is_set_in, made, ran, IsSilent}
+use Rattle.loop_text.specs.Statements.Fragment.{is_simple, are_simple, set_by}
+use Rattle.java_loops.specs.Walks.Runs.{is_set_in, made, ran, IsSilent}
 use Rattle.java_loops.proofs.Walks.Truth.{and_true, or_false}
 
 -- ---- Results

@@ -3,7 +3,8 @@ use Rattle.std.proofs.Common.{◌≡◌, ℕ, Bool, true, false, ◌||◌, List,
 use Rattle.std.specs.Prelude.{bytes_eq}
 use Rattle.java_ast.specs.Tree.{Statement, Statements, Nothing, Then}
 use Rattle.java_mean.proofs.Puts.{names_equal}
-use Rattle.java_loops.specs.Walks.Runs.{set_by, is_set_in, settings, SplitsAt}
+use Rattle.loop_text.specs.Statements.Fragment.{set_by}
+use Rattle.java_loops.specs.Walks.Runs.{is_set_in, settings, SplitsAt}
 
 head_of : (a b : Statement) (p q : List Statement) → a ∷ p ≡ b ∷ q → (a ≡ b) × (p ≡ q)
 head_of a b p q e = (cc, cc)

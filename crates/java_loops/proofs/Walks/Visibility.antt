@@ -20,7 +20,8 @@ use Rattle.java_mean.proofs.Replacing.{new_left}
 use Rattle.java_mean.proofs.TypedPlaces.{places_typed}
 use Rattle.java_mean.proofs.TypedRuns.{extends_statement, extends_statements}
 use Rattle.java_loops.specs.Walks.Reads.{Set}
-use Rattle.java_loops.specs.Walks.Runs.{set_by, kept}
+use Rattle.loop_text.specs.Statements.Fragment.{set_by}
+use Rattle.java_loops.specs.Walks.Runs.{kept}
 use Rattle.java_loops.specs.Walks.Replacing.{Ask, asking, asked, is_asked, replacement, run_and_loop, MayGiveWay, seen_at, HasSameType, HaveSameTypes}
 use Rattle.java_loops.proofs.Walks.Asking.{gives_way}
 use Rattle.java_loops.proofs.Walks.Truth.{or_left, or_right}

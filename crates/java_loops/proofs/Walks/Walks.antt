@@ -1,12 +1,13 @@
 -- A walk through a run adds needed variables alone, and a set to which it adds nothing is closed.
 use Rattle.std.proofs.Common.{◌≡◌, ℕ, Bool, true, false, not, ◌&&◌, ◌||◌, List, refl, ap}
-use Rattle.std.specs.Prelude.{bytes_eq}
 use Rattle.java_ast.specs.Tree as tree
 use Rattle.java_ast.specs.Tree.{Expression, Expressions, NoMore, And, Statement, Statements, Nothing, Then}
-use Rattle.java_mean.proofs.Puts.{name_same}
-use Rattle.java_loops.specs.Walks.Reads.{Set, Reads, AllRead}
-use Rattle.java_loops.specs.Walks.Runs.{set_by, StepReads, KeptRead}
-use Rattle.java_loops.specs.Walks.Needed.{names_in, names_among, mentions, StandsIn, first, after, IsNeeded, based, mentioned, IsClosed, AreNeeded, keeping, joined, walked, KeptAlone}
+use Rattle.java_loops.specs.Walks.Reads.{Set}
+use Rattle.loop_text.specs.Statements.Fragment.{set_by, StandsIn, first, after}
+use Rattle.java_loops.specs.Walks.Runs.{StepReads, KeptRead}
+use Rattle.java_loops.specs.Walks.Needed.{mentions, IsNeeded, based, mentioned, IsClosed, AreNeeded, keeping, joined, walked, KeptAlone}
+use Rattle.loop_text.specs.Statements.Names.{names_in}
+use Rattle.java_loops.proofs.Walks.Named.{among_more, reads_named}
 use Rattle.java_loops.proofs.Walks.Truth.{and_true, not_true, or_left, or_right, and_both}
 
 -- ---- The least set
@@ -48,32 +49,9 @@ walked_closed base dropped run r b w = record { has_base = b; has_mentioned = λ
 
 -- ---- What is kept reads what is in the set
 
-mutual
-  pub reads_from : (e : Expression) (f : Set) → ((x : List ℕ) → names_in e x ≡ true → f x ≡ true) → Reads f e
-  reads_from (tree.Lit at v) f h = tt
-  reads_from (tree.Var at y) f h = h y (name_same y)
-  reads_from (tree.Field at e n) f h = reads_from e f h
-  reads_from (tree.Binary at op a b) f h = (reads_from a f (λ x i. h x (or_left (names_in a x) (names_in b x) i)), reads_from b f (λ x i. h x (or_right (names_in a x) (names_in b x) i)))
-  reads_from (tree.Not at e) f h = reads_from e f h
-  reads_from (tree.Equals at a b) f h = (reads_from a f (λ x i. h x (or_left (names_in a x) (names_in b x) i)), reads_from b f (λ x i. h x (or_right (names_in a x) (names_in b x) i)))
-  reads_from (tree.Size at y) f h = h y (name_same y)
-  reads_from (tree.Get at y e) f h = (h y (or_left (bytes_eq y y) (names_in e y) (name_same y)), reads_from e f (λ x i. h x (or_right (bytes_eq x y) (names_in e x) i)))
-  reads_from (tree.Contains at y e) f h = (h y (or_left (bytes_eq y y) (names_in e y) (name_same y)), reads_from e f (λ x i. h x (or_right (bytes_eq x y) (names_in e x) i)))
-  reads_from (tree.Fetch at t) f h = tt
-  reads_from (tree.Query at ty text es) f h = all_read_from es f h
-  reads_from (tree.QueryLong at text es) f h = all_read_from es f h
-  reads_from (tree.QueryBoolean at text es) f h = all_read_from es f h
-  reads_from (tree.NewList at) f h = tt
-  reads_from (tree.NewSet at) f h = tt
-  reads_from (tree.NewSetOf at e) f h = reads_from e f h
-
-  pub all_read_from : (es : Expressions) (f : Set) → ((x : List ℕ) → names_among es x ≡ true → f x ≡ true) → AllRead f es
-  all_read_from NoMore f h = tt
-  all_read_from (And e es) f h = (reads_from e f (λ x i. h x (or_left (names_in e x) (names_among es x) i)), all_read_from es f (λ x i. h x (or_right (names_in e x) (names_among es x) i)))
-
 step_reads : (a : Statement) (f : Set) → ((x : List ℕ) → mentions a x ≡ true → f x ≡ true) → StepReads f a
-step_reads (tree.Declare at ty y e) f h = reads_from e f h
-step_reads (tree.Assign at y e) f h = reads_from e f (λ x i. h x (or_right (bytes_eq x y) (names_in e x) i))
+step_reads (tree.Declare at ty y e) f h = reads_named e f h
+step_reads (tree.Assign at y e) f h = reads_named e f (λ x i. h x (among_more y x (names_in e) i))
 step_reads (tree.Sort at y keys down) f h = tt
 step_reads (tree.Add at x e) f h = tt
 step_reads (tree.If at c p) f h = tt

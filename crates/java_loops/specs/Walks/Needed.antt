@@ -1,47 +1,14 @@
 -- Which variables a replacement needs: the least set that holds some to begin with, and what the kept
 -- statements of a run mention.
 use Rattle.std.specs.Prelude.{◌≡◌, ℕ, zero, suc, Bool, true, false, not, ◌&&◌, ◌||◌, List}
-use Rattle.std.specs.Str.{bytes_eq}
-use Rattle.java_ast.specs.Tree.{Expression, Expressions, NoMore, And, Statement, Statements, Nothing, Then}
-use Rattle.java_ast.specs.Tree as plain
+use Rattle.java_ast.specs.Tree.{Statement, Statements, Nothing, Then}
 use Rattle.java_loops.specs.Walks.Reads.{Set}
-use Rattle.java_loops.specs.Walks.Runs.{set_by}
+use Rattle.loop_text.specs.Statements.Fragment.{StandsIn, set_by}
+use Rattle.loop_text.specs.Statements.Names.{is_among, mentioned_in}
 
--- the names in an expression
-abbrev mutual
-  pub names_in : Expression → Set
-  names_in (plain.Lit at value) x = false
-  names_in (plain.Var at y) x = bytes_eq x y
-  names_in (plain.Field at e column) x = names_in e x
-  names_in (plain.Binary at op a b) x = names_in a x || names_in b x
-  names_in (plain.Not at e) x = names_in e x
-  names_in (plain.Equals at a b) x = names_in a x || names_in b x
-  names_in (plain.Size at y) x = bytes_eq x y
-  names_in (plain.Get at y e) x = bytes_eq x y || names_in e x
-  names_in (plain.Contains at y e) x = bytes_eq x y || names_in e x
-  names_in (plain.Fetch at table) x = false
-  names_in (plain.Query at ty text es) x = names_among es x
-  names_in (plain.QueryLong at text es) x = names_among es x
-  names_in (plain.QueryBoolean at text es) x = names_among es x
-  names_in (plain.NewList at) x = false
-  names_in (plain.NewSet at) x = false
-  names_in (plain.NewSetOf at e) x = names_in e x
-
-  pub names_among : Expressions → Set
-  names_among NoMore x = false
-  names_among (And e es) x = names_in e x || names_among es x
-
--- the names that a statement of a run mentions, other than to declare them
+-- the names that a statement mentions, other than to declare them
 abbrev pub mentions : Statement → Set
-mentions (plain.Declare at ty y e) x = names_in e x
-mentions (plain.Assign at y e) x = bytes_eq x y || names_in e x
-mentions (plain.Sort at y keys down) x = bytes_eq x y
-mentions _ x = false
-
--- a statement of a run
-pub data StandsIn : Statement → Statements → Type 0 where
-  first : (a : Statement) (p : Statements) → StandsIn a (Then a p)
-  after : (a b : Statement) (p : Statements) → StandsIn a p → StandsIn a (Then b p)
+mentions s = is_among (mentioned_in s)
 
 -- The least set with the first variables, and with those that are mentioned in a kept statement: one that sets a
 -- variable of the set, and none of those that are dropped.

@@ -11,7 +11,8 @@ use Rattle.java_mean.specs.Typing.{Frame, IsWorld}
 use Rattle.java_mean.specs.World.{World}
 use Rattle.java_loops.specs.Walks.Reads.{Set, touches}
 use Rattle.java_loops.specs.Walks.Replacing.{Ask, is_asked, AllFit, AllAnswered}
-use Rattle.java_loops.specs.Walks.Runs.{are_simple, KeptRead}
+use Rattle.loop_text.specs.Statements.Fragment.{are_simple}
+use Rattle.java_loops.specs.Walks.Runs.{KeptRead}
 
 -- no part of it prints or returns
 abbrev mutual

@@ -1,11 +1,10 @@
 -- Sets of names, and what mentions only variables of such a set.
 use Rattle.std.specs.Prelude.{◌≡◌, ℕ, Bool, true, false, not, ◌||◌, List}
 use Rattle.std.specs.Str.{bytes_eq}
-use Rattle.std.specs.declared.option.Option.{Option}
-use Rattle.std.specs.declared.option.Option.TheVariants.{Some, None}
 use Rattle.qbs_base.specs.Named.{at_name}
-use Rattle.java_ast.specs.Tree.{Expression, Expressions, NoMore, And, Statement, Statements, Nothing, Then}
+use Rattle.java_ast.specs.Tree.{Expression, Expressions, Statement, Statements, Nothing, Then}
 use Rattle.java_ast.specs.Tree as plain
+use Rattle.java_mean.specs.Mentions.{EachIn, EachAmong, EachMentionedIn, EachMentioned}
 use Rattle.java_mean.specs.Store.{Store}
 
 -- a set of names, by a test
@@ -16,52 +15,19 @@ Set = List ℕ → Bool
 abbrev pub other_than : List ℕ → Set
 other_than x = λ y. not (bytes_eq x y)
 
--- each variable that the expression mentions is of the set
-abbrev mutual
-  pub Reads : Set → Expression → Type 0
-  Reads f (plain.Lit at x) = Unit {0}
-  Reads f (plain.Var at x) = f x ≡ true
-  Reads f (plain.Field at e name) = Reads f e
-  Reads f (plain.Binary at op a b) = Reads f a × Reads f b
-  Reads f (plain.Not at e) = Reads f e
-  Reads f (plain.Equals at a b) = Reads f a × Reads f b
-  Reads f (plain.Size at x) = f x ≡ true
-  Reads f (plain.Get at x e) = (f x ≡ true) × Reads f e
-  Reads f (plain.Contains at x e) = (f x ≡ true) × Reads f e
-  Reads f (plain.Fetch at t) = Unit {0}
-  Reads f (plain.Query at ty text es) = AllRead f es
-  Reads f (plain.QueryLong at text es) = AllRead f es
-  Reads f (plain.QueryBoolean at text es) = AllRead f es
-  Reads f (plain.NewList at) = Unit {0}
-  Reads f (plain.NewSet at) = Unit {0}
-  Reads f (plain.NewSetOf at e) = Reads f e
+-- each variable that an expression mentions is of the set
+abbrev pub Reads : Set → Expression → Type 0
+Reads f = EachIn (λ x. f x ≡ true)
 
-  pub AllRead : Set → Expressions → Type 0
-  AllRead f NoMore = Unit {0}
-  AllRead f (And e es) = Reads f e × AllRead f es
+abbrev pub AllRead : Set → Expressions → Type 0
+AllRead f = EachAmong (λ x. f x ≡ true)
 
-abbrev pub ReturnsOnly : Set → Option Expression → Type 0
-ReturnsOnly f None = Unit {0}
-ReturnsOnly f (Some e) = Reads f e
+-- each variable that statements mention, other than to declare it, is of the set
+abbrev pub Within : Set → Statement → Type 0
+Within f = EachMentionedIn (λ x. f x ≡ true)
 
--- Each variable that statements mention, other than to declare it, is of the set.
-abbrev mutual
-  pub Within : Set → Statement → Type 0
-  Within f (plain.Declare at ty x e) = Reads f e
-  Within f (plain.Assign at x e) = (f x ≡ true) × Reads f e
-  Within f (plain.Add at x e) = (f x ≡ true) × Reads f e
-  Within f (plain.Sort at x keys down) = f x ≡ true
-  Within f (plain.If at c p) = Reads f c × AllWithin f p
-  Within f (plain.IfElse at c p q) = Reads f c × AllWithin f p × AllWithin f q
-  Within f (plain.ForEach at ty x e b) = Reads f e × AllWithin f b
-  Within f (plain.While at c b) = Reads f c × AllWithin f b
-  Within f (plain.Print at e) = Reads f e
-  Within f (plain.Return at e) = ReturnsOnly f e
-  Within f (plain.Break at) = Unit {0}
-
-  pub AllWithin : Set → Statements → Type 0
-  AllWithin f Nothing = Unit {0}
-  AllWithin f (Then a p) = Within f a × AllWithin f p
+abbrev pub AllWithin : Set → Statements → Type 0
+AllWithin f = EachMentioned (λ x. f x ≡ true)
 
 -- a statement gives the variable a value, or declares it, in itself or below
 abbrev mutual

@@ -17,7 +17,8 @@ use Rattle.java_mean.specs.Types.{Types, type_spelled, types_of_params, is_disti
 use Rattle.java_mean.specs.Typing.{Frame, IsWorld}
 use Rattle.java_mean.specs.World.{World}
 use Rattle.java_loops.specs.Walks.Reads.{Set, Reads}
-use Rattle.java_loops.specs.Walks.Runs.{are_simple, kept, KeptRead}
+use Rattle.loop_text.specs.Statements.Fragment.{are_simple}
+use Rattle.java_loops.specs.Walks.Runs.{kept, KeptRead}
 
 -- The statement that stands for what a loop makes of a variable: it gives it this expression's value. With
 -- a type it declares the variable, and else it assigns it.

@@ -1,6 +1,6 @@
 -- Runs: the declarations, assignments and sorts that lead up to a loop. What they leave, and which of
 -- them are kept for the sake of a set of variables.
-use Rattle.std.specs.Prelude.{◌≡◌, ℕ, Bool, true, false, not, ◌&&◌, ◌||◌, List, [], ◌∷◌, Option, Some, None, Result, Ok, Err, if◌then◌else◌}
+use Rattle.std.specs.Prelude.{◌≡◌, ℕ, Bool, true, false, not, ◌||◌, List, [], ◌∷◌, Option, Some, None, Result, Ok, Err, if◌then◌else◌}
 use Rattle.std.specs.Str.{bytes_eq}
 use Rattle.qbs_base.specs.declared.span.Span.{Span}
 use Rattle.qbs_base.specs.declared.scalar.Row.{Row}
@@ -18,27 +18,10 @@ use Rattle.java_mean.specs.Refines.{followed_by}
 use Rattle.java_mean.specs.Statement.{State, Passed, GoesOn, in_order, is_set_type, meanings}
 use Rattle.java_mean.specs.Store.{Store, Variable, put}
 use Rattle.java_mean.specs.World.{World}
+use Rattle.loop_text.specs.Statements.Fragment.{set_by}
 use Rattle.java_loops.specs.Walks.Reads.{Set, Reads, SameOn}
 
 -- ---- Runs
-
--- a run has declarations, assignments and sorts
-abbrev pub is_simple : Statement → Bool
-is_simple (plain.Declare at ty x e) = true
-is_simple (plain.Assign at x e) = true
-is_simple (plain.Sort at x keys down) = true
-is_simple _ = false
-
-abbrev pub are_simple : Statements → Bool
-are_simple Nothing = true
-are_simple (Then a p) = is_simple a && are_simple p
-
--- the variable that a statement of a run sets
-abbrev pub set_by : Statement → List ℕ
-set_by (plain.Declare at ty x e) = x
-set_by (plain.Assign at x e) = x
-set_by (plain.Sort at x keys down) = x
-set_by _ = []
 
 -- some statement of the run sets the variable
 abbrev pub is_set_in : Statements → Set
