@@ -1,13 +1,10 @@
--- Columns by number, and the lists of loops one by one.
+-- The lists of loops one by one.
 use Rattle.std.specs.Prelude.{List, [], ◌∷◌, ◌++◌, Bool, ℕ}
 use Rattle.std.proofs.Common.{◌≡◌, refl, sym, append_assoc, ◌⊎◌, inl, inr, ap, ◌∙◌}
 use Rattle.std.proofs.lemmas.List.{append-nil}
 use Rattle.qbs_base.specs.declared.columns.Column.{Column}
 use Rattle.kernel_lang.specs.declared.parts.Col.{Col}
-use Rattle.java_types.proofs.Columns.{number_in_table}
 use Rattle.java_loops.specs.Lowering.Lowered.{keys_of}
-
-pub ruleset columns = (number_in_table)
 
 pub ruleset lowered_lists = (append_assoc)
 

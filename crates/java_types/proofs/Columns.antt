@@ -1,18 +1,10 @@
--- Columns by name and number, and lengths.
-use Rattle.std.proofs.Common.{◌≡◌, ℕ, zero, suc, List, [], ◌∷◌, length, refl, ◌∙◌, nat_eq, arith}
+-- As many arguments as types.
+use Rattle.std.proofs.Common.{◌≡◌, suc, List, [], ◌∷◌, length, refl, ◌∙◌, nat_eq, arith}
 use Rattle.std.proofs.lemmas.Bool.Decides.{nat_tests}
 use Rattle.qbs_base.specs.declared.scalar.Ty.{Ty}
-use Rattle.qbs_base.specs.Values.{Schema}
-use Rattle.qbs_base.specs.Columns.{column_number, columns_at}
-use Rattle.schema.specs.Numbers as numbers
 use Rattle.java_ast.specs.declared.tree.Expr.{Expr}
 use Rattle.java_ast.specs.Reading.{expressions}
 use Rattle.java_mean.specs.Rules.{same_length}
-
-pub number_in_table : (schema : Schema) (n : ℕ) (f : List ℕ) → numbers.column_number_at schema n f ≡ column_number (columns_at schema n) f
-number_in_table [] n f = refl
-number_in_table (t ∷ ts) zero f = refl
-number_in_table (t ∷ ts) (suc n) f = number_in_table ts n f
 
 pub same_lengths : (types : List Ty) (es : List Expr) → nat_eq (length types) (length es) ≡ same_length types (expressions es)
 same_lengths [] [] = refl

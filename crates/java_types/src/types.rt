@@ -96,7 +96,6 @@ fn type_at_number(columns: &[Column], place: Option<u32>) -> Option<Ty>
 }
 
 /// The type of a row's column, and none where it is no row or has no such column.
-#[tactic(auto, using(crate::proofs::Columns::number_in_table))]
 pub fn column_in(schema: &Schema, k: Option<Kindred>, name: &Name) -> Option<Ty>
     ensures { result ≡ rules.column_in schema.now k name.now }
 {

@@ -20,7 +20,6 @@ use schema::Schema;
 use std::alloc::Global;
 
 /// The number of a column in a table, and 0 where it has none.
-#[tactic(auto, using(crate::proofs::LoweredLists::columns))]
 pub fn column_at(schema: &Schema, table: u32, name: &Name) -> u32
     ensures { result ≡ found_number (column_number (columns_at schema.now table) name.now) }
 {
