@@ -1,4 +1,5 @@
 mod Alone
+mod Choosing
 mod Counts
 pub mod Firsts
 mod Hits

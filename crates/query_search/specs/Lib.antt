@@ -1,6 +1,8 @@
 pub mod Asking
+pub mod Choices
 pub mod Counted
 pub mod Firsts
+pub mod Remembered
 pub mod Seen
 pub mod Verdicts
 pub mod Walks

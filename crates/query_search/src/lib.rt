@@ -4,6 +4,7 @@
 
 mod answer;
 mod asking;
+mod choices;
 mod extra;
 mod found;
 mod judge;

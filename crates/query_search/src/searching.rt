@@ -9,6 +9,7 @@ ghost use Rattle.query_search.specs.Counted.{AreCounted};
 ghost use Rattle.query_search.specs.Seen.{hit_in, verdict_in, dropped_in, IsFoundOf};
 ghost use Rattle.query_search.specs.Verdicts.{verdict, verdict_by, before};
 
+use crate::choices::new_memory;
 use crate::extra::Extra;
 use crate::found::Found;
 use crate::pruner::{Call, Pruner};
@@ -74,7 +75,9 @@ pub fn search_with<F: Fn(&KFragment, &Candidate) -> PruneAnswer>(
     ensures found { IfOk result (IsFoundOf (fragment_of frag.now)) }
 {
     let n = count(frag, size);
-    let part = walk(alloc, frag, size, pruners, extra, 0, budget.min(n))?;
+    let mut memory = new_memory(alloc, frag)?;
+    let judged = budget.min(n);
+    let part = walk(alloc, frag, size, pruners, extra, &mut memory, 0, judged)?;
     Ok(answer(part, n, budget))
 }
 

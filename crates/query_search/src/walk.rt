@@ -1,17 +1,18 @@
 // The candidates one after another, from a number on.
-ghost use Rattle.std.specs.Prelude.{◌≡◌, ◌+◌, ◌<◌, ◌≤◌, ◌^◌, IfOk, length, option_map};
+ghost use Rattle.std.specs.Prelude.{◌≡◌, ◌+◌, ◌<◌, ◌≤◌, ◌^◌, IfOk, OnOk, length, option_map};
 ghost use Rattle.kernel_lang.specs.declared.prune.PruneAnswer.TheVariants as answers;
 ghost use Rattle.kernel_lang.specs.Pools.{IsCandidateOf};
 ghost use Rattle.kernel_lang.specs.Refuted.{IsRefuted};
 ghost use Rattle.kernel_lang.specs.Whole.{fragment_of};
 ghost use Rattle.templates.specs.Numbered.{candidates_of};
 ghost use Rattle.query_search.specs.Asking.{SomeMayDrop, EachMayKeep, OfCandidate};
+ghost use Rattle.query_search.specs.Remembered.{IsMemoryOf};
 ghost use Rattle.query_search.specs.Seen.{hit_in};
 ghost use Rattle.query_search.specs.Walks.{IsPart};
 
 use crate::asking::ask_all;
+use crate::choices::{Memory, judge_by};
 use crate::extra::Extra;
-use crate::judge::judge;
 use crate::nth::candidate_at;
 use crate::pruner::{Call, Pruner};
 use kernel_lang::{Candidate, KFragment, PruneAnswer};
@@ -41,16 +42,19 @@ fn judge_one<F: Fn(&KFragment, &Candidate) -> PruneAnswer>(
     size: u32,
     pruners: &[Pruner],
     extra: &Extra<F>,
+    memory: &mut Memory,
     k: u64,
 ) -> Result<Part, NoMemory>
     requires size { size ≤ 8 }
     requires within { k < length (candidates_of (fragment_of frag.now) size) }
+    requires known { IsMemoryOf (fragment_of frag.now) memory.old }
     requires callable { (f : _) (c : _) → IsCandidateOf (fragment_of f.now) c.now → F.pre extra.now.call f c }
     requires justified { (f : _) (c : _)
         → IsCandidateOf (fragment_of f.now) c.now
         → F.post extra.now.call f c answers.Drop
         → ∥ IsRefuted (fragment_of f.now) c.now ∥₁ }
-    ensures { IfOk result (λ part.
+    ensures kept { OnOk result (IsMemoryOf (fragment_of frag.now) memory.new) }
+    ensures part { IfOk result (λ part.
         IsPart (fragment_of frag.now) size
         (OfCandidate frag.now size (SomeMayDrop (λ p. Call.post p.call) pruners.now (F.post extra.now.call) frag.now))
         (OfCandidate frag.now size (EachMayKeep (λ p. Call.post p.call) pruners.now (F.post extra.now.call) frag.now))
@@ -63,7 +67,7 @@ fn judge_one<F: Fn(&KFragment, &Candidate) -> PruneAnswer>(
             hit: None,
             dropped: 1,
         }),
-        PruneAnswer::Keep => match judge(alloc, frag, &cand)? {
+        PruneAnswer::Keep => match judge_by(alloc, frag, memory, &cand)? {
             None => Ok(Part {
                 hit: None,
                 dropped: 0,
@@ -83,18 +87,21 @@ pub fn walk<F: Fn(&KFragment, &Candidate) -> PruneAnswer>(
     size: u32,
     pruners: &[Pruner],
     extra: &Extra<F>,
+    memory: &mut Memory,
     k: u64,
     n: u64,
 ) -> Result<Part, NoMemory>
     requires size { size ≤ 8 }
     requires within { k + n ≤ length (candidates_of (fragment_of frag.now) size) }
     requires small { k + n < 2 ^ 64 }
+    requires known { IsMemoryOf (fragment_of frag.now) memory.old }
     requires callable { (f : _) (c : _) → IsCandidateOf (fragment_of f.now) c.now → F.pre extra.now.call f c }
     requires justified { (f : _) (c : _)
         → IsCandidateOf (fragment_of f.now) c.now
         → F.post extra.now.call f c answers.Drop
         → ∥ IsRefuted (fragment_of f.now) c.now ∥₁ }
-    ensures { IfOk result (λ part.
+    ensures kept { OnOk result (IsMemoryOf (fragment_of frag.now) memory.new) }
+    ensures part { IfOk result (λ part.
         IsPart (fragment_of frag.now) size
         (OfCandidate frag.now size (SomeMayDrop (λ p. Call.post p.call) pruners.now (F.post extra.now.call) frag.now))
         (OfCandidate frag.now size (EachMayKeep (λ p. Call.post p.call) pruners.now (F.post extra.now.call) frag.now))
@@ -107,14 +114,23 @@ pub fn walk<F: Fn(&KFragment, &Candidate) -> PruneAnswer>(
         });
     }
     if n == 1 {
-        return judge_one(alloc, frag, size, pruners, extra, k);
+        return judge_one(alloc, frag, size, pruners, extra, memory, k);
     }
     let half = n / 2;
-    let first = walk(alloc, frag, size, pruners, extra, k, half)?;
+    let first = walk(alloc, frag, size, pruners, extra, memory, k, half)?;
     if first.hit.is_some() {
         return Ok(first);
     }
-    let rest = walk(alloc, frag, size, pruners, extra, k + half, n - half)?;
+    let rest = walk(
+        alloc,
+        frag,
+        size,
+        pruners,
+        extra,
+        memory,
+        k + half,
+        n - half,
+    )?;
     let dropped = first.dropped + rest.dropped;
     Ok(Part {
         hit: rest.hit,
