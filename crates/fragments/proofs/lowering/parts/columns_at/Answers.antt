@@ -1,7 +1,7 @@
 use Rattle.std.proofs.Common.{◌∙◌, ap}
 use Rattle.qbs_base.specs.Values.{Schema}
 use Rattle.qbs_base.specs.Columns.{columns_at}
-use Rattle.java_types.proofs.Columns.{columns_some, columns_none}
+use Rattle.qbs_base.proofs.ColumnNumbers.{columns_some, columns_none}
 use Rattle.fragments.proofs.lowering.parts.columns_at.Goals as goal
 
 pub returns-in-Some : goal.returns-in-Some
