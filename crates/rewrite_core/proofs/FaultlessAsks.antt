@@ -15,7 +15,6 @@ use Rattle.kernel_lang.specs.Pools.{Member, chosen, members}
 use Rattle.kernel_lang.specs.Sentences.{AccumulatorIsValid}
 use Rattle.kernel_lang.specs.Typed.{place_type}
 use Rattle.kernel_lang.specs.Validity as validity
-use Rattle.kernel_lang.specs.Validity.{takes_a_column}
 use Rattle.kernel_lang.proofs.Sentences.{valid}
 use Rattle.sql_ast.specs.Answers.{is_order_complete}
 use Rattle.sql_ast.specs.Canonical.{canonical}
@@ -38,7 +37,7 @@ use Rattle.java_mean.specs.declared.types.Single.{Single}
 use Rattle.java_mean.specs.declared.types.Single.TheVariants.{ScalarOf, RowOf}
 use Rattle.java_mean.specs.Places.{in_expression}
 use Rattle.java_mean.specs.Queries.{Reader}
-use Rattle.java_mean.specs.Rules.{type_of}
+use Rattle.java_mean.specs.Rules.{type_of, copied_row, aliased}
 use Rattle.java_mean.specs.Types.{single_spelled, type_spelled}
 use Rattle.java_mean.specs.Visible.{Visible}
 use Rattle.java_mean.specs.WellTyped.{faults_in}
@@ -77,6 +76,24 @@ module _ (w : Setting) (read : List ℕ → Option PlainQuery) (r : Option Spell
   record IsFaultless (e : Expression) (type : JavaType) : Type 0 where
     kindred : type_of w.schema vs e ≡ Some (Only type)
     none : faults_in w.schema read r (in_expression vs e) ≡ []
+
+  calls_copy : (at : Span) (u : Update) (T : List ℕ) (E : Spelled) (text : List ℕ) (es : Expressions) → copied_row vs (value_by at u T E text es) ≡ []
+  calls_copy at (updates.Push (elems.Whole j)) T E text es = refl
+  calls_copy at (updates.Push (elems.Field j c)) T E text es = refl
+  calls_copy at (updates.PushNew x) T E text es = refl
+  calls_copy at updates.Tick T E text es = refl
+  calls_copy at (updates.Plus x) T E text es = refl
+  calls_copy at (updates.Best way x) T E text es = refl
+  calls_copy at updates.Mark T E text es = refl
+
+  calls_alias : (at : Span) (u : Update) (T : List ℕ) (E : Spelled) (text : List ℕ) (es : Expressions) (o : Option JavaType) (x : List ℕ) → aliased o x (value_by at u T E text es) ≡ []
+  calls_alias at (updates.Push (elems.Whole j)) T E text es o x = refl
+  calls_alias at (updates.Push (elems.Field j c)) T E text es o x = refl
+  calls_alias at (updates.PushNew e) T E text es o x = refl
+  calls_alias at updates.Tick T E text es o x = refl
+  calls_alias at (updates.Plus e) T E text es o x = refl
+  calls_alias at (updates.Best way e) T E text es o x = refl
+  calls_alias at updates.Mark T E text es o x = refl
 
   row_taken : (z : Option ListDef) (a : Single) → row_of_list z ≡ Some a → (d : ListDef) × (z ≡ Some d) × (RowOf d.table ≡ a)
   row_taken (Some d) a e = (d, refl, cc)
@@ -157,7 +174,14 @@ module _ (l : Place) (reader : Reader l.setting.schema) (r : Option Spelled) (vs
       let fine : AreFine w.schema reader.read r vs (arguments_of at (lowering w).entries e.entries) (params_in e.query) = arguments_fine w.schema reader.read r vs w refl at (lowering w).entries good sees e.entries (params_in e.query) (entries l.candidate m).types in
       let value : IsFaultless w reader.read r vs (ask_of l x m).value c.type = value_faultless w reader.read r vs at (spelled_at x l.path l.program) (canonical e.query) (arguments_of at (lowering w).entries e.entries) e.query (canonical_read w.schema reader e.query query) fine order m.0.update c.type (takes_column m.0.update (column_taken (lowering w).fragment m.0 v)) c.collects
       (sym (spelled x) ∙ c.visible) answer in
-      record { type = c.type; visible = c.visible; kindred = value.kindred; faultless = value.none }
+      record {
+        type = c.type;
+        visible = c.visible;
+        kindred = value.kindred;
+        faultless = value.none;
+        copies_no_row = calls_copy w reader.read r vs at m.0.update (table_taken w m.0.update) (spelled_or_text (element_spelled (spelled_at x l.path l.program))) (canonical e.query) (arguments_of at (lowering w).entries e.entries);
+        aliases_nothing = calls_alias w reader.read r vs at m.0.update (table_taken w m.0.update) (spelled_or_text (element_spelled (spelled_at x l.path l.program))) (canonical e.query) (arguments_of at (lowering w).entries e.entries);
+      }
 
   all_faultless : (k n : ℕ) (xs : Names) (accs : List Accumulator) → Follow l k n accs → AreOuter xs accs → AllCollect l.setting xs accs → AllByRecursion (AccumulatorIsValid (lowering l.setting).fragment) accs → k + length xs ≡ length (needed_in_order l.setting) → AllByRecursion (IsFaultlessAsk l.setting.schema reader.read r l.setting vs) (asks_by l n xs accs)
   all_faultless k n [] accs h o a v count = tt

@@ -2,6 +2,7 @@ pub mod AllAnswer
 pub mod Answering
 pub mod Arguments
 pub mod Asked
+pub mod AskedFaultless
 pub mod Asks
 pub mod Claimed
 pub mod Computed
@@ -10,8 +11,10 @@ pub mod FaultlessAsks
 pub mod FaultlessCalls
 pub mod Fitting
 pub mod Keeping
+pub mod KeptFaultless
 pub mod Known
 pub mod May
+pub mod NoReturns
 pub mod Outer
 pub mod SpelledElements
 pub mod TypedAnswers

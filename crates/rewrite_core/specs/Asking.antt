@@ -1,7 +1,7 @@
 -- What is asked of a loop whose asks have what its fragment ends with.
-use Rattle.std.specs.Prelude.{◌≡◌, ℕ, ◌<◌, true, List, [], length}
+use Rattle.std.specs.Prelude.{◌≡◌, ℕ, ◌<◌, true, false, List, [], ◌∷◌, length, bytes_eq, codes}
 use Rattle.std.specs.declared.option.Option.{Option}
-use Rattle.std.specs.declared.option.Option.TheVariants.{Some}
+use Rattle.std.specs.declared.option.Option.TheVariants.{Some, None}
 use Rattle.qbs_base.specs.Values.{Schema}
 use Rattle.sql_ast.specs.Tree.{PlainQuery}
 use Rattle.sql_ast.specs.Valid.{IsQueryOf}
@@ -9,10 +9,10 @@ use Rattle.sql_emit.specs.Numbered.{Emission}
 use Rattle.vc_gen.specs.Soundness.{EndsAnywhere}
 use Rattle.java_ast.specs.Tree.{Spelled, PlainProgram}
 use Rattle.java_mean.specs.declared.types.JavaType.{JavaType}
-use Rattle.java_mean.specs.Places.{in_expression}
+use Rattle.java_mean.specs.Places.{Around, in_expression}
 use Rattle.java_mean.specs.declared.types.Kindred.TheVariants.{Only}
-use Rattle.java_mean.specs.Rules.{type_of}
-use Rattle.java_mean.specs.Types.{Types}
+use Rattle.java_mean.specs.Rules.{type_of, is_set_of_rows, copied_row, aliased, is_walked}
+use Rattle.java_mean.specs.Types.{Types, type_spelled}
 use Rattle.java_mean.specs.Typing.{Frame, HasType}
 use Rattle.java_mean.specs.Visible.{Visible, is_visible, type_at}
 use Rattle.java_mean.specs.WellTyped.{faults_in}
@@ -20,7 +20,8 @@ use Rattle.loop_text.specs.Statements.Names.{is_among}
 use Rattle.java_loops.specs.Kernel.Kernel.{lowering}
 use Rattle.java_loops.specs.Kernel.Setting.{Setting}
 use Rattle.java_loops.specs.Lowering.Lowered.{needed_in_order, names_read}
-use Rattle.java_loops.specs.Walks.Replacing.{Ask}
+use Rattle.java_loops.specs.Walks.Reads.{Set}
+use Rattle.java_loops.specs.Walks.Replacing.{Ask, is_asked}
 use Rattle.fragments.specs.Asked.{IsKernelLoop, HasQueriesOf}
 use Rattle.rewrite_core.specs.Asked.{emitted_for}
 
@@ -60,3 +61,26 @@ pub record IsFaultlessAsk (schema : Schema) (read : List ℕ → Option PlainQue
   pub visible : w.types k.name ≡ Some type
   pub kindred : type_of schema vs k.value ≡ Some (Only type)
   pub faultless : faults_in schema read result (in_expression vs k.value) ≡ []
+  pub copies_no_row : copied_row vs k.value ≡ []
+  pub aliases_nothing : (o : Option JavaType) (x : List ℕ) → aliased o x k.value ≡ []
+
+-- An ask may stand at a place: what it declares isn't visible there and has a name and a type that may be declared, of the type
+-- that it has at the loop; what it assigns is visible with that type, and isn't walked.
+abbrev pub MayStand : Schema → Around → Types → Types → Option Spelled → List ℕ → Type 0
+MayStand schema round at_loop g (Some ty) x =
+    (g x ≡ None) × (bytes_eq x (codes "db") ≡ false) × (is_set_of_rows ty ≡ false) × (type_spelled schema ty ≡ at_loop x)
+MayStand schema round at_loop g None x = (g x ≡ at_loop x) × (is_walked round x ≡ false)
+
+-- all of them may, and each is for a variable of its own
+abbrev pub AllMayStand : Schema → Around → Types → Types → List Ask → Type 0
+AllMayStand schema round at_loop g [] = Unit {0}
+AllMayStand schema round at_loop g (k ∷ ks) = MayStand schema round at_loop g k.ty k.name × (is_asked ks k.name ≡ false) × AllMayStand schema round at_loop g ks
+
+-- the types are alike on a set
+abbrev pub AlikeOn : Set → Types → Types → Type 0
+AlikeOn f g h = (x : List ℕ) → f x ≡ true → g x ≡ h x
+
+-- what is visible has types, and these
+pub record Sees (vs : Visible) (g : Types) : Type 0 where
+  pub same : (x : List ℕ) → type_at vs x ≡ g x
+  pub known : (x : List ℕ) → is_visible vs x ≡ true → (k : JavaType) × (type_at vs x ≡ Some k)

@@ -1,5 +1,5 @@
 //! Laws of asks, for the crates above. They do nothing.
-ghost use Rattle.std.specs.Prelude.{◌≡◌, ℕ, List};
+ghost use Rattle.std.specs.Prelude.{◌≡◌, ℕ, Bool, true, false, List, []};
 ghost use Rattle.std.specs.List.{AllByRecursion};
 ghost use Rattle.std.specs.declared.option.Option.{Option};
 ghost use Rattle.std.specs.declared.option.Option.TheVariants.{Some, None};
@@ -12,21 +12,30 @@ ghost use Rattle.vc_gen.specs.Conditions.{conditions};
 ghost use Rattle.vc_gen.specs.Soundness.{AllAccepted, EndsAnywhere};
 ghost use Rattle.sql_ast.specs.Tree.{PlainQuery};
 ghost use Rattle.sql_emit.specs.Given.{IsHeld, QueryIsCounted};
-ghost use Rattle.java_ast.specs.Tree.{Spelled, PlainMethod, PlainProgram};
+ghost use Rattle.java_ast.specs.Tree.{Spelled, Statement, Statements, Nothing, Then, PlainMethod, PlainProgram};
 ghost use Rattle.java_mean.specs.Asks.{frame_of};
+ghost use Rattle.java_mean.specs.Fits.{in_first};
 ghost use Rattle.java_mean.specs.Keeps.{Keeps};
 ghost use Rattle.java_mean.specs.Numbers.{NumbersFit};
+ghost use Rattle.java_mean.specs.Places.{Around, in_statement};
 ghost use Rattle.java_mean.specs.Queries.{Reader};
+ghost use Rattle.java_mean.specs.Refines.{followed_by};
+ghost use Rattle.java_mean.specs.Rules.{returns};
 ghost use Rattle.java_mean.specs.Types.{Types};
 ghost use Rattle.java_mean.specs.Visible.{Visible};
-ghost use Rattle.java_mean.specs.WellTyped.{IsWellTyped};
+ghost use Rattle.java_mean.specs.WellTyped.{IsWellTyped, faults_in};
+ghost use Rattle.loop_text.specs.Statements.Fragment.{are_simple};
+ghost use Rattle.loop_text.specs.Statements.Loops.{is_loop};
 ghost use Rattle.loop_text.specs.Statements.KeptStatements.{first_at};
 ghost use Rattle.java_loops.specs.Kernel.Kernel.{lowering};
 ghost use Rattle.java_loops.specs.Kernel.Setting.{Setting};
 ghost use Rattle.java_loops.specs.Meant.Asking.{AskForLoop};
+ghost use Rattle.java_loops.specs.Walks.Reads.{Set};
+ghost use Rattle.java_loops.specs.Walks.Replacing.{asked};
+ghost use Rattle.java_loops.specs.Walks.Runs.{kept, KeptRead};
 ghost use Rattle.fragments.specs.Asked.{queries_in, IsKernelLoop, HasQueriesOf};
 ghost use Rattle.rewrite_core.specs.Asked.{Place, asks_of, replaced};
-ghost use Rattle.rewrite_core.specs.Asking.{QueriesAreValid, MayBeAsked, AgreeOnEntries, IsTypedAsk, SeesEntries, IsFaultlessAsk};
+ghost use Rattle.rewrite_core.specs.Asking.{QueriesAreValid, MayBeAsked, AgreeOnEntries, IsTypedAsk, SeesEntries, IsFaultlessAsk, Sees, AlikeOn, AllMayStand};
 
 /// The asks that stand for a loop of the kernel form ask for what the loop makes: each is for the variable of a needed
 /// accumulator, reads what the fragment's entry values read, and has what the fragment ends with, wherever the loop stands in a
@@ -86,6 +95,41 @@ pub fn asks_break_no_rule()
         → MayBeAsked schema reader.read l.program l.path l.setting l.candidate
         → SeesEntries l.setting vs
         → AllByRecursion (IsFaultlessAsk schema reader.read result l.setting vs) (asks_of l) }
+{}
+
+/// The statements that ask break no rule at a place where they may stand: what the fragment's entry values read is visible there,
+/// what they declare isn't, and what they assign is.
+pub fn asking_statements_break_no_rule()
+    ensures { (schema : Schema) (reader : Reader schema) (l : Place) (result : Option Spelled) (round : Around) (vs : Visible) (g : Types)
+        → MayBeAsked schema reader.read l.program l.path l.setting l.candidate
+        → Sees vs g
+        → AgreeOnEntries l.setting g
+        → AllMayStand schema round l.setting.types g (asks_of l)
+        → faults_in schema reader.read result (in_first schema vs round false (asked (asks_of l))) ≡ [] }
+{}
+
+/// The statements of a run that are kept for a set of variables break no rule where the whole run breaks none, and where the
+/// variables of the set are of the same types. They read variables of the set alone.
+pub fn kept_statements_break_no_rule()
+    ensures { (schema : Schema) (read : List ℕ → Option PlainQuery) (result : Option Spelled) (round : Around) (r : Set) (run : Statements) (vs us : Visible)
+        (g h : Types)
+        → Sees vs g
+        → Sees us h
+        → AlikeOn r g h
+        → are_simple run ≡ true
+        → KeptRead r run
+        → faults_in schema read result (in_first schema vs round false run) ≡ []
+        → faults_in schema read result (in_first schema us round false (kept r run)) ≡ [] }
+{}
+
+/// A run and its loop, which breaks no rule where it stands, return nothing.
+pub fn runs_and_loops_return_nothing()
+    ensures { (schema : Schema) (read : List ℕ → Option PlainQuery) (result : Option Spelled) (run : Statements) (loop_statement : Statement) (vs : Visible)
+        (round : Around) (last : Bool)
+        → are_simple run ≡ true
+        → is_loop loop_statement ≡ true
+        → faults_in schema read result (in_statement schema vs round last loop_statement) ≡ []
+        → returns (followed_by run (Then loop_statement Nothing)) ≡ false }
 {}
 
 /// A program keeps what it does where a loop gives way to the asks that stand for it, if it stays well typed and its literals
