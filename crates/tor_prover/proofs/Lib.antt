@@ -9,3 +9,5 @@ pub mod Made
 pub mod Accepted
 pub mod Nested
 pub mod Derived
+pub mod ByHead
+pub mod Reducing

@@ -4,3 +4,5 @@ pub mod Ends
 pub mod Shape
 pub mod Seen
 pub mod Worked
+pub mod Heads
+pub mod Reduced

@@ -14,7 +14,7 @@ use tor_axioms::{Derivation, Facts, Vc, with_fact, with_facts};
 use tor_terms::{copy_term, same_term};
 
 /// How many splits may stand inside one another.
-const DEPTH: u32 = 10;
+pub const DEPTH: u32 = 10;
 
 /// What the normal forms of both sides show.
 fn judge(alloc: Global, vc: &Vc, facts: &Facts) -> Result<Judgement, NoMemory>

@@ -1,7 +1,8 @@
 // Normal forms of terms.
-ghost use Rattle.std.specs.Prelude.{◌≡◌, [], ◌∷◌, ◌++◌, IfOk, OnOk, option_map};
+ghost use Rattle.std.specs.Prelude.{◌≡◌, ◌≤◌, [], ◌∷◌, ◌++◌, IfOk, OnOk, option_map};
 ghost use Rattle.tor_terms.specs.Plain.{tree_of};
 ghost use Rattle.tor_axioms.specs.Rules.{at_head as at_head_of};
+ghost use Rattle.tor_prover.specs.Heads.{head_rules as head_rules_of};
 ghost use Rattle.tor_prover.specs.Normal as spec;
 ghost use Rattle.tor_prover.specs.Seen.{around_one, around_two, outcome_of, parts_of};
 
@@ -12,8 +13,6 @@ use qbs_base::{Items, NoMemory};
 use std::alloc::Global;
 use tor_axioms::{Facts, Step, Steps, apply};
 use tor_terms::{Atoms, Term};
-
-const LAST_RULE: u32 = 44;
 
 /// What a rule gives at the head.
 fn at_head(
@@ -28,8 +27,32 @@ fn at_head(
     apply(alloc, rule, &Items::new(alloc), t, atoms, facts)
 }
 
+// The rules that may match at the head: the first one's number, and one more than the last one's.
+fn head_rules(t: &Term) -> (u32, u32)
+    ensures rules { result ≡ head_rules_of (tree_of t.now) }
+    ensures first { 1 ≤ result.0 }
+    ensures some { result.0 ≤ result.1 }
+    ensures last { result.1 ≤ 45 }
+{
+    match t {
+        Term::Top(_, _) => (1, 4),
+        Term::Cat(_, _) => (4, 7),
+        Term::Join(_, _) => (7, 13),
+        Term::Sel(_, _) => (13, 20),
+        Term::Proj(_, _) => (20, 23),
+        Term::Uniq(_) => (23, 25),
+        Term::Count(_) => (25, 28),
+        Term::Sum(_) => (28, 31),
+        Term::Best(_, _, _) => (31, 34),
+        Term::Any(_) => (34, 37),
+        Term::Add(_, _) => (37, 40),
+        Term::Or(_, _) => (40, 45),
+        _ => (1, 1),
+    }
+}
+
 /// The first rule that matches at the head, and what it gives.
-fn first_rule(
+pub fn first_rule(
     alloc: Global,
     atoms: &Atoms,
     facts: &Facts,
@@ -37,7 +60,8 @@ fn first_rule(
 ) -> Result<Option<(u32, Term)>, NoMemory>
     ensures { IfOk result (λ o. option_map (λ p. (p.0, tree_of p.1)) o ≡ spec.first_rule atoms.now facts.now (tree_of t.now)) }
 {
-    for rule in 1..LAST_RULE + 1 {
+    let (first, past) = head_rules(t);
+    for rule in first..past {
         if let Some(u) = at_head(alloc, rule, t, atoms, facts)? {
             return Ok(Some((rule, u)));
         }

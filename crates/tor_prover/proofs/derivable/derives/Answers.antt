@@ -1,0 +1,16 @@
+use Rattle.std.proofs.Common.{◌≡◌, [], Some, None, IfOk, ap, sym, ◌∙◌, subst}
+use Rattle.tor_axioms.specs.Accepts.{claim_over}
+use Rattle.tor_axioms.specs.Decide.{with_facts}
+use Rattle.tor_prover.proofs.Reducing.{some-derivation}
+use Rattle.tor_prover.proofs.derivable.derives.Goals as goal
+
+pub returns-in-None : goal.returns-in-None
+returns-in-None c =
+    record {
+      exact = some-derivation (claim_over c.args.atoms.now c.args.condition.now) None (sym c.in-None.is ∙ c.in_ok-with_facts.ensures ∙ ap (with_facts c.args.atoms.now []) c.as_slice.ensures);
+    }
+
+pub returns-in-Some : goal.returns-in-Some
+returns-in-Some c =
+    let q = some-derivation (claim_over c.args.atoms.now c.args.condition.now) (Some c.in-Some.facts) (sym c.in-Some.is ∙ c.in_ok-with_facts.ensures ∙ ap (with_facts c.args.atoms.now []) c.as_slice.ensures) in
+    record { exact = subst (λ x. IfOk c.derives_within.result (λ b. b ≡ x)) q c.derives_within.ensures }
