@@ -1,13 +1,5 @@
-pub mod CappedPools
-pub mod Gathered
-pub mod Judged
 pub mod Known
-pub mod KnownQueries
-pub mod Locations
-pub mod LoweredBeside
-pub mod LoweredCounts
-pub mod LoweredLists
-pub mod Placed
-pub mod SettingThere
-pub mod Tallies
-pub mod Updated
+pub mod Located
+pub mod Lowerings
+pub mod Ruled
+pub mod Staying

@@ -1,14 +1,4 @@
 pub mod Asked
 pub mod AskedWorked
-pub mod Capped
-pub mod Contexts
-pub mod Counted
-pub mod Listed
-pub mod Locating
-pub mod LoweredInCode
+pub mod Helping
 pub mod Lowers
-pub mod Numbered
-pub mod Reading
-pub mod Tallied
-pub mod Verdicts
-pub mod Wanted

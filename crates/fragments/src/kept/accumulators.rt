@@ -4,10 +4,10 @@ ghost use Rattle.std.specs.List.{filter};
 ghost use Rattle.std.specs.Option.{option_map};
 ghost use Rattle.java_ast.specs.Reading.{statement, statements};
 ghost use Rattle.loop_text.specs.Statements.Fragment as fragment;
-ghost use Rattle.fragments.specs.Listed.{IsListed};
+ghost use Rattle.fragments.specs.Helping.Listed.{IsListed};
 ghost use Rattle.loop_text.specs.Statements.Names as specs;
 ghost use Rattle.loop_text.specs.Statements.Updated.{outer_with};
-ghost use Rattle.fragments.specs.Reading.{fragment_in_code};
+ghost use Rattle.fragments.specs.Helping.Reading.{fragment_in_code};
 ghost use Rattle.java_loops.specs.Lowering.Seen.{names_seen};
 ghost use Rattle.loop_text.specs.Statements.Seen.{names_lent};
 
@@ -45,7 +45,7 @@ pub fn is_outer(f: &Fragment, x: &Name) -> bool
     is_declared(f, x) && !is_name(counter(f.looped), x)
 }
 
-#[tactic(auto, using(crate::proofs::Updated::updated))]
+#[tactic(auto, using(crate::proofs::Staying::Updated::updated))]
 fn put_outer<'a>(f: &Fragment, x: &'a Name, list: &mut NameList<'a>) -> Result<(), NoMemory>
     requires { IsListed list.old }
     ensures names { OnOk result (names_lent list.new.names ≡ outer_with (fragment_in_code f.now) (names_lent list.old.names) (x.now ∷ [])) }
@@ -57,7 +57,7 @@ fn put_outer<'a>(f: &Fragment, x: &'a Name, list: &mut NameList<'a>) -> Result<(
 // Puts behind the names those that a statement assigns or adds to, and that are declared outside of
 // the loop and aren't its counter.
 #[cycle(updates)]
-#[tactic(auto, using(crate::proofs::Updated::updated, java_ast::proofs::Nodes::nodes))]
+#[tactic(auto, using(crate::proofs::Staying::Updated::updated, java_ast::proofs::Nodes::nodes))]
 fn put_updated<'a>(f: &Fragment, s: &'a Stmt, list: &mut NameList<'a>) -> Result<(), NoMemory>
     requires { IsListed list.old }
     ensures names { OnOk result (names_lent list.new.names ≡ outer_with (fragment_in_code f.now) (names_lent list.old.names) (specs.updated_in (statement s.now))) }
@@ -94,7 +94,7 @@ fn put_updated<'a>(f: &Fragment, s: &'a Stmt, list: &mut NameList<'a>) -> Result
 
 // The same of the statements of a block.
 #[cycle(updates)]
-#[tactic(auto, using(crate::proofs::Updated::updated))]
+#[tactic(auto, using(crate::proofs::Staying::Updated::updated))]
 fn put_all_updated<'a>(
     f: &Fragment,
     block: &'a [Stmt],

@@ -3,13 +3,13 @@ ghost use Rattle.std.specs.Prelude.{◌≡◌, ◌<◌, [], ℕ, List, Some, IfO
 ghost use Rattle.java_ast.specs.Reading.{statement, statements};
 ghost use Rattle.loop_text.specs.Statements.Fragment as fragment;
 ghost use Rattle.loop_text.specs.Statements.KeptStatements.{AreKept};
-ghost use Rattle.fragments.specs.Listed.{IsListed};
+ghost use Rattle.fragments.specs.Helping.Listed.{IsListed};
 ghost use Rattle.java_loops.specs.Lowering.Lowered.{names_read};
 ghost use Rattle.loop_text.specs.Statements.Names.{Names, with_names};
 ghost use Rattle.loop_text.specs.Sites.Reading.{exprs_lent};
-ghost use Rattle.fragments.specs.Reading.{fragment_in_code};
+ghost use Rattle.fragments.specs.Helping.Reading.{fragment_in_code};
 ghost use Rattle.loop_text.specs.Statements.Seen.{names_lent};
-ghost use Rattle.fragments.specs.Wanted as specs;
+ghost use Rattle.fragments.specs.Helping.Wanted as specs;
 
 use crate::kept::accumulators::{accumulators_listed, counter};
 use crate::kept::mentioned::{put_all_mentioned, put_mentioned, put_names};
@@ -118,7 +118,7 @@ fn put_all_following<'a>(
 }
 
 // Puts the names in these expressions behind those of a list.
-#[tactic(auto, using(crate::proofs::Gathered::gathered))]
+#[tactic(auto, using(crate::proofs::Staying::Gathered::gathered))]
 fn put_names_read<'a>(entries: &[&'a Expr], list: &mut NameList<'a>) -> Result<(), NoMemory>
     requires { IsListed list.old }
     ensures names { OnOk result (names_lent list.new.names ≡ with_names (names_lent list.old.names) (names_read (exprs_lent entries.now))) }
@@ -156,7 +156,7 @@ fn put_where_visible<'a>(
 }
 
 // The same of all statements of the run.
-#[tactic(auto, using(crate::proofs::Gathered::gathered))]
+#[tactic(auto, using(crate::proofs::Staying::Gathered::gathered))]
 fn put_all_visible<'a>(
     f: &Fragment<'a>,
     accumulators: &NameList,

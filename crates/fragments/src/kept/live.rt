@@ -1,7 +1,7 @@
 // Live variables.
 ghost use Rattle.std.specs.Prelude.{◌≡◌};
 ghost use Rattle.loop_text.specs.Statements.Fragment as fragment;
-ghost use Rattle.fragments.specs.Reading.{fragment_in_code};
+ghost use Rattle.fragments.specs.Helping.Reading.{fragment_in_code};
 
 use crate::places::setting::Fragment;
 use loop_text::statements::names::block_mentions;

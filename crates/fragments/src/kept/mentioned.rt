@@ -1,7 +1,7 @@
 // The names that a program mentions, put into a list.
 ghost use Rattle.std.specs.Prelude.{◌≡◌, ◌∷◌, OnOk};
 ghost use Rattle.java_ast.specs.Reading.{expression, expressions, statement, statements};
-ghost use Rattle.fragments.specs.Listed.{IsListed};
+ghost use Rattle.fragments.specs.Helping.Listed.{IsListed};
 ghost use Rattle.loop_text.specs.Statements.Names as specs;
 ghost use Rattle.loop_text.specs.Statements.Seen.{names_lent};
 
@@ -11,7 +11,7 @@ use qbs_base::{Name, NoMemory};
 
 /// Puts the names in an expression behind those of a list.
 #[cycle(names)]
-#[tactic(auto, using(crate::proofs::Gathered::gathered, java_ast::proofs::Nodes::nodes))]
+#[tactic(auto, using(crate::proofs::Staying::Gathered::gathered, java_ast::proofs::Nodes::nodes))]
 pub fn put_names<'a>(e: &'a Expr, list: &mut NameList<'a>) -> Result<(), NoMemory>
     requires { IsListed list.old }
     ensures names { OnOk result (names_lent list.new.names ≡ specs.with_names (names_lent list.old.names) (specs.names_in (expression e.now))) }
@@ -51,7 +51,7 @@ pub fn put_names<'a>(e: &'a Expr, list: &mut NameList<'a>) -> Result<(), NoMemor
 
 /// The same of the names in some expressions.
 #[cycle(names)]
-#[tactic(auto, using(crate::proofs::Gathered::gathered))]
+#[tactic(auto, using(crate::proofs::Staying::Gathered::gathered))]
 pub fn put_all_names<'a>(es: &'a [Expr], list: &mut NameList<'a>) -> Result<(), NoMemory>
     requires { IsListed list.old }
     ensures names { OnOk result (names_lent list.new.names ≡ specs.with_names (names_lent list.old.names) (specs.names_among (expressions es.now))) }
@@ -65,7 +65,7 @@ pub fn put_all_names<'a>(es: &'a [Expr], list: &mut NameList<'a>) -> Result<(), 
 
 /// Puts the names that a statement mentions, other than to declare them, behind those of a list.
 #[cycle(statements)]
-#[tactic(auto, using(crate::proofs::Gathered::gathered, java_ast::proofs::Nodes::nodes))]
+#[tactic(auto, using(crate::proofs::Staying::Gathered::gathered, java_ast::proofs::Nodes::nodes))]
 pub fn put_mentioned<'a>(s: &'a Stmt, list: &mut NameList<'a>) -> Result<(), NoMemory>
     requires { IsListed list.old }
     ensures names { OnOk result (names_lent list.new.names ≡ specs.with_names (names_lent list.old.names) (specs.mentioned_in (statement s.now))) }
@@ -118,7 +118,7 @@ fn put_name_and_names<'a>(x: &'a Name, e: &'a Expr, list: &mut NameList<'a>) -> 
 
 /// Puts what the statements of a block mention behind the names of a list.
 #[cycle(statements)]
-#[tactic(auto, using(crate::proofs::Gathered::gathered))]
+#[tactic(auto, using(crate::proofs::Staying::Gathered::gathered))]
 pub fn put_all_mentioned<'a>(block: &'a [Stmt], list: &mut NameList<'a>) -> Result<(), NoMemory>
     requires { IsListed list.old }
     ensures names { OnOk result (names_lent list.new.names ≡ specs.with_names (names_lent list.old.names) (specs.mentioned_among (statements block.now))) }

@@ -1,6 +1,6 @@
 // Names, each once.
 ghost use Rattle.std.specs.Prelude.{◌≡◌, [], OnOk};
-ghost use Rattle.fragments.specs.Listed.{IsListed};
+ghost use Rattle.fragments.specs.Helping.Listed.{IsListed};
 ghost use Rattle.loop_text.specs.Statements.Names.{with_name};
 ghost use Rattle.loop_text.specs.Statements.Seen.{names_lent};
 

@@ -3,10 +3,10 @@ ghost use Rattle.std.specs.Prelude.{◌≡◌, ◌++◌, [], ℕ, List, OnOk, If
 ghost use Rattle.std.specs.Str.{bytes_eq};
 ghost use Rattle.java_ast.specs.Reading.{statement, statements};
 ghost use Rattle.loop_text.specs.Statements.Fragment as fragment;
-ghost use Rattle.fragments.specs.Listed.{IsListed};
+ghost use Rattle.fragments.specs.Helping.Listed.{IsListed};
 ghost use Rattle.loop_text.specs.Statements.Names.{with_names};
 ghost use Rattle.loop_text.specs.Statements.Seen.{names_lent};
-ghost use Rattle.fragments.specs.Wanted.{under};
+ghost use Rattle.fragments.specs.Helping.Wanted.{under};
 ghost use Rattle.loop_text.specs.Statements.Wanted.{one_where, setting, mentioned_in_all};
 
 use crate::kept::mentioned::put_mentioned;
@@ -38,7 +38,7 @@ pub fn set_by<'a>(s: &'a Stmt, none: &'a Name) -> &'a Name
 }
 
 // Puts what these statements mention behind the names of a list.
-#[tactic(auto, using(crate::proofs::Gathered::gathered))]
+#[tactic(auto, using(crate::proofs::Staying::Gathered::gathered))]
 fn put_mentioned_in_all<'a>(all: &[&'a Stmt], list: &mut NameList<'a>) -> Result<(), NoMemory>
     requires { IsListed list.old }
     ensures names { OnOk result (names_lent list.new.names ≡ with_names (names_lent list.old.names) (mentioned_in_all (map (λ s. statement s.now) all.now))) }
@@ -68,7 +68,7 @@ impl<'a> Setters<'a> {
     }
 
     /// Puts what the statements mention that set a variable behind the names of a list.
-    #[tactic(auto, using(crate::proofs::Gathered::gathered))]
+    #[tactic(auto, using(crate::proofs::Staying::Gathered::gathered))]
     pub fn put_mentioned_by(&self, x: &Name, list: &mut NameList<'a>) -> Result<(), NoMemory>
         requires { IsListed list.old }
         ensures names { OnOk result (names_lent list.new.names ≡ with_names (names_lent list.old.names) (mentioned_in_all (under self.now x.now))) }

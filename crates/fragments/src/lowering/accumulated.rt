@@ -4,15 +4,15 @@ ghost use Rattle.std.specs.Option.{option_map};
 ghost use Rattle.java_ast.specs.Reading.{expression, statement};
 ghost use Rattle.kernel_lang.specs.Plain.{accumulator};
 ghost use Rattle.tor_terms.specs.Plain.{forms_of};
-ghost use Rattle.fragments.specs.Contexts.{numbers_given, setting_given, IsNumbered};
+ghost use Rattle.fragments.specs.Helping.Contexts.{numbers_given, setting_given, IsNumbered};
 ghost use Rattle.loop_text.specs.Kernel.KernelForms as kernel;
 ghost use Rattle.loop_text.specs.Kernel.KernelStarts as starts;
 ghost use Rattle.java_loops.specs.Lowering.Lowered as specs;
-ghost use Rattle.fragments.specs.LoweredInCode.{update_in_code};
+ghost use Rattle.fragments.specs.Helping.LoweredInCode.{update_in_code};
 ghost use Rattle.java_loops.specs.Lowering.Numbering.{loop_number};
 ghost use Rattle.loop_text.specs.Sites.Reading.{column_in_code, form_in_code, round_of, site_of, taken_in_code};
 ghost use Rattle.loop_text.specs.Statements.Seen.{names_lent};
-ghost use Rattle.fragments.specs.Reading.{setting_in_code};
+ghost use Rattle.fragments.specs.Helping.Reading.{setting_in_code};
 ghost use Rattle.loop_text.specs.Sites.Sites as sites;
 
 use crate::lowering::context::Context;

@@ -9,15 +9,15 @@ ghost use Rattle.kernel_lang.specs.Parts.{parts_of};
 ghost use Rattle.kernel_lang.specs.Validity as validity;
 ghost use Rattle.kernel_lang.specs.Whole.{fragment_of};
 ghost use Rattle.fragments.specs.Asked.{HasQueriesOf};
-ghost use Rattle.fragments.specs.Counted.{numbers_in_code, HasFewLoops, AreNumbersOf};
+ghost use Rattle.fragments.specs.Helping.Counted.{numbers_in_code, HasFewLoops, AreNumbersOf};
 ghost use Rattle.loop_text.specs.Statements.Fragment as fragment;
 ghost use Rattle.loop_text.specs.Kernel.KernelConditions as conditions;
 ghost use Rattle.java_loops.specs.Lowering.Lowered as specs;
-ghost use Rattle.fragments.specs.LoweredInCode.{has_query, set_among};
+ghost use Rattle.fragments.specs.Helping.LoweredInCode.{has_query, set_among};
 ghost use Rattle.fragments.specs.Lowers.{lowering_in_code};
 ghost use Rattle.java_loops.specs.Lowering.Numbering as numbering;
 ghost use Rattle.loop_text.specs.Sites.Reading.{asked_in_code, exprs_lent};
-ghost use Rattle.fragments.specs.Reading.{fragment_in_code, setting_in_code};
+ghost use Rattle.fragments.specs.Helping.Reading.{fragment_in_code, setting_in_code};
 ghost use Rattle.loop_text.specs.Statements.Seen.{names_lent};
 ghost use Rattle.loop_text.specs.Sites.Sites as sites;
 
@@ -60,7 +60,7 @@ fn push_set<'a>(names: &[&'a Name], s: &Stmt, ordered: &mut Items<&'a Name>) -> 
 }
 
 // The names that a run sets, one for each statement that sets one of these.
-#[tactic(auto, using(crate::proofs::LoweredBeside::beside))]
+#[tactic(auto, using(crate::proofs::Lowerings::LoweredBeside::beside))]
 fn set_in_order<'a>(
     alloc: Global,
     names: &[&'a Name],
@@ -96,7 +96,7 @@ fn push_name(x: &Name, names: &mut Names) -> Result<(), NoMemory>
 }
 
 /// Copies of names.
-#[tactic(auto, using(crate::proofs::LoweredBeside::beside))]
+#[tactic(auto, using(crate::proofs::Lowerings::LoweredBeside::beside))]
 pub fn copy_names(alloc: Global, names: &[&Name]) -> Result<Names, NoMemory>
     ensures { IfOk result (λ copies. copies ≡ names_lent names.now) }
 {
@@ -116,7 +116,7 @@ fn push_declared(s: &Stmt, names: &mut Names) -> Result<(), NoMemory>
     }
 }
 
-#[tactic(auto, using(crate::proofs::LoweredBeside::beside))]
+#[tactic(auto, using(crate::proofs::Lowerings::LoweredBeside::beside))]
 fn push_flag_names(w: &Setting, names: &mut Names) -> Result<(), NoMemory>
     ensures { OnOk result (names.new ≡ names.old ++ specs.names_of_flags (setting_in_code w.now).sites) }
 {
@@ -135,7 +135,7 @@ fn names_of(alloc: Global, w: &Setting, names: &[&Name]) -> Result<Names, NoMemo
     Ok(all)
 }
 
-#[tactic(auto, using(crate::proofs::LoweredBeside::beside))]
+#[tactic(auto, using(crate::proofs::Lowerings::LoweredBeside::beside))]
 fn copy_entries(alloc: Global, entries: &[&Expr]) -> Result<Exprs, NoMemory>
     ensures { IfOk result (λ copies. map expression copies ≡ exprs_lent entries.now) }
 {
@@ -173,7 +173,7 @@ fn query_asked(alloc: Global, w: &Setting, x: &Name) -> Result<Query, NoMemory>
     }
 }
 
-#[tactic(auto, using(crate::proofs::LoweredBeside::beside, crate::proofs::Known::KnownHeld::valid_added))]
+#[tactic(auto, using(crate::proofs::Lowerings::LoweredBeside::beside, crate::proofs::Known::KnownHeld::valid_added))]
 fn queries_asked(alloc: Global, w: &Setting, known: &[&Name]) -> Result<Queries, NoMemory>
     requires { list_all (has_query (setting_in_code w.now)) (names_lent known.now) ≡ true }
     ensures valid { IfOk result (AllByRecursion (λ q. IsQueryOf (setting_in_code w.now).schema (query q))) }
@@ -188,7 +188,7 @@ fn queries_asked(alloc: Global, w: &Setting, known: &[&Name]) -> Result<Queries,
     Ok(queries)
 }
 
-#[tactic(auto, using(crate::proofs::LoweredBeside::beside))]
+#[tactic(auto, using(crate::proofs::Lowerings::LoweredBeside::beside))]
 fn numbers_of_arguments(
     alloc: Global,
     entries: &[&Expr],
@@ -219,7 +219,7 @@ fn numbers_asked(
 }
 
 // The entry numbers of the arguments of each known query.
-#[tactic(auto, using(crate::proofs::LoweredBeside::beside))]
+#[tactic(auto, using(crate::proofs::Lowerings::LoweredBeside::beside))]
 fn arguments_of(
     alloc: Global,
     w: &Setting,

@@ -4,7 +4,7 @@ ghost use Rattle.std.specs.Option.{option_map};
 ghost use Rattle.java_ast.specs.Reading.{expression};
 ghost use Rattle.kernel_lang.specs.Plain.{guard_of};
 ghost use Rattle.tor_terms.specs.Plain.{form_of, forms_of};
-ghost use Rattle.fragments.specs.Contexts.{numbers_given, setting_given, IsNumbered};
+ghost use Rattle.fragments.specs.Helping.Contexts.{numbers_given, setting_given, IsNumbered};
 ghost use Rattle.java_loops.specs.Lowering.Lowered as specs;
 ghost use Rattle.java_loops.specs.Lowering.Numbering as numbering;
 ghost use Rattle.loop_text.specs.Sites.Reading.{round_of};

@@ -3,12 +3,12 @@ ghost use Rattle.std.specs.Prelude.{◌≡◌, IfOk, length, map, slice_get};
 ghost use Rattle.java_ast.specs.Reading.{expression};
 ghost use Rattle.qbs_base.specs.Columns.{columns_at as columns_in};
 ghost use Rattle.kernel_lang.specs.Parts.{parts_of};
-ghost use Rattle.fragments.specs.Counted.{numbers_in_code, HasFewLoops, AreNumbersOf};
+ghost use Rattle.fragments.specs.Helping.Counted.{numbers_in_code, HasFewLoops, AreNumbersOf};
 ghost use Rattle.loop_text.specs.Statements.Fragment.{needed_of};
 ghost use Rattle.java_loops.specs.Lowering.Lowered as specs;
 ghost use Rattle.loop_text.specs.Sites.Reading.{exprs_lent};
 ghost use Rattle.loop_text.specs.Statements.Seen.{names_lent};
-ghost use Rattle.fragments.specs.Reading.{setting_in_code};
+ghost use Rattle.fragments.specs.Helping.Reading.{setting_in_code};
 
 use crate::lowering::accumulated::accumulators_of;
 use crate::lowering::context::Context;

@@ -5,7 +5,7 @@ ghost use Rattle.java_ast.specs.Reading.{statement};
 ghost use Rattle.qbs_base.specs.Columns.{column_number, columns_at};
 ghost use Rattle.java_loops.specs.Lowering.Lowered as specs;
 ghost use Rattle.java_loops.specs.Lowering.Numbering.{found_number};
-ghost use Rattle.fragments.specs.Reading.{setting_in_code};
+ghost use Rattle.fragments.specs.Helping.Reading.{setting_in_code};
 ghost use Rattle.loop_text.specs.Sites.Reading.{site_of, source_in_code};
 
 use crate::numbering::numbers::table_of_loop;
@@ -76,7 +76,7 @@ fn list_of(alloc: Global, w: &Setting, s: &Stmt) -> Result<ListDef, NoMemory>
 }
 
 /// The lists of all loops, in text order.
-#[tactic(auto, using(crate::proofs::LoweredLists::lowered_lists))]
+#[tactic(auto, using(crate::proofs::Lowerings::LoweredLists::lowered_lists))]
 pub fn lists_of(alloc: Global, w: &Setting) -> Result<ListDefs, NoMemory>
     ensures { IfOk result (λ ds. ds ≡ specs.lists_of (setting_in_code w.now) (map site_of w.now.sites.now)) }
 {

@@ -5,12 +5,12 @@ ghost use Rattle.std.specs.Option.{option_map};
 ghost use Rattle.java_ast.specs.Reading.{expression, statement};
 ghost use Rattle.qbs_base.specs.Scalar as scalars;
 ghost use Rattle.tor_terms.specs.Same as same;
-ghost use Rattle.fragments.specs.Numbered.{leaf_in_code, reading_in_code};
+ghost use Rattle.fragments.specs.Helping.Numbered.{leaf_in_code, reading_in_code};
 ghost use Rattle.java_loops.specs.Lowering.Numbering as specs;
 ghost use Rattle.loop_text.specs.Sites.Reading.{exprs_lent};
 ghost use Rattle.loop_text.specs.Statements.Seen.{names_lent};
-ghost use Rattle.fragments.specs.Reading.{setting_in_code};
-ghost use Rattle.fragments.specs.Tallied.{AreCountsOf};
+ghost use Rattle.fragments.specs.Helping.Reading.{setting_in_code};
+ghost use Rattle.fragments.specs.Helping.Tallied.{AreCountsOf};
 ghost use Rattle.java_loops.specs.Lowering.UpTo.{AreFew, IsUpTo};
 
 use crate::numbering::counts::{Counts, flag_number, loop_number};

@@ -1,10 +1,10 @@
 // What the numbers of loops and flags are counted by.
 ghost use Rattle.std.specs.Prelude.{◌≡◌, IfOk, length};
-ghost use Rattle.fragments.specs.Counted.{HasFewLoops};
+ghost use Rattle.fragments.specs.Helping.Counted.{HasFewLoops};
 ghost use Rattle.loop_text.specs.Statements.Fragment.{needed_of};
 ghost use Rattle.java_loops.specs.Lowering.Numbering as specs;
-ghost use Rattle.fragments.specs.Reading.{setting_in_code};
-ghost use Rattle.fragments.specs.Tallied.{AreCountsOf};
+ghost use Rattle.fragments.specs.Helping.Reading.{setting_in_code};
+ghost use Rattle.fragments.specs.Helping.Tallied.{AreCountsOf};
 
 use crate::numbering::tally::{Tally, flags_before, loops_before};
 use crate::places::setting::Setting;

@@ -4,10 +4,10 @@ ghost use Rattle.std.specs.Option.{option_map};
 ghost use Rattle.java_ast.specs.Reading.{expression};
 ghost use Rattle.tor_terms.specs.Plain.{form_of};
 ghost use Rattle.tor_terms.specs.Same as same;
-ghost use Rattle.fragments.specs.Counted.{numbers_in_code, AreNumbersOf};
+ghost use Rattle.fragments.specs.Helping.Counted.{numbers_in_code, AreNumbersOf};
 ghost use Rattle.java_loops.specs.Lowering.Numbering as specs;
-ghost use Rattle.fragments.specs.Reading.{setting_in_code};
-ghost use Rattle.fragments.specs.Tallied.{AreCountsOf};
+ghost use Rattle.fragments.specs.Helping.Reading.{setting_in_code};
+ghost use Rattle.fragments.specs.Helping.Tallied.{AreCountsOf};
 
 use crate::numbering::atoms::{atom_number, reading_of};
 use crate::numbering::counts::Counts;

@@ -2,10 +2,10 @@
 ghost use Rattle.std.specs.Prelude.{◌≡◌, ◌++◌, OnOk, IfOk, map, option_copied};
 ghost use Rattle.std.specs.Option.{option_map};
 ghost use Rattle.java_ast.specs.Reading.{expression};
-ghost use Rattle.fragments.specs.Numbered.{leaf_in_code};
+ghost use Rattle.fragments.specs.Helping.Numbered.{leaf_in_code};
 ghost use Rattle.java_loops.specs.Lowering.Numbering as specs;
 ghost use Rattle.loop_text.specs.Sites.Reading.{exprs_lent};
-ghost use Rattle.fragments.specs.Reading.{setting_in_code};
+ghost use Rattle.fragments.specs.Helping.Reading.{setting_in_code};
 
 use crate::places::setting::Setting;
 use java_ast::Expr;

@@ -5,12 +5,12 @@ ghost use Rattle.std.specs.Option.{option_map};
 ghost use Rattle.std.specs.Str.{bytes_eq};
 ghost use Rattle.java_ast.specs.Reading.{expression, expressions, statements};
 ghost use Rattle.loop_text.specs.Kernel.KernelConditions.{asked_for};
-ghost use Rattle.fragments.specs.Listed.{IsListed};
-ghost use Rattle.fragments.specs.Numbered.{leaf_in_code};
+ghost use Rattle.fragments.specs.Helping.Listed.{IsListed};
+ghost use Rattle.fragments.specs.Helping.Numbered.{leaf_in_code};
 ghost use Rattle.java_loops.specs.Lowering.Numbering as specs;
 ghost use Rattle.loop_text.specs.Sites.Reading.{exprs_lent};
 ghost use Rattle.loop_text.specs.Statements.Seen.{names_lent};
-ghost use Rattle.fragments.specs.Reading.{setting_in_code};
+ghost use Rattle.fragments.specs.Helping.Reading.{setting_in_code};
 ghost use Rattle.java_loops.specs.Lowering.UpTo.{AreFew, IsUpTo};
 
 use crate::kept::name_list::NameList;

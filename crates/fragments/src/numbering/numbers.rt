@@ -2,13 +2,13 @@
 ghost use Rattle.std.specs.Prelude.{◌≡◌, ◌≤◌, IfOk, [], length, map, slice_get};
 ghost use Rattle.java_ast.specs.Reading.{spelled, statement, statements};
 ghost use Rattle.java_ast.specs.Tree.{Then, Statements};
-ghost use Rattle.fragments.specs.Counted.{HasFewLoops, AreNumbersOf, AreFewNumbersOf};
+ghost use Rattle.fragments.specs.Helping.Counted.{HasFewLoops, AreNumbersOf, AreFewNumbersOf};
 ghost use Rattle.loop_text.specs.Statements.Fragment.{needed_of};
-ghost use Rattle.fragments.specs.Numbered.{leaf_in_code};
+ghost use Rattle.fragments.specs.Helping.Numbered.{leaf_in_code};
 ghost use Rattle.java_loops.specs.Lowering.Numbering as specs;
 ghost use Rattle.loop_text.specs.Sites.Reading.{column_in_code, exprs_lent};
 ghost use Rattle.loop_text.specs.Statements.Seen.{names_lent};
-ghost use Rattle.fragments.specs.Reading.{setting_in_code};
+ghost use Rattle.fragments.specs.Helping.Reading.{setting_in_code};
 ghost use Rattle.java_loops.specs.Lowering.UpTo.{AreFew};
 
 use crate::numbering::atoms::atoms_among;

@@ -1,7 +1,7 @@
 // How many sites before each one are loops, and how many declare flags.
 ghost use Rattle.std.specs.Prelude.{◌≡◌, IfOk, map};
-ghost use Rattle.fragments.specs.Reading.{setting_in_code};
-ghost use Rattle.fragments.specs.Tallied.{IsTally, is_flag_site, is_loop_site, tally_at};
+ghost use Rattle.fragments.specs.Helping.Reading.{setting_in_code};
+ghost use Rattle.fragments.specs.Helping.Tallied.{IsTally, is_flag_site, is_loop_site, tally_at};
 
 use crate::places::setting::Setting;
 use loop_text::loops::limits::is_loop;

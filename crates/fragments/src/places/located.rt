@@ -3,9 +3,9 @@ ghost use Rattle.std.specs.Prelude.{◌≡◌, [], IfOk, option_copied};
 ghost use Rattle.java_ast.specs.Reading.{statements, method as plain_method, program as plain_program};
 ghost use Rattle.loop_text.specs.Statements.Fragment as fragment;
 ghost use Rattle.loop_text.specs.Statements.Fragment.{needed_at};
-ghost use Rattle.fragments.specs.Locating.{fragment_located, IsFoundAt, IsFoundIn};
+ghost use Rattle.fragments.specs.Helping.Locating.{fragment_located, IsFoundAt, IsFoundIn};
 ghost use Rattle.java_loops.specs.Lowering.Placing.{scope_of_params};
-ghost use Rattle.fragments.specs.Reading.{fragment_in_code};
+ghost use Rattle.fragments.specs.Helping.Reading.{fragment_in_code};
 
 use crate::kept::accumulators::accumulators;
 use crate::lowering::beside::copy_names;

@@ -1,12 +1,12 @@
 // The rule of the kernel form that a loop breaks first.
 ghost use Rattle.std.specs.Prelude.{◌≡◌, IfOk, IfErr, None};
 ghost use Rattle.std.specs.Option.{option_map};
-ghost use Rattle.fragments.specs.Counted.{numbers_in_code};
+ghost use Rattle.fragments.specs.Helping.Counted.{numbers_in_code};
 ghost use Rattle.loop_text.specs.Statements.Fragment as fragment;
 ghost use Rattle.fragments.specs.Lowers.{broken_in_code};
-ghost use Rattle.fragments.specs.Reading.{fragment_in_code, setting_in_code};
+ghost use Rattle.fragments.specs.Helping.Reading.{fragment_in_code, setting_in_code};
 ghost use Rattle.loop_text.specs.Statements.Seen.{names_lent};
-ghost use Rattle.fragments.specs.Verdicts.{first_rules, middle_rules, BreaksNone, BreaksFirst};
+ghost use Rattle.fragments.specs.Helping.Verdicts.{first_rules, middle_rules, BreaksNone, BreaksFirst};
 
 use crate::lowering::lowered::Outside;
 use crate::numbering::numbers::Numbers;

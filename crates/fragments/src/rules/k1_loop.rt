@@ -4,7 +4,7 @@ ghost use Rattle.std.specs.Option.{option_map};
 ghost use Rattle.java_ast.specs.Reading.{statement, statements};
 ghost use Rattle.java_loops.specs.Kernel.KernelLoop as specs;
 ghost use Rattle.loop_text.specs.Sites.Reading.{counting_in_code};
-ghost use Rattle.fragments.specs.Reading.{fragment_in_code, setting_in_code};
+ghost use Rattle.fragments.specs.Helping.Reading.{fragment_in_code, setting_in_code};
 
 use crate::kept::live::is_live;
 use crate::places::setting::Setting;

@@ -3,7 +3,7 @@ ghost use Rattle.std.specs.Prelude.{◌≡◌, ◌&&◌, map};
 ghost use Rattle.java_ast.specs.Reading.{statement};
 ghost use Rattle.java_loops.specs.Kernel.KernelLists as specs;
 ghost use Rattle.loop_text.specs.Sites.Reading.{site_of};
-ghost use Rattle.fragments.specs.Reading.{setting_in_code};
+ghost use Rattle.fragments.specs.Helping.Reading.{setting_in_code};
 ghost use Rattle.loop_text.specs.Sites.Sites as sites;
 
 use crate::places::setting::Setting;

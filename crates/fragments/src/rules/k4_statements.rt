@@ -1,7 +1,7 @@
 // Which statements a loop of the kernel form may hold.
 ghost use Rattle.std.specs.Prelude.{◌≡◌};
 ghost use Rattle.java_loops.specs.Kernel.KernelStatements as specs;
-ghost use Rattle.fragments.specs.Reading.{setting_in_code};
+ghost use Rattle.fragments.specs.Helping.Reading.{setting_in_code};
 
 use crate::places::setting::Setting;
 use loop_text::updates::shapes::broken_statement;

@@ -3,8 +3,8 @@ ghost use Rattle.std.specs.Prelude.{◌≡◌, ◌<◌, IfOk};
 ghost use Rattle.std.specs.List.{filter};
 ghost use Rattle.loop_text.specs.Statements.Fragment as fragment;
 ghost use Rattle.java_loops.specs.Kernel.KernelStatements as specs;
-ghost use Rattle.fragments.specs.Listed.{IsListed};
-ghost use Rattle.fragments.specs.Reading.{fragment_in_code, setting_in_code};
+ghost use Rattle.fragments.specs.Helping.Listed.{IsListed};
+ghost use Rattle.fragments.specs.Helping.Reading.{fragment_in_code, setting_in_code};
 ghost use Rattle.loop_text.specs.Statements.Seen.{names_lent};
 
 use crate::kept::mentioned::put_all_mentioned;

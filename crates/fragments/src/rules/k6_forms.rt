@@ -3,7 +3,7 @@ ghost use Rattle.std.specs.Prelude.{◌≡◌, IfOk, option_copied, map, Some};
 ghost use Rattle.java_ast.specs.Reading.{statement};
 ghost use Rattle.java_loops.specs.Kernel.KernelForms as specs;
 ghost use Rattle.loop_text.specs.Sites.Reading.{form_in_code, site_of};
-ghost use Rattle.fragments.specs.Reading.{setting_in_code};
+ghost use Rattle.fragments.specs.Helping.Reading.{setting_in_code};
 
 use crate::places::setting::Setting;
 use java_mean::JavaType;

@@ -4,7 +4,7 @@ ghost use Rattle.std.specs.Option.{option_map};
 ghost use Rattle.java_ast.specs.Reading.{expression, statement, statements};
 ghost use Rattle.java_loops.specs.Kernel.KernelConditions as specs;
 ghost use Rattle.loop_text.specs.Sites.Reading.{asked_in_code, exprs_lent, site_of};
-ghost use Rattle.fragments.specs.Reading.{setting_in_code};
+ghost use Rattle.fragments.specs.Helping.Reading.{setting_in_code};
 
 use crate::places::setting::Setting;
 use crate::rules::k7_known::{asked_for, is_column_query};
@@ -21,7 +21,7 @@ use loop_text::updates::targets::first_place;
 use qbs_base::{Items, Name, NoMemory, Span};
 use std::alloc::Global;
 
-#[tactic(auto, using(crate::proofs::Placed::placed))]
+#[tactic(auto, using(crate::proofs::Located::Placed::placed))]
 fn broken_operand(w: &Setting, n: usize, e: &Expr) -> Option<Span>
     ensures { result ≡ specs.broken_operand (setting_in_code w.now) n (expression e.now) }
 {
@@ -75,7 +75,7 @@ fn is_known(alloc: Global, w: &Setting, n: usize, ids: &Name) -> Result<bool, No
 // ---- Leaves
 
 // The smallest expression in a leaf that breaks the rule.
-#[tactic(auto, using(crate::proofs::Placed::placed, java_ast::proofs::Nodes::nodes))]
+#[tactic(auto, using(crate::proofs::Located::Placed::placed, java_ast::proofs::Nodes::nodes))]
 fn broken_leaf(alloc: Global, w: &Setting, n: usize, e: &Expr) -> Result<Option<Span>, NoMemory>
     ensures { IfOk result (λ at. at ≡ specs.broken_leaf (setting_in_code w.now) n (expression e.now)) }
 {

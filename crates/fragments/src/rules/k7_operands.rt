@@ -2,7 +2,7 @@
 ghost use Rattle.std.specs.Prelude.{◌≡◌};
 ghost use Rattle.java_ast.specs.Reading.{expression, expressions};
 ghost use Rattle.java_loops.specs.Kernel.KernelConditions as specs;
-ghost use Rattle.fragments.specs.Reading.{setting_in_code};
+ghost use Rattle.fragments.specs.Helping.Reading.{setting_in_code};
 
 use crate::places::setting::Setting;
 use java_ast::{Expr, ExprNode};

@@ -5,7 +5,7 @@ ghost use Rattle.kernel_lang.specs.Plain.{accumulator};
 ghost use Rattle.kernel_lang.specs.Pools as specs;
 ghost use Rattle.tor_terms.specs.Plain.{form_of, forms_of};
 ghost use Rattle.tor_terms.specs.Same.{same_flag, same_form};
-ghost use Rattle.fragments.specs.Capped.{IsCapped, all_in, has_few};
+ghost use Rattle.fragments.specs.Helping.Capped.{IsCapped, all_in, has_few};
 
 use kernel_lang::{Acc, pool_of};
 use qbs_base::NoMemory;
@@ -49,7 +49,7 @@ fn is_there(pool: &[Formula], f: &Formula) -> bool
 }
 
 // Enters a formula that isn't there yet.
-#[tactic(auto, using(crate::proofs::CappedPools::capped))]
+#[tactic(auto, using(crate::proofs::Ruled::CappedPools::capped))]
 fn enter(alloc: Global, f: &Formula, pool: &mut Formulas) -> Result<(), NoMemory>
     ensures { OnOk result (forms_of pool.new ≡ specs.entered (forms_of pool.old) (form_of f.now)) }
 {
@@ -59,7 +59,7 @@ fn enter(alloc: Global, f: &Formula, pool: &mut Formulas) -> Result<(), NoMemory
     pool.push(copy_formula(alloc, f)?)
 }
 
-#[tactic(auto, using(crate::proofs::CappedPools::capped))]
+#[tactic(auto, using(crate::proofs::Ruled::CappedPools::capped))]
 fn enter_all(alloc: Global, forms: &[Formula], pool: &mut Formulas) -> Result<(), NoMemory>
     ensures { OnOk result (forms_of pool.new ≡ all_in (forms_of pool.old) (forms_of forms.now)) }
 {
@@ -70,7 +70,7 @@ fn enter_all(alloc: Global, forms: &[Formula], pool: &mut Formulas) -> Result<()
 }
 
 // A conjunct and its opposite, where they may enter the pool.
-#[tactic(auto, using(crate::proofs::CappedPools::capped))]
+#[tactic(auto, using(crate::proofs::Ruled::CappedPools::capped))]
 fn pair_of(alloc: Global, scope: Scope, f: &Formula) -> Result<Formulas, NoMemory>
     requires { specs.conjuncts (form_of f.now) ≡ form_of f.now ∷ [] }
     ensures { IfOk result (λ own.
@@ -83,7 +83,7 @@ fn pair_of(alloc: Global, scope: Scope, f: &Formula) -> Result<Formulas, NoMemor
 }
 
 // Enters a conjunct and its opposite, where they may enter and the pool is small.
-#[tactic(auto, using(crate::proofs::CappedPools::capped))]
+#[tactic(auto, using(crate::proofs::Ruled::CappedPools::capped))]
 fn enter_conjunct(
     alloc: Global,
     scope: Scope,
@@ -103,7 +103,7 @@ fn enter_conjunct(
     enter_all(alloc, own.as_slice(), pool)
 }
 
-#[tactic(auto, using(crate::proofs::CappedPools::capped))]
+#[tactic(auto, using(crate::proofs::Ruled::CappedPools::capped))]
 fn enter_conjuncts(
     alloc: Global,
     scope: Scope,
@@ -126,7 +126,7 @@ fn enter_conjuncts(
 }
 
 // The pool under these conditions, or more than 16 of its members.
-#[tactic(auto, using(crate::proofs::CappedPools::capped))]
+#[tactic(auto, using(crate::proofs::Ruled::CappedPools::capped))]
 fn capped_pool(alloc: Global, scope: Scope, conditions: &[Formula]) -> Result<Formulas, NoMemory>
     ensures { IfOk result (λ pool. IsCapped (forms_of pool) (specs.pool_of scope.entry.atoms.now (forms_of conditions.now) scope.entry.chain.now scope.entry.base)) }
 {
@@ -137,7 +137,7 @@ fn capped_pool(alloc: Global, scope: Scope, conditions: &[Formula]) -> Result<Fo
     Ok(pool)
 }
 
-#[tactic(auto, using(crate::proofs::CappedPools::capped))]
+#[tactic(auto, using(crate::proofs::Ruled::CappedPools::capped))]
 fn is_pool_small(
     alloc: Global,
     atoms: &[Atom],
@@ -156,7 +156,7 @@ fn is_pool_small(
 }
 
 /// Whether the pools of these accumulators have at most 16 members each, under these conditions of all `if`s.
-#[tactic(auto, using(crate::proofs::CappedPools::capped))]
+#[tactic(auto, using(crate::proofs::Ruled::CappedPools::capped))]
 pub fn pools_are_small(
     alloc: Global,
     atoms: &[Atom],

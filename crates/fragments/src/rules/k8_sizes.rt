@@ -4,14 +4,14 @@ ghost use Rattle.kernel_lang.specs.Paths as paths;
 ghost use Rattle.kernel_lang.specs.Plain.{accumulator, guard_of};
 ghost use Rattle.kernel_lang.specs.Validity as validity;
 ghost use Rattle.tor_terms.specs.Plain.{form_of};
-ghost use Rattle.fragments.specs.Counted.{numbers_in_code, HasFewLoops, AreNumbersOf};
+ghost use Rattle.fragments.specs.Helping.Counted.{numbers_in_code, HasFewLoops, AreNumbersOf};
 ghost use Rattle.loop_text.specs.Statements.Fragment as fragment;
 ghost use Rattle.java_loops.specs.Kernel.Kernel.{is_small};
 ghost use Rattle.loop_text.specs.Kernel.KernelLists as lists;
 ghost use Rattle.java_loops.specs.Lowering.Lowered.{fragment_with};
-ghost use Rattle.fragments.specs.LoweredInCode.{IsCounted};
+ghost use Rattle.fragments.specs.Helping.LoweredInCode.{IsCounted};
 ghost use Rattle.java_loops.specs.Lowering.Numbering as numbering;
-ghost use Rattle.fragments.specs.Reading.{fragment_in_code, setting_in_code};
+ghost use Rattle.fragments.specs.Helping.Reading.{fragment_in_code, setting_in_code};
 ghost use Rattle.loop_text.specs.Statements.Seen.{names_lent};
 ghost use Rattle.loop_text.specs.Sites.Reading.{site_of};
 
@@ -147,7 +147,7 @@ fn count_ways(guards: &[Option<Formula>]) -> u64
 }
 
 // The guards before a level, and those from it on.
-#[tactic(auto, using(crate::proofs::LoweredCounts::counting))]
+#[tactic(auto, using(crate::proofs::Ruled::LoweredCounts::counting))]
 fn first_guards(guards: &[Option<Formula>], n: usize) -> &[Option<Formula>]
     ensures { map guard_of result.now ≡ take n (map guard_of guards.now) }
 {
@@ -208,7 +208,7 @@ fn count_flags(all: &Sites) -> usize
 }
 
 // Whether there are at most 256 loops, and 8 accumulators and flags.
-#[tactic(auto, using(crate::proofs::LoweredCounts::counting))]
+#[tactic(auto, using(crate::proofs::Ruled::LoweredCounts::counting))]
 fn parts_are_few(w: &Setting, accs: &[&Name]) -> bool
     ensures { result
         ≡ (nat_le (lists.count_loops (setting_in_code w.now).sites) 256 && nat_le (length (names_lent accs.now) + numbering.count_flags (setting_in_code w.now).sites) 8) }

@@ -9,17 +9,17 @@ use Rattle.kernel_lang.specs.Typed.{is_typed}
 use Rattle.kernel_lang.specs.Whole.{fragment_of}
 use Rattle.java_loops.specs.Kernel.Kernel.{setting_at}
 use Rattle.loop_text.specs.Statements.KeptStatements.{with_numbers}
-use Rattle.fragments.specs.Locating.{IsLocatedAt, IsFoundAt}
+use Rattle.fragments.specs.Helping.Locating.{IsLocatedAt, IsFoundAt}
 use Rattle.fragments.specs.Lowers.{lowering_in_code, IsOutside}
 use Rattle.java_loops.specs.Meant.Lowers.{IsLowered, IsMeant}
 use Rattle.java_loops.specs.Lowering.Placing.{fragment_once_at}
 use Rattle.java_loops.specs.Kernel.Setting.{Setting}
-use Rattle.fragments.specs.Verdicts.{BreaksFirst, IsLoweredFrom}
+use Rattle.fragments.specs.Helping.Verdicts.{BreaksFirst, IsLoweredFrom}
 use Rattle.fragments.specs.declared.places.position.Located.{Located}
 use Rattle.sql_emit.specs.Given.{AreKnownTo}
 use Rattle.java_loops.proofs.Kept.KeptMeant.{lowered_is_meant}
 use Rattle.fragments.proofs.Known.KnownHeld.{known_held}
-use Rattle.fragments.proofs.SettingThere.{setting_located, loop_is_found, located_may, located_lowered, located_fits, located_known, located_breaks}
+use Rattle.fragments.proofs.Located.SettingThere.{setting_located, loop_is_found, located_may, located_lowered, located_fits, located_known, located_breaks}
 use Rattle.fragments.proofs.verdict.lower.Goals as goal
 
 pub unreachable-requires : goal.unreachable-requires

@@ -1,6 +1,6 @@
 use Rattle.std.proofs.Common.{◌∙◌}
 use Rattle.java_ast.specs.Reading.{statements}
-use Rattle.fragments.proofs.Updated.{declared_where}
+use Rattle.fragments.proofs.Staying.Updated.{declared_where}
 use Rattle.fragments.proofs.kept.accumulators.is_declared.Goals as goal
 
 pub returns : goal.returns

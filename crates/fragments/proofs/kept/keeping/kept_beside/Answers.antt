@@ -3,7 +3,7 @@ use Rattle.std.proofs.lemmas.Result.{IfOk-weaker}
 use Rattle.loop_text.specs.Statements.KeptStatements.{AreKept}
 use Rattle.java_loops.specs.Lowering.Lowered.{names_read}
 use Rattle.loop_text.specs.Sites.Reading.{exprs_lent}
-use Rattle.fragments.specs.Reading.{fragment_in_code}
+use Rattle.fragments.specs.Helping.Reading.{fragment_in_code}
 use Rattle.loop_text.specs.Statements.Seen.{names_lent}
 use Rattle.loop_text.specs.Statements.Wanted.{kept_numbers}
 use Rattle.java_loops.proofs.Kept.KeptNumbers.{are_kept}

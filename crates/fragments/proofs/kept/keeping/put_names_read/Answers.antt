@@ -6,7 +6,7 @@ use Rattle.java_loops.specs.Lowering.Lowered.{names_read}
 use Rattle.loop_text.specs.Statements.Names.{names_in}
 use Rattle.loop_text.specs.Sites.Reading.{exprs_lent}
 use Rattle.loop_text.specs.Statements.Seen.{names_lent}
-use Rattle.fragments.proofs.Gathered.{piece_put}
+use Rattle.fragments.proofs.Staying.Gathered.{piece_put}
 use Rattle.loop_text.proofs.Trees.Walked.{next_item}
 use Rattle.fragments.proofs.kept.keeping.put_names_read.Goals as goal
 

@@ -1,5 +1,5 @@
 use Rattle.std.proofs.Common.{◌≡◌, drop}
-use Rattle.fragments.specs.Listed.{IsListed}
+use Rattle.fragments.specs.Helping.Listed.{IsListed}
 use Rattle.java_loops.specs.Lowering.Lowered.{names_read}
 use Rattle.loop_text.specs.Statements.Names.{with_names}
 use Rattle.loop_text.specs.Sites.Reading.{exprs_lent}

@@ -1,7 +1,7 @@
 use Rattle.std.proofs.Common.{sym, subst}
 use Rattle.java_loops.specs.Lowering.Lowered.{names_read}
 use Rattle.loop_text.specs.Sites.Reading.{exprs_lent}
-use Rattle.fragments.specs.Reading.{fragment_in_code}
+use Rattle.fragments.specs.Helping.Reading.{fragment_in_code}
 use Rattle.loop_text.specs.Statements.Wanted.{AreWanted}
 use Rattle.java_loops.proofs.Kept.KeptNumbers.{first_are_wanted}
 use Rattle.fragments.proofs.kept.keeping.wanted_of.Goals as goal

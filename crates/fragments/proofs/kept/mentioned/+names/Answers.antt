@@ -3,7 +3,7 @@ use Rattle.java_ast.specs.declared.tree.Expr.{Expr}
 use Rattle.java_ast.specs.Reading.{expression, expressions}
 use Rattle.loop_text.specs.Statements.Names.{names_in, names_among}
 use Rattle.loop_text.specs.Statements.Seen.{names_lent}
-use Rattle.fragments.proofs.Gathered.{piece_put}
+use Rattle.fragments.proofs.Staying.Gathered.{piece_put}
 use Rattle.loop_text.proofs.Trees.Walked.{next_item}
 use Rattle.fragments.proofs.kept.mentioned.+names.Goals as goal
 

@@ -1,6 +1,6 @@
 use Rattle.std.proofs.Common.{◌≡◌, drop}
 use Rattle.java_ast.specs.Reading.{expressions}
-use Rattle.fragments.specs.Listed.{IsListed}
+use Rattle.fragments.specs.Helping.Listed.{IsListed}
 use Rattle.loop_text.specs.Statements.Names.{with_names, names_among}
 use Rattle.loop_text.specs.Statements.Seen.{names_lent}
 use Rattle.fragments.proofs.kept.mentioned.+names.Given as goal

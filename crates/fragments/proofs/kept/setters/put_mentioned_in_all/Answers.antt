@@ -5,7 +5,7 @@ use Rattle.java_ast.specs.Reading.{statement}
 use Rattle.loop_text.specs.Statements.Names.{mentioned_in}
 use Rattle.loop_text.specs.Statements.Seen.{names_lent}
 use Rattle.loop_text.specs.Statements.Wanted.{mentioned_in_all}
-use Rattle.fragments.proofs.Gathered.{piece_put}
+use Rattle.fragments.proofs.Staying.Gathered.{piece_put}
 use Rattle.loop_text.proofs.Trees.Walked.{next_item}
 use Rattle.fragments.proofs.kept.setters.put_mentioned_in_all.Goals as goal
 

@@ -1,6 +1,6 @@
 use Rattle.std.proofs.Common.{◌≡◌, ◌++◌, ℕ, List, drop}
 use Rattle.java_ast.specs.Reading.{statements}
-use Rattle.fragments.specs.Wanted.{under}
+use Rattle.fragments.specs.Helping.Wanted.{under}
 use Rattle.loop_text.specs.Statements.Wanted.{setting}
 use Rattle.fragments.proofs.kept.setters.setters_of.Given as goal
 

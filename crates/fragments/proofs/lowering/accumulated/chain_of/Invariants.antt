@@ -1,6 +1,6 @@
 use Rattle.std.proofs.Common.{◌≡◌, ◌++◌, drop, map}
 use Rattle.java_loops.specs.Lowering.Numbering.{loop_number}
-use Rattle.fragments.specs.Contexts.{setting_given}
+use Rattle.fragments.specs.Helping.Contexts.{setting_given}
 use Rattle.fragments.proofs.lowering.accumulated.chain_of.Given as goal
 
 abbrev pub invariant-loop-j : goal.invariant-loop-j

@@ -1,7 +1,7 @@
 use Rattle.std.proofs.Common.{◌≡◌, ◌++◌, drop, map}
 use Rattle.kernel_lang.specs.Plain.{accumulator}
 use Rattle.tor_terms.specs.Plain.{forms_of}
-use Rattle.fragments.specs.Contexts.{numbers_given, setting_given}
+use Rattle.fragments.specs.Helping.Contexts.{numbers_given, setting_given}
 use Rattle.java_loops.specs.Lowering.Lowered.{flags_from}
 use Rattle.loop_text.specs.Sites.Reading.{site_of}
 use Rattle.fragments.proofs.lowering.accumulated.push_flags.Given as goal

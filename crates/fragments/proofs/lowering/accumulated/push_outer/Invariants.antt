@@ -1,7 +1,7 @@
 use Rattle.std.proofs.Common.{◌≡◌, ◌++◌, drop, map}
 use Rattle.kernel_lang.specs.Plain.{accumulator}
 use Rattle.tor_terms.specs.Plain.{forms_of}
-use Rattle.fragments.specs.Contexts.{numbers_given, setting_given}
+use Rattle.fragments.specs.Helping.Contexts.{numbers_given, setting_given}
 use Rattle.java_loops.specs.Lowering.Lowered.{outer_accumulators}
 use Rattle.loop_text.specs.Statements.Seen.{names_lent}
 use Rattle.fragments.proofs.lowering.accumulated.push_outer.Given as goal

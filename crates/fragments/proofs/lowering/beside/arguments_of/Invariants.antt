@@ -4,7 +4,7 @@ use Rattle.java_loops.specs.Lowering.Lowered.{numbers_of_arguments}
 use Rattle.java_loops.specs.Lowering.Numbering.{arguments_asked}
 use Rattle.loop_text.specs.Sites.Reading.{exprs_lent}
 use Rattle.loop_text.specs.Statements.Seen.{names_lent}
-use Rattle.fragments.specs.Reading.{setting_in_code}
+use Rattle.fragments.specs.Helping.Reading.{setting_in_code}
 use Rattle.fragments.proofs.lowering.beside.arguments_of.Given as goal
 
 abbrev pub invariant-loop-x : goal.invariant-loop-x

@@ -6,9 +6,9 @@ use Rattle.java_loops.specs.Lowering.Lowered.{numbers_of_arguments, query_asked}
 use Rattle.java_loops.specs.Lowering.Numbering.{arguments_asked}
 use Rattle.loop_text.specs.Sites.Reading.{exprs_lent}
 use Rattle.loop_text.specs.Statements.Seen.{names_lent}
-use Rattle.fragments.specs.Reading.{setting_in_code}
+use Rattle.fragments.specs.Helping.Reading.{setting_in_code}
 use Rattle.fragments.proofs.Known.KnownHeld.{queries_held}
-use Rattle.fragments.proofs.LoweredBeside.{same_lowering}
+use Rattle.fragments.proofs.Lowerings.LoweredBeside.{same_lowering}
 use Rattle.fragments.proofs.lowering.beside.lowering_with.Goals as goal
 
 pub returns-clause-lowered : goal.returns-clause-lowered

@@ -5,9 +5,9 @@ use Rattle.sql_ast.specs.Reading.{query}
 use Rattle.sql_ast.specs.Valid.{IsQueryOf}
 use Rattle.loop_text.specs.Kernel.KernelConditions.{asked_for}
 use Rattle.java_loops.specs.Lowering.Lowered.{query_asked}
-use Rattle.fragments.specs.LoweredInCode.{has_query}
+use Rattle.fragments.specs.Helping.LoweredInCode.{has_query}
 use Rattle.loop_text.specs.Statements.Seen.{names_lent}
-use Rattle.fragments.specs.Reading.{setting_in_code}
+use Rattle.fragments.specs.Helping.Reading.{setting_in_code}
 use Rattle.fragments.proofs.lowering.beside.queries_asked.Given as goal
 
 abbrev pub invariant-loop-x : goal.invariant-loop-x

@@ -1,6 +1,6 @@
 use Rattle.std.proofs.Common.{◌≡◌, drop}
 use Rattle.java_ast.specs.Reading.{statement}
-use Rattle.fragments.specs.LoweredInCode.{set_among}
+use Rattle.fragments.specs.Helping.LoweredInCode.{set_among}
 use Rattle.loop_text.specs.Statements.Seen.{names_lent}
 use Rattle.fragments.proofs.lowering.beside.set_name.Given as goal
 

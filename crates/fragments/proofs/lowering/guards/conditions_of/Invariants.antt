@@ -1,6 +1,6 @@
 use Rattle.std.proofs.Common.{◌≡◌, ◌++◌, drop, map}
 use Rattle.tor_terms.specs.Plain.{forms_of}
-use Rattle.fragments.specs.Contexts.{numbers_given, setting_given}
+use Rattle.fragments.specs.Helping.Contexts.{numbers_given, setting_given}
 use Rattle.java_loops.specs.Lowering.Lowered.{conditions_of, forms_from}
 use Rattle.loop_text.specs.Sites.Reading.{site_of}
 use Rattle.fragments.proofs.lowering.guards.conditions_of.Given as goal

@@ -2,7 +2,7 @@ use Rattle.std.specs.Prelude.{nat_eq}
 use Rattle.std.specs.List.{filter}
 use Rattle.std.proofs.Common.{◌≡◌, drop, map}
 use Rattle.kernel_lang.specs.Plain.{guard_of}
-use Rattle.fragments.specs.Contexts.{numbers_given, setting_given}
+use Rattle.fragments.specs.Helping.Contexts.{numbers_given, setting_given}
 use Rattle.java_loops.specs.Lowering.Lowered.{guard_at, guard_joined}
 use Rattle.loop_text.specs.Sites.Reading.{round_of, test_of}
 use Rattle.loop_text.specs.Sites.Sites.{Test}

@@ -3,7 +3,7 @@ use Rattle.std.proofs.lemmas.List.{map-append}
 use Rattle.tor_terms.specs.Plain.{Form}
 use Rattle.kernel_lang.specs.Plain.{guard_of}
 use Rattle.tor_terms.specs.declared.term.Formula.{Formula}
-use Rattle.fragments.specs.Contexts.{numbers_given, setting_given}
+use Rattle.fragments.specs.Helping.Contexts.{numbers_given, setting_given}
 use Rattle.loop_text.specs.Sites.Reading.{round_of}
 use Rattle.java_loops.proofs.Lowering.LoweredGuards.{guard_next}
 use Rattle.fragments.proofs.lowering.guards.guards_of.Goals as goal

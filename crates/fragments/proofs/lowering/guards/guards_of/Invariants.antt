@@ -1,6 +1,6 @@
 use Rattle.std.proofs.Common.{◌≡◌, ◌+◌, ◌++◌, drop, map}
 use Rattle.kernel_lang.specs.Plain.{guard_of}
-use Rattle.fragments.specs.Contexts.{numbers_given, setting_given}
+use Rattle.fragments.specs.Helping.Contexts.{numbers_given, setting_given}
 use Rattle.java_loops.specs.Lowering.Lowered.{guards_from}
 use Rattle.loop_text.specs.Sites.Reading.{round_of}
 use Rattle.fragments.proofs.lowering.guards.guards_of.Given as goal

@@ -1,7 +1,7 @@
 use Rattle.std.proofs.Common.{◌≡◌, ◌++◌, drop, map}
 use Rattle.java_loops.specs.Lowering.Lowered.{type_of_entry}
 use Rattle.loop_text.specs.Sites.Reading.{exprs_lent}
-use Rattle.fragments.specs.Reading.{setting_in_code}
+use Rattle.fragments.specs.Helping.Reading.{setting_in_code}
 use Rattle.fragments.proofs.lowering.parts.types_of_entries.Given as goal
 
 abbrev pub invariant-loop-e : goal.invariant-loop-e

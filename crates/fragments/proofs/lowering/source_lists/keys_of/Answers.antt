@@ -2,7 +2,7 @@ use Rattle.std.specs.Iterator.Adapters.{zip_first, zip_second}
 use Rattle.std.specs.Slice.Iter.{iter_rest}
 use Rattle.std.proofs.lemmas.Slice.Zip.{either_empty_from_Zip}
 use Rattle.qbs_base.specs.Columns.{columns_at}
-use Rattle.fragments.proofs.LoweredLists.{keys_end}
+use Rattle.fragments.proofs.Lowerings.LoweredLists.{keys_end}
 use Rattle.fragments.proofs.lowering.source_lists.keys_of.Goals as goal
 
 pub returns : goal.returns

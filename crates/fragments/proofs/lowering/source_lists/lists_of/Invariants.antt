@@ -1,6 +1,6 @@
 use Rattle.std.proofs.Common.{◌≡◌, ◌++◌, drop, map}
 use Rattle.java_loops.specs.Lowering.Lowered.{lists_of}
-use Rattle.fragments.specs.Reading.{setting_in_code}
+use Rattle.fragments.specs.Helping.Reading.{setting_in_code}
 use Rattle.loop_text.specs.Sites.Reading.{site_of}
 use Rattle.fragments.proofs.lowering.source_lists.lists_of.Given as goal
 

@@ -1,8 +1,8 @@
 use Rattle.std.proofs.Common.{drop, map, arith}
-use Rattle.fragments.specs.Numbered.{leaf_in_code}
+use Rattle.fragments.specs.Helping.Numbered.{leaf_in_code}
 use Rattle.loop_text.specs.Sites.Reading.{exprs_lent}
 use Rattle.loop_text.specs.Statements.Seen.{names_lent}
-use Rattle.fragments.specs.Reading.{setting_in_code}
+use Rattle.fragments.specs.Helping.Reading.{setting_in_code}
 use Rattle.java_loops.proofs.Lists.UpTo.{stopped, atoms_grow}
 use Rattle.fragments.proofs.numbering.atoms.put_atoms.Goals as goal
 

@@ -2,8 +2,8 @@ use Rattle.std.proofs.Common.{◌≡◌, ◌≤◌, ◌∙◌, arith, map}
 use Rattle.loop_text.specs.Kernel.KernelLists.{count_loops}
 use Rattle.java_loops.specs.Lowering.Numbering.{loop_number}
 use Rattle.loop_text.specs.Sites.Reading.{site_of}
-use Rattle.fragments.specs.Tallied.{is_loop_site}
-use Rattle.fragments.proofs.Tallies.{tally_is, loops_fewer}
+use Rattle.fragments.specs.Helping.Tallied.{is_loop_site}
+use Rattle.fragments.proofs.Lowerings.Tallies.{tally_is, loops_fewer}
 use Rattle.fragments.proofs.numbering.counts.loop_number.Goals as goal
 
 pub returns : goal.returns

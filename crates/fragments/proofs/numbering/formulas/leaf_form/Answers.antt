@@ -3,12 +3,12 @@ use Rattle.std.specs.Borrow.{Bor}
 use Rattle.java_ast.specs.declared.tree.Expr.{Expr}
 use Rattle.java_ast.specs.Reading.{expression}
 use Rattle.tor_terms.specs.declared.term.Atom.{Atom}
-use Rattle.fragments.specs.Counted.{numbers_in_code}
-use Rattle.fragments.specs.Numbered.{reading_in_code}
+use Rattle.fragments.specs.Helping.Counted.{numbers_in_code}
+use Rattle.fragments.specs.Helping.Numbered.{reading_in_code}
 use Rattle.java_loops.specs.Lowering.Numbering.{number_where, reading_of, same_atom}
 use Rattle.loop_text.specs.Sites.Reading.{exprs_lent}
 use Rattle.loop_text.specs.Statements.Seen.{names_lent}
-use Rattle.fragments.specs.Reading.{setting_in_code}
+use Rattle.fragments.specs.Helping.Reading.{setting_in_code}
 use Rattle.java_loops.proofs.Formed.ReadLeaves.{leaf_read}
 use Rattle.fragments.proofs.numbering.formulas.leaf_form.Goals as goal
 

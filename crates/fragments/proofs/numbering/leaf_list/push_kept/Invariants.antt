@@ -1,5 +1,5 @@
 use Rattle.std.proofs.Common.{◌≡◌, ◌++◌, drop, map}
-use Rattle.fragments.specs.Numbered.{leaf_in_code}
+use Rattle.fragments.specs.Helping.Numbered.{leaf_in_code}
 use Rattle.java_loops.specs.Lowering.Numbering.{leaves_kept}
 use Rattle.loop_text.specs.Sites.Reading.{exprs_lent, site_of}
 use Rattle.fragments.proofs.numbering.leaf_list.push_kept.Given as goal

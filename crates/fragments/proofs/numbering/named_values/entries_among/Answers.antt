@@ -1,7 +1,7 @@
 use Rattle.std.proofs.Common.{ap, arith, map}
 use Rattle.std.proofs.lemmas.List.{length-map}
 use Rattle.java_ast.specs.Reading.{expression, statements}
-use Rattle.fragments.specs.Numbered.{leaf_in_code}
+use Rattle.fragments.specs.Helping.Numbered.{leaf_in_code}
 use Rattle.loop_text.specs.Sites.Reading.{exprs_lent, site_of}
 use Rattle.loop_text.specs.Statements.Seen.{names_lent}
 use Rattle.java_loops.proofs.Lists.UpTo.{entries_found, few_found, many_found}

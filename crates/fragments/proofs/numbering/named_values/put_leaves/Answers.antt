@@ -1,7 +1,7 @@
 use Rattle.std.proofs.Common.{drop, map, arith}
 use Rattle.std.proofs.lemmas.List.{length-map}
 use Rattle.java_ast.specs.Reading.{expression}
-use Rattle.fragments.specs.Numbered.{leaf_in_code}
+use Rattle.fragments.specs.Helping.Numbered.{leaf_in_code}
 use Rattle.loop_text.specs.Sites.Reading.{exprs_lent, site_of}
 use Rattle.java_loops.proofs.Lists.UpTo.{stopped, entries_grow}
 use Rattle.fragments.proofs.numbering.named_values.put_leaves.Goals as goal

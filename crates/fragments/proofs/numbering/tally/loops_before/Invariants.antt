@@ -1,7 +1,7 @@
 use Rattle.std.proofs.Common.{◌≡◌, ◌+◌, ◌≤◌, ◌++◌, drop, map, length}
 use Rattle.std.specs.List.{filter}
 use Rattle.loop_text.specs.Sites.Reading.{site_of}
-use Rattle.fragments.specs.Tallied.{is_loop_site, passed_before}
+use Rattle.fragments.specs.Helping.Tallied.{is_loop_site, passed_before}
 use Rattle.fragments.proofs.numbering.tally.loops_before.Given as goal
 
 abbrev pub invariant-loop-n : goal.invariant-loop-n

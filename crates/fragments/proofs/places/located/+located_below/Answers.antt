@@ -1,8 +1,8 @@
 use Rattle.std.specs.Prelude.{option_copied}
 use Rattle.std.proofs.lemmas.Result.{IfOk-weaker}
 use Rattle.java_ast.specs.Reading.{statement, statements}
-use Rattle.fragments.specs.Locating.{IsFoundIn}
-use Rattle.fragments.proofs.Locations.{step_found}
+use Rattle.fragments.specs.Helping.Locating.{IsFoundIn}
+use Rattle.fragments.proofs.Located.Locations.{step_found}
 use Rattle.fragments.proofs.places.located.+located_below.Goals as goal
 
 pub returns : goal.returns

@@ -4,9 +4,9 @@ use Rattle.std.proofs.lemmas.Result.{IfOk-weaker}
 use Rattle.java_ast.specs.declared.tree.Method.{Method}
 use Rattle.java_ast.specs.Reading.{method, program}
 use Rattle.java_ast.proofs.Numbered.{method_some}
-use Rattle.fragments.specs.Locating.{IsFoundIn, IsFoundAt}
+use Rattle.fragments.specs.Helping.Locating.{IsFoundIn, IsFoundAt}
 use Rattle.java_loops.specs.Lowering.Placing.{scope_of_params}
-use Rattle.fragments.proofs.Locations.{program_found}
+use Rattle.fragments.proofs.Located.Locations.{program_found}
 use Rattle.fragments.proofs.places.located.located.Goals as goal
 
 pub returns : goal.returns

@@ -2,7 +2,7 @@ use Rattle.std.specs.Prelude.{option_copied}
 use Rattle.std.proofs.Common.{◌∙◌, sym, ap, refl}
 use Rattle.java_ast.specs.Reading.{statements}
 use Rattle.java_loops.specs.Lowering.Placing.{scope_past}
-use Rattle.fragments.proofs.Locations.{none_here, no_loop_here, run_scoped, found_here}
+use Rattle.fragments.proofs.Located.Locations.{none_here, no_loop_here, run_scoped, found_here}
 use Rattle.fragments.proofs.places.located.located_here.Goals as goal
 
 pub returns-in_default : goal.returns-in_default

@@ -1,8 +1,8 @@
 use Rattle.std.specs.Option.{option_map}
 use Rattle.std.proofs.Common.{sym, ap, ◌∙◌}
 use Rattle.fragments.specs.Lowers.{broken_in_code}
-use Rattle.fragments.specs.Reading.{setting_in_code}
-use Rattle.fragments.proofs.Judged.{first_breaks, middle_breaks}
+use Rattle.fragments.specs.Helping.Reading.{setting_in_code}
+use Rattle.fragments.proofs.Ruled.Judged.{first_breaks, middle_breaks}
 use Rattle.fragments.proofs.rules.judging.judged.Goals as goal
 
 pub returns-in-Some-clause-outside : goal.returns-in-Some-clause-outside

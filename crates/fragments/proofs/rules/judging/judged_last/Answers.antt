@@ -1,11 +1,11 @@
 use Rattle.std.proofs.Common.{◌≡◌, Some, sym, ap, ◌∙◌, subst}
 use Rattle.java_ast.specs.Reading.{statement}
-use Rattle.fragments.specs.Counted.{numbers_in_code}
+use Rattle.fragments.specs.Helping.Counted.{numbers_in_code}
 use Rattle.java_loops.specs.Kernel.Kernel.{broken_counts}
-use Rattle.fragments.specs.LoweredInCode.{HasFew, IsCounted}
-use Rattle.fragments.specs.Reading.{setting_in_code}
+use Rattle.fragments.specs.Helping.LoweredInCode.{HasFew, IsCounted}
+use Rattle.fragments.specs.Helping.Reading.{setting_in_code}
 use Rattle.loop_text.specs.Sites.Sites.{place_of}
-use Rattle.fragments.proofs.Judged.{count_breaks, start_breaks}
+use Rattle.fragments.proofs.Ruled.Judged.{count_breaks, start_breaks}
 use Rattle.loop_text.proofs.Trees.Rounds.{place_is}
 use Rattle.fragments.proofs.rules.judging.judged_last.Goals as goal
 

@@ -1,6 +1,6 @@
 use Rattle.std.proofs.Common.{◌∙◌, sym}
 use Rattle.java_loops.specs.Kernel.KernelLists.{broken_list}
-use Rattle.fragments.specs.Reading.{setting_in_code}
+use Rattle.fragments.specs.Helping.Reading.{setting_in_code}
 use Rattle.java_loops.proofs.Lists.Lent.{lent_below, lent_item}
 use Rattle.loop_text.proofs.Trees.Rounds.{passed_site}
 use Rattle.fragments.proofs.rules.k2_lists.broken_lists.Goals as goal

@@ -1,7 +1,7 @@
 use Rattle.std.proofs.Common.{◌≡◌, drop, map}
 use Rattle.java_loops.specs.Kernel.KernelLists.{is_barred_site}
 use Rattle.loop_text.specs.Sites.Reading.{site_of}
-use Rattle.fragments.specs.Reading.{setting_in_code}
+use Rattle.fragments.specs.Helping.Reading.{setting_in_code}
 use Rattle.loop_text.specs.Sites.Sites.{any_site}
 use Rattle.fragments.proofs.rules.k2_lists.has_barred.Given as goal
 

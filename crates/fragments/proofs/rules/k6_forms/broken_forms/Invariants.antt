@@ -1,7 +1,7 @@
 use Rattle.std.proofs.Common.{◌≡◌, drop, map}
 use Rattle.java_loops.specs.Kernel.KernelForms.{broken_form}
 use Rattle.loop_text.specs.Sites.Reading.{site_of}
-use Rattle.fragments.specs.Reading.{setting_in_code}
+use Rattle.fragments.specs.Helping.Reading.{setting_in_code}
 use Rattle.loop_text.specs.Sites.Sites.{first_broken}
 use Rattle.fragments.proofs.rules.k6_forms.broken_forms.Given as goal
 

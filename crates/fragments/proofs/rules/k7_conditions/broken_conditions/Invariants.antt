@@ -1,6 +1,6 @@
 use Rattle.std.proofs.Common.{◌≡◌, drop, map}
 use Rattle.loop_text.specs.Sites.Reading.{site_of}
-use Rattle.fragments.specs.Reading.{setting_in_code}
+use Rattle.fragments.specs.Helping.Reading.{setting_in_code}
 use Rattle.loop_text.specs.Sites.Sites.{first_broken}
 use Rattle.java_loops.specs.Kernel.KernelConditions.{broken_condition_at}
 use Rattle.fragments.proofs.rules.k7_conditions.broken_conditions.Given as goal

@@ -1,7 +1,7 @@
 use Rattle.std.proofs.Common.{◌≡◌, drop}
 use Rattle.java_loops.specs.Kernel.KernelConditions.{broken_leaves}
 use Rattle.loop_text.specs.Sites.Reading.{exprs_lent}
-use Rattle.fragments.specs.Reading.{setting_in_code}
+use Rattle.fragments.specs.Helping.Reading.{setting_in_code}
 use Rattle.fragments.proofs.rules.k7_conditions.broken_leaves.Given as goal
 
 abbrev pub invariant-loop-e : goal.invariant-loop-e

@@ -1,7 +1,7 @@
 use Rattle.std.proofs.Common.{◌≡◌, drop}
 use Rattle.java_ast.specs.Reading.{expressions}
 use Rattle.java_loops.specs.Kernel.KernelConditions.{are_entries}
-use Rattle.fragments.specs.Reading.{setting_in_code}
+use Rattle.fragments.specs.Helping.Reading.{setting_in_code}
 use Rattle.fragments.proofs.rules.k7_operands.are_entries.Given as goal
 
 abbrev pub invariant-loop-e : goal.invariant-loop-e

@@ -1,7 +1,7 @@
 use Rattle.std.proofs.lemmas.Result.{on_ok_weaker}
 use Rattle.tor_terms.specs.Plain.{form_of, forms_of}
 use Rattle.kernel_lang.specs.Pools.{may_enter}
-use Rattle.fragments.proofs.CappedPools.{both_capped}
+use Rattle.fragments.proofs.Ruled.CappedPools.{both_capped}
 use Rattle.fragments.proofs.rules.k8_pools.+enter_conjuncts.Goals as goal
 
 pub returns-in_ok-enter_conjuncts-in-Both : goal.returns-in_ok-enter_conjuncts-in-Both

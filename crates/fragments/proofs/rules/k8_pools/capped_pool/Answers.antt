@@ -3,8 +3,8 @@ use Rattle.std.specs.List.{filter, flat_map}
 use Rattle.tor_terms.specs.Plain.{Form, form_of, forms_of}
 use Rattle.tor_terms.specs.declared.term.Formula.{Formula}
 use Rattle.kernel_lang.specs.Pools.{all_entered, conjuncts, may_enter, pool_of}
-use Rattle.fragments.specs.Capped.{IsCapped, whole}
-use Rattle.fragments.proofs.CappedPools.{next_capped}
+use Rattle.fragments.specs.Helping.Capped.{IsCapped, whole}
+use Rattle.fragments.proofs.Ruled.CappedPools.{next_capped}
 use Rattle.loop_text.proofs.Trees.Walked.{next_item}
 use Rattle.fragments.proofs.rules.k8_pools.capped_pool.Goals as goal
 

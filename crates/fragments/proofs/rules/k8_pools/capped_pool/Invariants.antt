@@ -2,7 +2,7 @@ use Rattle.std.proofs.Common.{drop}
 use Rattle.std.specs.List.{filter, flat_map}
 use Rattle.tor_terms.specs.Plain.{forms_of}
 use Rattle.kernel_lang.specs.Pools.{all_entered, may_enter, conjuncts, pool_of}
-use Rattle.fragments.specs.Capped.{IsCapped}
+use Rattle.fragments.specs.Helping.Capped.{IsCapped}
 use Rattle.fragments.proofs.rules.k8_pools.capped_pool.Given as goal
 
 abbrev pub invariant-loop-f : goal.invariant-loop-f

@@ -1,6 +1,6 @@
 use Rattle.std.proofs.Common.{◌≡◌, drop}
 use Rattle.tor_terms.specs.Plain.{forms_of}
-use Rattle.fragments.specs.Capped.{all_in}
+use Rattle.fragments.specs.Helping.Capped.{all_in}
 use Rattle.fragments.proofs.rules.k8_pools.enter_all.Given as goal
 
 abbrev pub invariant-loop-f : goal.invariant-loop-f

@@ -5,8 +5,8 @@ use Rattle.std.proofs.lemmas.Result.{on_ok_weaker}
 use Rattle.tor_terms.specs.declared.term.Formula.{Formula}
 use Rattle.tor_terms.specs.Plain.{form_of, forms_of}
 use Rattle.kernel_lang.specs.Pools.{conjuncts, may_enter}
-use Rattle.fragments.specs.Capped.{all_in}
-use Rattle.fragments.proofs.CappedPools.{conjunct_in, more_capped}
+use Rattle.fragments.specs.Helping.Capped.{all_in}
+use Rattle.fragments.proofs.Ruled.CappedPools.{conjunct_in, more_capped}
 use Rattle.fragments.proofs.rules.k8_pools.enter_conjunct.Goals as goal
 
 pub returns-then-len-gt16 : goal.returns-then-len-gt16

@@ -2,7 +2,7 @@ use Rattle.std.specs.List.{list_all}
 use Rattle.std.proofs.Common.{◌≡◌, drop, map}
 use Rattle.kernel_lang.specs.Plain.{accumulator}
 use Rattle.tor_terms.specs.Plain.{forms_of}
-use Rattle.fragments.specs.Capped.{has_few}
+use Rattle.fragments.specs.Helping.Capped.{has_few}
 use Rattle.fragments.proofs.rules.k8_pools.pools_are_small.Given as goal
 
 abbrev pub invariant-loop-a : goal.invariant-loop-a

@@ -1,6 +1,6 @@
 use Rattle.loop_text.specs.Statements.Seen.{names_lent}
-use Rattle.fragments.specs.Reading.{setting_in_code}
-use Rattle.fragments.proofs.LoweredCounts.{many_loops}
+use Rattle.fragments.specs.Helping.Reading.{setting_in_code}
+use Rattle.fragments.proofs.Ruled.LoweredCounts.{many_loops}
 use Rattle.fragments.proofs.rules.k8_sizes.counted.Goals as goal
 
 pub returns-else-parts_are_few : goal.returns-else-parts_are_few

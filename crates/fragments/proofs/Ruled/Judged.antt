@@ -9,7 +9,7 @@ use Rattle.java_loops.specs.Kernel.KernelLoop.{broken_loop}
 use Rattle.java_loops.specs.Kernel.KernelStarts.{broken_starts}
 use Rattle.java_loops.specs.Kernel.KernelStatements.{broken_statements, broken_updates}
 use Rattle.java_loops.specs.Kernel.Setting.{Setting}
-use Rattle.fragments.specs.Verdicts.{first_rules, middle_rules, last_rules}
+use Rattle.fragments.specs.Helping.Verdicts.{first_rules, middle_rules, last_rules}
 
 -- ---- One rule
 

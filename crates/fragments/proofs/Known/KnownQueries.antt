@@ -10,12 +10,12 @@ use Rattle.java_loops.specs.Kernel.Kernel.{setting_at}
 use Rattle.loop_text.specs.Kernel.KernelConditions.{Asked}
 use Rattle.java_loops.specs.Kernel.KernelConditions.{is_column_query}
 use Rattle.java_loops.specs.Lowering.Lowered.{query_asked}
-use Rattle.fragments.specs.LoweredInCode.{has_query}
+use Rattle.fragments.specs.Helping.LoweredInCode.{has_query}
 use Rattle.loop_text.specs.Statements.Names.{Names}
 use Rattle.java_loops.specs.Lowering.Numbering.{numbers_of}
 use Rattle.java_loops.specs.Kernel.Setting.{Setting, setting_of}
 use Rattle.loop_text.specs.Statements.Setting.{is_found}
-use Rattle.fragments.specs.Verdicts.{MayBeLowered}
+use Rattle.fragments.specs.Helping.Verdicts.{MayBeLowered}
 use Rattle.java_loops.proofs.Known.KnownLists.{IsKnownList, known_list}
 use Rattle.java_loops.proofs.Known.KnownNumbers.{IsGoodKnown, known_lists_good}
 use Rattle.java_loops.proofs.Listed.ListedRows.{fragment_seen}

@@ -1,10 +1,10 @@
 -- What a fragment is lowered from, as the code holds it.
 use Rattle.fragments.specs.declared.lowering.context.Context.{Context}
-use Rattle.fragments.specs.Counted.{numbers_in_code, AreNumbersOf}
+use Rattle.fragments.specs.Helping.Counted.{numbers_in_code, AreNumbersOf}
 use Rattle.java_loops.specs.Lowering.Numbering.{Numbers}
-use Rattle.fragments.specs.Reading.{setting_in_code}
+use Rattle.fragments.specs.Helping.Reading.{setting_in_code}
 use Rattle.java_loops.specs.Kernel.Setting.{Setting}
-use Rattle.fragments.specs.Tallied.{AreCountsOf}
+use Rattle.fragments.specs.Helping.Tallied.{AreCountsOf}
 
 abbrev pub setting_given : Context → Setting
 setting_given c = setting_in_code c.setting.now

@@ -6,7 +6,7 @@ use Rattle.loop_text.specs.Statements.Fragment.{Fragment, accumulators, needed_o
 use Rattle.loop_text.specs.Kernel.KernelLists.{count_loops}
 use Rattle.java_loops.specs.Lowering.Numbering.{count_flags}
 use Rattle.loop_text.specs.Sites.Sites.{Site}
-use Rattle.fragments.specs.Tallied.{is_loop_site, is_flag_site, passed_before, IsTally, found_or, tally_at}
+use Rattle.fragments.specs.Helping.Tallied.{is_loop_site, is_flag_site, passed_before, IsTally, found_or, tally_at}
 
 found_step : (test : Site → Bool) (s : Site) (ss : List Site) (k n : ℕ) (b : Bool) → ((j : ℕ) → found_or (j + length (filter test ss)) (slice_get (passed_before test j ss) n) ≡ j + length (filter test (take n ss))) → found_or (k + length (cond b (s ∷ filter test ss) (filter test ss))) (slice_get (passed_before test (cond b (suc k) k) ss) n) ≡ k + length (cond b (s ∷ filter test (take n ss)) (filter test (take n ss)))
 found_step test s ss k n true more =

@@ -10,8 +10,8 @@ use Rattle.kernel_lang.specs.Plain as kernel
 use Rattle.tor_terms.specs.declared.term.Atom.{Atom}
 use Rattle.kernel_lang.specs.Pools.{pool_of}
 use Rattle.kernel_lang.specs.Validity.{count_own, count_conditions}
-use Rattle.fragments.specs.Capped.{has_few}
-use Rattle.fragments.specs.Counted.{HasFewLoops, AreNumbersOf}
+use Rattle.fragments.specs.Helping.Capped.{has_few}
+use Rattle.fragments.specs.Helping.Counted.{HasFewLoops, AreNumbersOf}
 use Rattle.loop_text.specs.Statements.Fragment.{accumulators, needed_of}
 use Rattle.java_loops.specs.Kernel.Kernel.{broken_counts, has_small_pool, is_small}
 use Rattle.loop_text.specs.Kernel.KernelLists.{count_loops}

@@ -6,7 +6,7 @@ use Rattle.std.specs.declared.option.Option.TheVariants.{Some, None}
 use Rattle.qbs_base.specs.declared.memory.Fail.{Fail}
 use Rattle.qbs_base.specs.declared.memory.Fail.TheVariants.{Fault, NoMemory}
 use Rattle.kernel_lang.specs.Validity as validity
-use Rattle.fragments.specs.Counted.{HasFewLoops, AreNumbersOf}
+use Rattle.fragments.specs.Helping.Counted.{HasFewLoops, AreNumbersOf}
 use Rattle.java_loops.specs.Kernel.Kernel.{Broken, first_rule, broken_counts, broken, lowering}
 use Rattle.java_loops.specs.Kernel.KernelConditions.{broken_conditions}
 use Rattle.java_loops.specs.Kernel.KernelForms.{broken_forms}
@@ -17,7 +17,7 @@ use Rattle.java_loops.specs.Kernel.KernelStatements.{broken_statements, broken_u
 use Rattle.loop_text.specs.Statements.KeptStatements.{AreKept}
 use Rattle.java_loops.specs.Lowering.Lowered.{Lowering, names_read}
 use Rattle.fragments.specs.Asked.{HasQueriesOf}
-use Rattle.fragments.specs.LoweredInCode.{has_query}
+use Rattle.fragments.specs.Helping.LoweredInCode.{has_query}
 use Rattle.fragments.specs.Lowers.{broken_in_code}
 use Rattle.java_loops.specs.Lowering.Numbering.{Numbers, numbers_of}
 use Rattle.java_loops.specs.Kernel.Setting.{Setting}

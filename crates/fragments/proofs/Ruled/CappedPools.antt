@@ -7,7 +7,7 @@ use Rattle.tor_terms.specs.Plain.{Form, Is, Both, Either}
 use Rattle.tor_terms.specs.Same.{same_form, same_flag}
 use Rattle.kernel_lang.specs.Pools.{entered, all_entered, negated, conjuncts}
 use Rattle.kernel_lang.proofs.Entering.{both_entered}
-use Rattle.fragments.specs.Capped.{IsCapped, whole, many, all_in}
+use Rattle.fragments.specs.Helping.Capped.{IsCapped, whole, many, all_in}
 
 pub ruleset capped = (map-append, append_assoc, length-map)
 

@@ -5,7 +5,7 @@ use Rattle.std.specs.declared.option.Option.{Option}
 use Rattle.std.specs.declared.option.Option.TheVariants.{Some, None}
 use Rattle.fragments.specs.declared.numbering.tally.Tally.{Tally}
 use Rattle.fragments.specs.declared.numbering.counts.Counts.{Counts}
-use Rattle.fragments.specs.Counted.{HasFewLoops}
+use Rattle.fragments.specs.Helping.Counted.{HasFewLoops}
 use Rattle.loop_text.specs.Statements.Fragment.{needed_of}
 use Rattle.loop_text.specs.Kernel.KernelStatements.{is_declaration}
 use Rattle.loop_text.specs.Statements.Loops.{is_loop}

@@ -10,7 +10,7 @@ use Rattle.java_ast.specs.Tree as plain
 use Rattle.java_mean.specs.Visible.{Visible, declared_in}
 use Rattle.loop_text.specs.Statements.Fragment.{Fragment, is_simple, are_simple, before_run, run_of, fragment_of, fragment_where, fragment_here, fragment_in}
 use Rattle.loop_text.specs.Statements.KeptStatements.{how_many, first_in}
-use Rattle.fragments.specs.Locating.{fragment_located, IsLocatedIn, IsFoundIn, IsFoundAt}
+use Rattle.fragments.specs.Helping.Locating.{fragment_located, IsLocatedIn, IsFoundIn, IsFoundAt}
 use Rattle.loop_text.specs.Statements.Loops.{is_loop}
 use Rattle.loop_text.specs.Statements.Names.{Names, with_name, with_names, declared_by, declared_among, walking, names_of_params}
 use Rattle.java_loops.specs.Lowering.Placing.{type_under, scope_after, scope_past, scope_inside, scope_within, scope_in, scope_of_params, scope_in_method, fragment_in_method}
@@ -131,7 +131,7 @@ found_here o vs n block before front run s q below is loop first fronted ran vis
       types = ap (λ (ss : Statements). Some (scope_past o vs ss)) (sym first) ∙ ap Some (sym types);
     }
 
-past_end : (n : ℕ) (xs : List Stmt) → length xs ≤ n → behind_of n (statements xs) ≡ Nothing
+pub past_end : (n : ℕ) (xs : List Stmt) → length xs ≤ n → behind_of n (statements xs) ≡ Nothing
 past_end zero [] h = refl
 past_end zero (x ∷ xs) h = absurd (omega arith)
 past_end (suc n) [] h = refl

@@ -5,7 +5,7 @@ use Rattle.std.specs.declared.option.Option.TheVariants.{Some, None}
 use Rattle.java_ast.specs.Tree.{Statement}
 use Rattle.fragments.specs.declared.lowering.accumulated.UpdateSite.{UpdateSite}
 use Rattle.fragments.specs.declared.numbering.numbers.Numbers as code
-use Rattle.fragments.specs.Counted.{numbers_in_code, HasFewLoops, AreNumbersOf}
+use Rattle.fragments.specs.Helping.Counted.{numbers_in_code, HasFewLoops, AreNumbersOf}
 use Rattle.loop_text.specs.Statements.Fragment.{set_by}
 use Rattle.java_loops.specs.Kernel.Kernel.{broken_counts}
 use Rattle.loop_text.specs.Kernel.KernelConditions.{asked_for}

@@ -13,19 +13,19 @@ use Rattle.kernel_lang.specs.Typed.{is_typed}
 use Rattle.loop_text.specs.Statements.Fragment.{Fragment, fragment_at}
 use Rattle.java_loops.specs.Kernel.Kernel.{broken, setting_at}
 use Rattle.fragments.specs.Asked.{HasQueriesOf, HasKnownQueries}
-use Rattle.fragments.specs.Locating.{fragment_located, IsLocatedAt}
+use Rattle.fragments.specs.Helping.Locating.{fragment_located, IsLocatedAt}
 use Rattle.java_loops.specs.Lowering.Lowered.{Lowering}
 use Rattle.java_loops.specs.Meant.Lowers.{IsLowered}
 use Rattle.fragments.specs.Lowers.{IsOutside}
 use Rattle.java_loops.specs.Lowering.Placing.{fragment_once_at}
 use Rattle.java_loops.specs.Kernel.Setting.{Setting, setting_of}
 use Rattle.loop_text.specs.Sites.Sites.{Site, sites_of}
-use Rattle.fragments.specs.Verdicts.{BreaksFirst, MayBeLowered, IsLoweredFrom}
+use Rattle.fragments.specs.Helping.Verdicts.{BreaksFirst, MayBeLowered, IsLoweredFrom}
 use Rattle.loop_text.specs.Statements.Walking.{IsLoopOf}
 use Rattle.fragments.specs.declared.lowering.lowered.Outside.{Outside}
 use Rattle.fragments.specs.declared.places.position.Located.{Located}
 use Rattle.fragments.proofs.Known.KnownLoop.{known_to}
-use Rattle.fragments.proofs.KnownQueries.{may_be_lowered}
+use Rattle.fragments.proofs.Known.KnownQueries.{may_be_lowered}
 use Rattle.java_loops.proofs.Kept.NeededOnce.{once_is}
 use Rattle.java_loops.proofs.Placing.PathsLead.{loop_has_fragment}
 use Rattle.java_loops.proofs.Placing.PlaceTypes.{setting_found}

@@ -1,0 +1,3 @@
+pub mod Locations
+pub mod Placed
+pub mod SettingThere

@@ -1,0 +1,3 @@
+pub mod LoweredBeside
+pub mod LoweredLists
+pub mod Tallies

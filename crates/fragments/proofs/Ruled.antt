@@ -1,0 +1,3 @@
+pub mod CappedPools
+pub mod Judged
+pub mod LoweredCounts

@@ -1,0 +1,11 @@
+pub mod Capped
+pub mod Contexts
+pub mod Counted
+pub mod Listed
+pub mod Locating
+pub mod LoweredInCode
+pub mod Numbered
+pub mod Reading
+pub mod Tallied
+pub mod Verdicts
+pub mod Wanted
