@@ -1,7 +1,6 @@
 -- The statements that ask break no rule where they may stand.
 use Rattle.std.proofs.Common.{◌≡◌, ℕ, Bool, true, false, not, ◌&&◌, List, [], ◌∷◌, ◌++◌, Option, Some, None, refl, ap, ◌∙◌, bytes_eq, codes}
 use Rattle.std.specs.List.{AllByRecursion}
-use Rattle.std.proofs.lemmas.Bool.{or_parts}
 use Rattle.qbs_base.specs.declared.span.Span.{Span}
 use Rattle.qbs_base.specs.Values.{Schema}
 use Rattle.sql_ast.specs.Tree.{PlainQuery}
@@ -20,16 +19,15 @@ use Rattle.java_mean.proofs.Faultless.{none_both, Sees}
 use Rattle.java_mean.proofs.Fitting.{sees_after, visible_is_typed}
 use Rattle.java_mean.proofs.Puts.{names_equal}
 use Rattle.java_types.proofs.Kept.{faults_in-append}
-use Rattle.loop_text.specs.Statements.Fragment.{set_by}
 use Rattle.java_loops.specs.Kernel.Setting.{Setting}
-use Rattle.java_loops.specs.Walks.Replacing.{Ask, asking, asked, is_asked}
-use Rattle.java_loops.proofs.Typing.Visible.{names_back}
+use Rattle.java_loops.specs.Walks.Replacing.{Ask, asking, asked}
 use Rattle.rewrite_core.specs.Asked.{Place, asks_of}
 use Rattle.rewrite_core.specs.Asking as asking_specs
 use Rattle.rewrite_core.specs.Asking.{MayBeAsked, AgreeOnEntries, SeesEntries, IsFaultlessAsk, MayStand, AllMayStand}
 use Rattle.rewrite_core.proofs.FaultlessAsks.{asks_are_faultless}
 use Rattle.rewrite_core.proofs.FaultlessCalls.{single_itself}
-use Rattle.rewrite_core.proofs.KeptFaultless.{type_kept, seen_so}
+use Rattle.rewrite_core.proofs.KeptFaultless.{seen_so}
+use Rattle.rewrite_core.proofs.Standing.{ask_keeps, all_stand_behind}
 
 type_itself : (k : JavaType) → same_type k k ≡ true
 type_itself (Of a) = single_itself a
@@ -63,31 +61,13 @@ module _ (schema : Schema) (read : List ℕ → Option PlainQuery) (r : Option S
 
   -- ---- What is visible behind it
 
-  set_by_ask : (ty : Option Spelled) (at : Span) (x : List ℕ) (e : Expression) (y : List ℕ) → bytes_eq x y ≡ false → bytes_eq (set_by (asking ty at x e)) y ≡ false
-  set_by_ask (Some ty) at x e y h = h
-  set_by_ask None at x e y h = h
-
-  -- other variables keep their types
-  ask_keeps : (h : Types) (ty : Option Spelled) (at : Span) (x : List ℕ) (e : Expression) (y : List ℕ) → bytes_eq x y ≡ false → types_after schema h (asking ty at x e) y ≡ h y
-  ask_keeps h ty at x e y other = type_kept schema h (asking ty at x e) y (set_by_ask ty at x e y other)
-
-  stands_behind : (h : Types) (ty : Option Spelled) (at : Span) (x : List ℕ) (e : Expression) (o : Option Spelled) (y : List ℕ) → bytes_eq x y ≡ false → MayStand schema round w.types h o y → MayStand schema round w.types (types_after schema h (asking ty at x e)) o y
-  stands_behind h ty at x e (Some o) y other m = (ask_keeps h ty at x e y other ∙ m.0, m.1, m.2, m.3)
-  stands_behind h ty at x e None y other m = (ask_keeps h ty at x e y other ∙ m.0, m.1)
-
-  all_stand_behind : (h : Types) (ty : Option Spelled) (at : Span) (x : List ℕ) (e : Expression) (ks : List Ask) → is_asked ks x ≡ false → AllMayStand schema round w.types h ks → AllMayStand schema round w.types (types_after schema h (asking ty at x e)) ks
-  all_stand_behind h ty at x e [] apart m = tt
-  all_stand_behind h ty at x e (k ∷ ks) apart m =
-      let two = or_parts (bytes_eq k.name x) (is_asked ks x) apart in
-      (stands_behind h ty at x e k.ty k.name (names_back x k.name ∙ two.0) m.0, m.1, all_stand_behind h ty at x e ks two.1 m.2)
-
   -- a variable with a type is another than one without
   other_typed : (h : Types) (x y : List ℕ) (k : JavaType) (b : Bool) → bytes_eq x y ≡ b → h x ≡ None → h y ≡ Some k → b ≡ false
   other_typed h x y k true e none some = let same : h x ≡ h y = ap h (names_equal x y e) in absurd cc
   other_typed h x y k false e none some = refl
 
   agree_behind : (h : Types) (ty : Option Spelled) (at : Span) (x : List ℕ) (e : Expression) → MayStand schema round w.types h ty x → AgreeOnEntries w h → AgreeOnEntries w (types_after schema h (asking ty at x e))
-  agree_behind h (Some ty) at x e m agree = λ y k i t. ask_keeps h (Some ty) at x e y (other_typed h x y k (bytes_eq x y) refl m.0 (agree y k i t)) ∙ agree y k i t
+  agree_behind h (Some ty) at x e m agree = λ y k i t. ask_keeps schema round w.types h (Some ty) at x e y (other_typed h x y k (bytes_eq x y) refl m.0 (agree y k i t)) ∙ agree y k i t
   agree_behind h None at x e m agree = agree
 
   entries_seen : (us : Visible) (h : Types) → Sees us h → AgreeOnEntries w h → SeesEntries w us
@@ -104,7 +84,7 @@ module _ (schema : Schema) (read : List ℕ → Option PlainQuery) (r : Option S
       let seen : Sees (after schema us a) (types_after schema h a) = sees_after schema read r us h round last a s (none_both (faults_at schema read r (step us round last a)) (faults_in schema read r (in_parts schema us round a)) one).left in
       faults_in-append schema read r (step us round last a ∷ in_parts schema us round a) (in_first schema (after schema us a) round false (asked ks))
       ∙ ap (λ fs. fs ++ faults_in schema read r (in_first schema (after schema us a) round false (asked ks))) one
-      ∙ asked_fine ks (after schema us a) (types_after schema h a) seen (agree_behind h k.ty k.at k.name k.value m.0 agree) (λ vs e. (fine vs e).1) (all_stand_behind h k.ty k.at k.name k.value ks m.1 m.2)
+      ∙ asked_fine ks (after schema us a) (types_after schema h a) seen (agree_behind h k.ty k.at k.name k.value m.0 agree) (λ vs e. (fine vs e).1) (all_stand_behind schema round w.types h k.ty k.at k.name k.value ks m.1 m.2)
 
 -- The asks for a loop break no rule where they may stand.
 pub asks_fine : (schema : Schema) (reader : Reader schema) (l : Place) (r : Option Spelled) (round : Around) (vs : Visible) (g : Types) → MayBeAsked schema reader.read l.program l.path l.setting l.candidate → asking_specs.Sees vs g → AgreeOnEntries l.setting g → AllMayStand schema round l.setting.types g (asks_of l) → faults_in schema reader.read r (in_first schema vs round false (asked (asks_of l))) ≡ []

@@ -68,7 +68,7 @@ seen_alike f vs us g h s t alike =
           };
     }
 
-alike_after : (schema : Schema) (f : Set) (g h : Types) (a : Statement) → AlikeOn f g h → AlikeOn f (types_after schema g a) (types_after schema h a)
+pub alike_after : (schema : Schema) (f : Set) (g h : Types) (a : Statement) → AlikeOn f g h → AlikeOn f (types_after schema g a) (types_after schema h a)
 alike_after schema f g h (tree.Declare at ty x e) alike = λ y m. ap (λ o. cond (bytes_eq x y) (type_spelled schema ty) o) (alike y m)
 alike_after schema f g h (tree.Assign at x e) alike = alike
 alike_after schema f g h (tree.Add at x e) alike = alike
@@ -100,7 +100,7 @@ type_kept schema g (tree.Print at e) y other = refl
 type_kept schema g (tree.Return at e) y other = refl
 type_kept schema g (tree.Break at) y other = refl
 
-alike_dropped : (schema : Schema) (f : Set) (g h : Types) (a : Statement) → f (set_by a) ≡ false → AlikeOn f g h → AlikeOn f (types_after schema g a) h
+pub alike_dropped : (schema : Schema) (f : Set) (g h : Types) (a : Statement) → f (set_by a) ≡ false → AlikeOn f g h → AlikeOn f (types_after schema g a) h
 alike_dropped schema f g h a out alike = λ y m. type_kept schema g a y (other_name f (set_by a) y (bytes_eq (set_by a) y) refl out m) ∙ alike y m
 
 -- ---- The kept statements

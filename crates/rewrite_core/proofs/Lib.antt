@@ -17,6 +17,7 @@ pub mod May
 pub mod NoReturns
 pub mod Outer
 pub mod SpelledElements
+pub mod Standing
 pub mod TypedAnswers
 pub mod TypedArguments
 pub mod TypedAsks

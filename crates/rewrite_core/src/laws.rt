@@ -1,5 +1,5 @@
 //! Laws of asks, for the crates above. They do nothing.
-ghost use Rattle.std.specs.Prelude.{◌≡◌, ℕ, Bool, true, false, List, []};
+ghost use Rattle.std.specs.Prelude.{◌≡◌, ℕ, Bool, true, false, ◌||◌, List, []};
 ghost use Rattle.std.specs.List.{AllByRecursion};
 ghost use Rattle.std.specs.declared.option.Option.{Option};
 ghost use Rattle.std.specs.declared.option.Option.TheVariants.{Some, None};
@@ -21,7 +21,7 @@ ghost use Rattle.java_mean.specs.Places.{Around, in_statement};
 ghost use Rattle.java_mean.specs.Queries.{Reader};
 ghost use Rattle.java_mean.specs.Refines.{followed_by};
 ghost use Rattle.java_mean.specs.Rules.{returns};
-ghost use Rattle.java_mean.specs.Types.{Types};
+ghost use Rattle.java_mean.specs.Types.{Types, types_past};
 ghost use Rattle.java_mean.specs.Visible.{Visible};
 ghost use Rattle.java_mean.specs.WellTyped.{IsWellTyped, faults_in};
 ghost use Rattle.loop_text.specs.Statements.Fragment.{are_simple};
@@ -31,7 +31,7 @@ ghost use Rattle.java_loops.specs.Kernel.Kernel.{lowering};
 ghost use Rattle.java_loops.specs.Kernel.Setting.{Setting};
 ghost use Rattle.java_loops.specs.Meant.Asking.{AskForLoop};
 ghost use Rattle.java_loops.specs.Walks.Reads.{Set};
-ghost use Rattle.java_loops.specs.Walks.Replacing.{asked};
+ghost use Rattle.java_loops.specs.Walks.Replacing.{Ask, asked, is_asked, replacement, run_and_loop};
 ghost use Rattle.java_loops.specs.Walks.Runs.{kept, KeptRead};
 ghost use Rattle.fragments.specs.Asked.{queries_in, IsKernelLoop, HasQueriesOf};
 ghost use Rattle.rewrite_core.specs.Asked.{Place, asks_of, replaced};
@@ -130,6 +130,17 @@ pub fn runs_and_loops_return_nothing()
         → is_loop loop_statement ≡ true
         → faults_in schema read result (in_statement schema vs round last loop_statement) ≡ []
         → returns (followed_by run (Then loop_statement Nothing)) ≡ false }
+{}
+
+/// A run's kept statements and the asks leave the variables that are kept or asked for with the types that the run and its loop
+/// leave them with, where the asks may stand behind the kept statements.
+pub fn replacements_leave_types_alike()
+    ensures { (schema : Schema) (round : Around) (r : Set) (run : Statements) (loop_statement : Statement) (g : Types) (ks : List Ask)
+        → is_loop loop_statement ≡ true
+        → AllMayStand schema round (types_past schema g run) (types_past schema g (kept r run)) ks
+        → (x : List ℕ)
+        → (is_asked ks x || r x) ≡ true
+        → types_past schema g (run_and_loop run loop_statement) x ≡ types_past schema g (replacement r run ks) x }
 {}
 
 /// A program keeps what it does where a loop gives way to the asks that stand for it, if it stays well typed and its literals
