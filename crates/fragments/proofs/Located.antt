@@ -1,3 +1,4 @@
 pub mod Locations
 pub mod Placed
+pub mod RunsThere
 pub mod SettingThere

@@ -2,3 +2,4 @@ pub mod Asked
 pub mod AskedWorked
 pub mod Helping
 pub mod Lowers
+pub mod RunsThere

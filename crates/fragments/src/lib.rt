@@ -14,4 +14,5 @@ pub use loop_text::statements::walk::loops_of;
 pub use lowering::lowered::{Lowered, Outside};
 pub use places::located::needed;
 pub use places::loops::loops;
+pub use places::run::run_at;
 pub use verdict::lower;

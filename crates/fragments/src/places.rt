@@ -3,5 +3,6 @@
 pub mod located;
 pub mod loops;
 pub mod position;
+pub mod run;
 pub mod scopes;
 pub mod setting;
