@@ -23,7 +23,7 @@ use kernel_lang::Parts;
 use qbs_base::{Column, Name, NoMemory, Ty, Tys};
 use schema::Schema;
 use std::alloc::Global;
-use tor_terms::{Atom, Atoms, Operand};
+use tor_terms::copy_atoms;
 
 // ---- The types of entry values
 
@@ -87,44 +87,6 @@ fn types_of_entries(alloc: Global, w: &Setting, entries: &[&Expr]) -> Result<Tys
         tys.push(type_of_entry(w, e))?;
     }
     Ok(tys)
-}
-
-fn copy_operand(operand: &Operand) -> Result<Operand, NoMemory>
-    ensures { IfOk result (λ copy. copy ≡ operand.now) }
-{
-    match operand {
-        Operand::Field(j, c) => Ok(Operand::Field(*j, *c)),
-        Operand::Entry(k) => Ok(Operand::Entry(*k)),
-        Operand::Lit(value) => Ok(Operand::Lit(value.clone()?)),
-    }
-}
-
-fn copy_atom(atom: &Atom) -> Result<Atom, NoMemory>
-    ensures { IfOk result (λ copy. copy ≡ atom.now) }
-{
-    match atom {
-        Atom::Less(a, b) => {
-            let first = copy_operand(a)?;
-            Ok(Atom::Less(first, copy_operand(b)?))
-        }
-        Atom::Same(a, b) => {
-            let first = copy_operand(a)?;
-            Ok(Atom::Same(first, copy_operand(b)?))
-        }
-        Atom::Truth(a) => Ok(Atom::Truth(copy_operand(a)?)),
-        Atom::Member(a, q) => Ok(Atom::Member(copy_operand(a)?, *q)),
-        Atom::Flag(k, loops) => Ok(Atom::Flag(*k, loops.clone()?)),
-    }
-}
-
-fn copy_atoms(alloc: Global, atoms: &[Atom]) -> Result<Atoms, NoMemory>
-    ensures { IfOk result (λ copies. copies ≡ atoms.now) }
-{
-    let mut copies = Atoms::new(alloc);
-    for atom in atoms {
-        copies.push(copy_atom(atom)?)?;
-    }
-    Ok(copies)
 }
 
 // ---- The fragment

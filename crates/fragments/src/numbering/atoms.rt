@@ -3,8 +3,6 @@ ghost use Rattle.std.specs.Prelude.{◌≡◌, ◌≤◌, IfOk, OnOk, [], length
 ghost use Rattle.std.specs.List.{list_any};
 ghost use Rattle.std.specs.Option.{option_map};
 ghost use Rattle.java_ast.specs.Reading.{expression, statement};
-ghost use Rattle.qbs_base.specs.Scalar as scalars;
-ghost use Rattle.tor_terms.specs.Same as same;
 ghost use Rattle.fragments.specs.Helping.Numbered.{leaf_in_code, reading_in_code};
 ghost use Rattle.java_loops.specs.Lowering.Numbering as specs;
 ghost use Rattle.loop_text.specs.Sites.Reading.{exprs_lent};
@@ -21,9 +19,9 @@ use crate::places::setting::Setting;
 use java_ast::{Expr, ExprNode, Op, Stmt, StmtNode};
 use loop_text::sites::bindings::{Binding, binding_at, row_column_at};
 use loop_text::updates::starts::is_truth_of;
-use qbs_base::{Items, Name, NoMemory, Scalar, scalar_cmp};
+use qbs_base::{Items, Name, NoMemory};
 use std::alloc::Global;
-use tor_terms::{Atom, Atoms, Loops, Operand, same_operand};
+use tor_terms::{Atom, Atoms, Loops, Operand, same_numbers, same_operand, scalar_before};
 
 /// An atom, and the truth of it that a leaf says.
 #[derive(Drop)]
@@ -64,20 +62,6 @@ fn operand_of(
             Ok(Operand::Field(looped, column_of(w, column)))
         }
         None => operand_of_literal(entries, e),
-    }
-}
-
-fn scalar_before(x: &Scalar, y: &Scalar) -> bool
-    ensures { result ≡ scalars.scalar_before x.now y.now }
-{
-    match (x, y) {
-        (Scalar::Long(_), Scalar::Long(_)) => scalar_cmp(x, y).is_lt(),
-        (Scalar::Bool(_), Scalar::Bool(_)) => scalar_cmp(x, y).is_lt(),
-        (Scalar::Text(_), Scalar::Text(_)) => scalar_cmp(x, y).is_lt(),
-        (Scalar::Long(_), Scalar::Bool(_)) => true,
-        (Scalar::Long(_), Scalar::Text(_)) => true,
-        (Scalar::Bool(_), Scalar::Text(_)) => true,
-        _ => false,
     }
 }
 
@@ -220,16 +204,6 @@ pub fn reading_of(
 }
 
 // ---- Lists of atoms
-
-fn same_numbers(a: &[u32], b: &[u32]) -> bool
-    ensures { result ≡ same.same_numbers a.now b.now }
-{
-    match (a.split_first(), b.split_first()) {
-        (None, None) => true,
-        (Some((x, rest)), Some((y, others))) => *x == *y && same_numbers(rest, others),
-        _ => false,
-    }
-}
 
 fn same_atom(a: &Atom, b: &Atom) -> bool
     ensures { result ≡ specs.same_atom a.now b.now }

@@ -3,7 +3,6 @@ ghost use Rattle.std.specs.Prelude.{◌≡◌, IfOk};
 ghost use Rattle.std.specs.Option.{option_map};
 ghost use Rattle.java_ast.specs.Reading.{expression};
 ghost use Rattle.tor_terms.specs.Plain.{form_of};
-ghost use Rattle.tor_terms.specs.Same as same;
 ghost use Rattle.fragments.specs.Helping.Counted.{numbers_in_code, AreNumbersOf};
 ghost use Rattle.java_loops.specs.Lowering.Numbering as specs;
 ghost use Rattle.fragments.specs.Helping.Reading.{setting_in_code};
@@ -19,7 +18,7 @@ use loop_text::loops::counting::is_and;
 use loop_text::updates::best::{is_joined, is_or};
 use qbs_base::NoMemory;
 use std::alloc::Global;
-use tor_terms::Formula;
+use tor_terms::{Formula, same_flag};
 
 /// Both of two formulas: what is left out of a conjunction leaves the rest.
 pub fn both_of(
@@ -70,12 +69,6 @@ fn joined_of(
     }
 }
 
-fn same_truth(b: bool, c: bool) -> bool
-    ensures { result ≡ same.same_flag b c }
-{
-    b == c
-}
-
 fn leaf_form(
     alloc: Global,
     w: &Setting,
@@ -94,7 +87,7 @@ fn leaf_form(
     }
     let r = reading_of(alloc, w, c, t.entries.as_slice(), t.known.as_slice(), n, e)?;
     let number = atom_number(t.atoms.as_slice(), &r.atom);
-    Ok(Some(Formula::Is(number, same_truth(holds, r.holds))))
+    Ok(Some(Formula::Is(number, same_flag(holds, r.holds))))
 }
 
 /// The formula that a condition of the `if` with this number holds, or fails, without the conjunct of a best value.

@@ -4,13 +4,13 @@ ghost use Rattle.std.specs.List.{filter, list_all, list_any};
 ghost use Rattle.kernel_lang.specs.Plain.{accumulator};
 ghost use Rattle.kernel_lang.specs.Pools as specs;
 ghost use Rattle.tor_terms.specs.Plain.{form_of, forms_of};
-ghost use Rattle.tor_terms.specs.Same.{same_flag, same_form};
+ghost use Rattle.tor_terms.specs.Same.{same_form};
 ghost use Rattle.fragments.specs.Helping.Capped.{IsCapped, all_in, has_few};
 
 use kernel_lang::{Acc, pool_of};
 use qbs_base::NoMemory;
 use std::alloc::Global;
-use tor_terms::{Atom, Formula, Formulas, copy_formula};
+use tor_terms::{Atom, Formula, Formulas, copy_formula, same_formula};
 
 // What decides which formulas an accumulator's pool has: the atoms, its chain and its base.
 #[derive(Clone, Copy)]
@@ -18,23 +18,6 @@ struct Scope<'a> {
     atoms: &'a [Atom],
     chain: &'a [u32],
     base: u32,
-}
-
-fn same_truth(s: bool, t: bool) -> bool
-    ensures { result ≡ same_flag s t }
-{
-    s == t
-}
-
-fn same_formula(f: &Formula, g: &Formula) -> bool
-    ensures { result ≡ same_form (form_of f.now) (form_of g.now) }
-{
-    match (f, g) {
-        (Formula::Is(i, s), Formula::Is(j, t)) => *i == *j && same_truth(*s, *t),
-        (Formula::Both(f, g), Formula::Both(h, i)) => same_formula(f, h) && same_formula(g, i),
-        (Formula::Either(f, g), Formula::Either(h, i)) => same_formula(f, h) && same_formula(g, i),
-        _ => false,
-    }
 }
 
 fn is_there(pool: &[Formula], f: &Formula) -> bool

@@ -1,9 +1,7 @@
 // How many loops, accumulators, atoms, entry values, formulas and conditions a fragment has.
-ghost use Rattle.std.specs.Prelude.{◌≡◌, ◌+◌, ◌*◌, ◌≤◌, ◌&&◌, IfOk, true, false, drop, take, length, map, min, nat_le};
-ghost use Rattle.kernel_lang.specs.Paths as paths;
-ghost use Rattle.kernel_lang.specs.Plain.{accumulator, guard_of};
+ghost use Rattle.std.specs.Prelude.{◌≡◌, ◌+◌, ◌≤◌, ◌&&◌, IfOk, length, map, nat_le};
+ghost use Rattle.kernel_lang.specs.Plain.{accumulator};
 ghost use Rattle.kernel_lang.specs.Validity as validity;
-ghost use Rattle.tor_terms.specs.Plain.{form_of};
 ghost use Rattle.fragments.specs.Helping.Counted.{numbers_in_code, HasFewLoops, AreNumbersOf};
 ghost use Rattle.loop_text.specs.Statements.Fragment as fragment;
 ghost use Rattle.java_loops.specs.Kernel.Kernel.{is_small};
@@ -22,168 +20,12 @@ use crate::numbering::counts::counts_of;
 use crate::numbering::numbers::{Numbers, numbers_of};
 use crate::places::setting::Setting;
 use crate::rules::k8_pools::pools_are_small;
-use kernel_lang::Acc;
+use kernel_lang::{Acc, count_conditions};
 use loop_text::loops::limits::count_loops;
 use loop_text::sites::list::Sites;
 use loop_text::updates::targets::is_declaration;
 use qbs_base::{Name, NoMemory};
 use std::alloc::Global;
-use tor_terms::Formula;
-
-// Conditions are counted up to one more than may be.
-const CAP: u64 = 4097;
-
-fn sum_up_to_cap(a: u64, b: u64) -> u64
-    requires first { a ≤ CAP }
-    requires second { b ≤ CAP }
-    ensures { result ≡ min (a + b) CAP }
-{
-    (a + b).min(CAP)
-}
-
-fn product_up_to_cap(a: u64, b: u64) -> u64
-    requires first { a ≤ CAP }
-    requires second { b ≤ CAP }
-    ensures { result ≡ min (a * b) CAP }
-{
-    (a * b).min(CAP)
-}
-
-// How many paths decide a formula either way, up to the cap.
-#[derive(Clone, Copy)]
-struct PathCounts {
-    holds: u64,
-    fails: u64,
-}
-
-fn count_both(a: PathCounts, b: PathCounts) -> PathCounts
-    requires a_holds { a.holds ≤ CAP }
-    requires a_fails { a.fails ≤ CAP }
-    requires b_holds { b.holds ≤ CAP }
-    requires b_fails { b.fails ≤ CAP }
-    ensures holds { result.holds ≡ min (a.holds * b.holds) CAP }
-    ensures fails { result.fails ≡ min (a.fails + min (a.holds * b.fails) CAP) CAP }
-{
-    let fails = product_up_to_cap(a.holds, b.fails);
-    PathCounts {
-        holds: product_up_to_cap(a.holds, b.holds),
-        fails: sum_up_to_cap(a.fails, fails),
-    }
-}
-
-fn count_either(a: PathCounts, b: PathCounts) -> PathCounts
-    requires a_holds { a.holds ≤ CAP }
-    requires a_fails { a.fails ≤ CAP }
-    requires b_holds { b.holds ≤ CAP }
-    requires b_fails { b.fails ≤ CAP }
-    ensures holds { result.holds ≡ min (a.holds + min (a.fails * b.holds) CAP) CAP }
-    ensures fails { result.fails ≡ min (a.fails * b.fails) CAP }
-{
-    let holds = product_up_to_cap(a.fails, b.holds);
-    PathCounts {
-        holds: sum_up_to_cap(a.holds, holds),
-        fails: product_up_to_cap(a.fails, b.fails),
-    }
-}
-
-fn count_paths(f: &Formula) -> PathCounts
-    ensures holds { result.holds ≡ min (paths.count_paths (form_of f.now) true) CAP }
-    ensures fails { result.fails ≡ min (paths.count_paths (form_of f.now) false) CAP }
-{
-    match f {
-        Formula::Is(_, _) => PathCounts { holds: 1, fails: 1 },
-        Formula::Both(g, h) => {
-            let first = count_paths(g);
-            let second = count_paths(h);
-            count_both(first, second)
-        }
-        Formula::Either(g, h) => {
-            let first = count_paths(g);
-            let second = count_paths(h);
-            count_either(first, second)
-        }
-    }
-}
-
-fn count_guard(guard: &Option<Formula>) -> PathCounts
-    ensures holds { result.holds ≡ min (paths.count_guard (guard_of guard.now) true) CAP }
-    ensures fails { result.fails ≡ min (paths.count_guard (guard_of guard.now) false) CAP }
-{
-    match guard {
-        None => PathCounts { holds: 1, fails: 0 },
-        Some(f) => count_paths(f),
-    }
-}
-
-fn count_levels(ways: u64, guards: &[Option<Formula>]) -> u64
-    requires { ways ≤ CAP }
-    ensures { result ≡ min (validity.count_levels ways (map guard_of guards.now)) CAP }
-{
-    match guards.split_first() {
-        None => 0,
-        Some((guard, rest)) => {
-            let own = count_guard(guard);
-            let decided = sum_up_to_cap(own.holds, own.fails);
-            let level = sum_up_to_cap(2, decided);
-            let here = product_up_to_cap(ways, level);
-            let through = product_up_to_cap(ways, own.holds);
-            let inner = count_levels(through, rest);
-            sum_up_to_cap(here, inner)
-        }
-    }
-}
-
-fn count_ways(guards: &[Option<Formula>]) -> u64
-    ensures { result ≡ min (validity.count_ways (map guard_of guards.now)) CAP }
-{
-    match guards.split_first() {
-        None => 1,
-        Some((guard, rest)) => {
-            let own = count_guard(guard);
-            let inner = count_ways(rest);
-            product_up_to_cap(own.holds, inner)
-        }
-    }
-}
-
-// The guards before a level, and those from it on.
-#[tactic(auto, using(crate::proofs::Ruled::LoweredCounts::counting))]
-fn first_guards(guards: &[Option<Formula>], n: usize) -> &[Option<Formula>]
-    ensures { map guard_of result.now ≡ take n (map guard_of guards.now) }
-{
-    if n < guards.len() {
-        &guards[..n]
-    } else {
-        guards
-    }
-}
-
-fn last_guards(guards: &[Option<Formula>], n: usize) -> &[Option<Formula>]
-    ensures { map guard_of result.now ≡ drop n (map guard_of guards.now) }
-{
-    &guards[n.min(guards.len())..]
-}
-
-fn count_own(a: &Acc) -> u64
-    ensures { result ≡ min (validity.count_own (accumulator a.now)) CAP }
-{
-    let guards = a.guards.as_slice();
-    let ways = count_ways(first_guards(guards, a.base as usize));
-    count_levels(ways, last_guards(guards, a.base as usize))
-}
-
-fn count_conditions(accs: &[Acc]) -> u64
-    ensures { result ≡ min (validity.count_conditions (map accumulator accs.now)) CAP }
-{
-    match accs.split_first() {
-        None => 0,
-        Some((a, rest)) => {
-            let own = count_own(a);
-            let others = count_conditions(rest);
-            sum_up_to_cap(own, others)
-        }
-    }
-}
 
 fn conditions_are_few(accs: &[Acc]) -> bool
     ensures { result ≡ nat_le (validity.count_conditions (map accumulator accs.now)) 4096 }
