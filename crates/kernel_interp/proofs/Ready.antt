@@ -20,7 +20,7 @@ use Rattle.kernel_lang.specs.declared.parts.ListDef.{ListDef}
 use Rattle.kernel_lang.specs.declared.parts.Update.{Update}
 use Rattle.kernel_lang.specs.declared.parts.Update.TheVariants as updates
 use Rattle.kernel_lang.specs.Fitting.{PartsFit, UpdateFits, is_of}
-use Rattle.kernel_lang.specs.Given.{listed, list_at, world_given}
+use Rattle.kernel_lang.specs.Given.{listed, list_at, world_given, world_over}
 use Rattle.kernel_lang.specs.Plain.{Accumulator, Fragment}
 use Rattle.kernel_lang.specs.Running.{Layer, layers, with_row}
 use Rattle.kernel_lang.specs.Sentences.{AccumulatorIsValid, IsValid}
@@ -115,18 +115,6 @@ list_there : (db : Database) (defs : List ListDef) (j : ℕ) → list_or_none (s
 list_there db [] j = refl
 list_there db (d ∷ ds) zero = refl
 list_there db (d ∷ ds) (suc j) = list_there db ds j
-
-abbrev pub world_over : (ℕ → List Row) → Entry → World
-world_over lists entry =
-    record {
-      lists = lists;
-      turns = λ j. 0;
-      current = λ j. plain_row None;
-      entries = λ k. slice_get entry.values k;
-      known = λ q. get_or entry.known q [];
-      held = λ n. [];
-      flags = λ k rows. false;
-    }
 
 pub same_lists : (f : Fragment) (db : Database) (entry : Entry) (lists : List (Vec (Bor Row) Global)) → lists_seen lists ≡ map (listed db) f.lists → world_over (λ j. list_or_none (slice_get (lists_seen lists) j)) entry ≡ world_given f db entry
 same_lists f db entry lists e =

@@ -9,6 +9,7 @@ use Rattle.qbs_base.specs.declared.scalar.Row.{Row}
 use Rattle.tor_terms.specs.Plain.{Form}
 use Rattle.tor_terms.specs.Truth.{World}
 use Rattle.tor_terms.specs.Value.{plain_row}
+use Rattle.kernel_lang.specs.Given.{world_over}
 use Rattle.kernel_lang.specs.Plain.{Fragment}
 use Rattle.kernel_lang.specs.Running.{with_flags}
 use Rattle.kernel_lang.specs.Whole.{fragment_of}
@@ -36,16 +37,7 @@ plain_of s = fragment_of s.frag.now
 
 -- the world in which a fragment begins
 abbrev pub world_of : Setting → World
-world_of s =
-    record {
-      lists = λ j. list_or_none (slice_get (lists_seen s.lists.now) j);
-      turns = λ j. 0;
-      current = λ j. plain_row None;
-      entries = λ k. slice_get s.given.now.values k;
-      known = λ q. get_or s.given.now.known q [];
-      held = λ n. [];
-      flags = λ k rows. false;
-    }
+world_of s = world_over (λ j. list_or_none (slice_get (lists_seen s.lists.now) j)) s.given.now
 
 -- the world in which guards are read
 abbrev pub flagged : Setting → World

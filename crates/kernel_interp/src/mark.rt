@@ -12,13 +12,7 @@ use crate::given::rows_of;
 use crate::place::{Place, row_at};
 use crate::setting::Setting;
 use kernel_lang::Acc;
-use tor_terms::Formula;
-
-pub fn same_bool(a: bool, b: bool) -> bool
-    ensures { result ≡ spec.same_bool a b }
-{
-    if a { b } else { !b }
-}
+use tor_terms::{Formula, same_bool};
 
 fn truth(setting: Setting, k: u32, place: &Place) -> bool
     ensures { result ≡ spec.truth (world_of setting.entry) (plain_of setting.entry).atoms (rows_in place.now) k }

@@ -5,22 +5,9 @@ ghost use Rattle.kernel_lang.specs.Given as given;
 ghost use Rattle.qbs_base.specs.Scalar as scalars;
 
 use kernel_lang::Col;
-use qbs_base::{Row, Scalar, scalar_cmp};
+use qbs_base::{Row, Scalar};
 use std::cmp::Ordering;
-
-fn scalar_before(x: &Scalar, y: &Scalar) -> bool
-    ensures { result ≡ scalars.scalar_before x.now y.now }
-{
-    match (x, y) {
-        (Scalar::Long(_), Scalar::Long(_)) => scalar_cmp(x, y).is_lt(),
-        (Scalar::Bool(_), Scalar::Bool(_)) => scalar_cmp(x, y).is_lt(),
-        (Scalar::Text(_), Scalar::Text(_)) => scalar_cmp(x, y).is_lt(),
-        (Scalar::Long(_), Scalar::Bool(_)) => true,
-        (Scalar::Long(_), Scalar::Text(_)) => true,
-        (Scalar::Bool(_), Scalar::Text(_)) => true,
-        _ => false,
-    }
-}
+use tor_terms::scalar_before;
 
 // A missing value stands before all others.
 fn value_before(x: Option<&Scalar>, y: Option<&Scalar>) -> bool

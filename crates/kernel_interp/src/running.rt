@@ -1,7 +1,5 @@
 // What accumulators have while they run.
-ghost use Rattle.std.specs.Prelude.{◌≡◌, ◌+ℤ◌, true, IfOk, Some, option_copied};
-ghost use Rattle.std.specs.List.{list_any};
-ghost use Rattle.qbs_base.specs.Scalar as cells;
+ghost use Rattle.std.specs.Prelude.{◌≡◌, ◌+ℤ◌, true, IfOk, Some};
 ghost use Rattle.qbs_base.specs.declared.scalar.Scalar.TheVariants as scalars;
 ghost use Rattle.tor_terms.specs.Evaluation as found;
 ghost use Rattle.tor_terms.specs.Value as spec;
@@ -11,13 +9,12 @@ ghost use Rattle.kernel_lang.specs.Validity.{starts_as, is_number, is_false, sta
 ghost use Rattle.kernel_interp.specs.Ends.{Gives, GivesNumber, long_or_none, update_of, data_of, NumberFits};
 ghost use Rattle.kernel_interp.specs.Reading.{rows_in};
 
-use crate::atom::same;
 use crate::end::Stop;
 use crate::place::{Place, row_at};
 use kernel_lang::{Acc, Update};
-use qbs_base::{Items, Kind, NoMemory, Row, Rows, Scalar, Value};
+use qbs_base::{Items, NoMemory, Row, Rows, Scalar, Value};
 use std::alloc::Global;
-use tor_terms::{Elem, Way};
+use tor_terms::{Elem, Way, better, has_row, number_of, plain_row};
 
 /// An accumulator's update with what it has so far.
 #[derive(Drop)]
@@ -30,35 +27,12 @@ pub enum Running {
     Mark(bool),
 }
 
-// The row that stands for a scalar, or for none.
-fn plain_row(alloc: Global, x: Option<&Scalar>) -> Result<Row, NoMemory>
-    ensures { IfOk result (λ r. r ≡ spec.plain_row (option_copied x.entry)) }
-{
-    let mut cells = Items::new(alloc);
-    if let Some(x) = x {
-        cells.push(x.clone()?)?;
-    }
-    Ok(Row {
-        kind: Kind::Plain,
-        cells,
-    })
-}
-
 fn elem_at(alloc: Global, e: Elem, place: &Place) -> Result<Row, NoMemory>
     ensures { IfOk result (λ r. r ≡ spec.elem_at (rows_in place.now) e) }
 {
     match e {
         Elem::Whole(j) => Ok(row_at(place, j).clone()?),
         Elem::Field(j, c) => plain_row(alloc, row_at(place, j).cells.as_slice().get(c as usize)),
-    }
-}
-
-fn number_of(row: &Row) -> Option<i64>
-    ensures { result ≡ found.number_of row.now }
-{
-    match (row.kind, row.cells.as_slice()) {
-        (Kind::Plain, [Scalar::Long(n)]) => Some(*n),
-        _ => None,
     }
 }
 
@@ -89,52 +63,6 @@ fn sum(m: i64, n: i64) -> Result<i64, Stop>
         Some(all) => Ok(all),
         None => Err(Stop::Overflow),
     }
-}
-
-fn better(way: Way, m: i64, n: i64) -> i64
-    ensures { result ≡ spec.better way m n }
-{
-    match way {
-        Way::Max => { if m < n { n } else { m } }
-        Way::Min => { if n < m { n } else { m } }
-    }
-}
-
-fn same_kind(k: Kind, l: Kind) -> bool
-    ensures { result ≡ spec.same_kind k l }
-{
-    match (k, l) {
-        (Kind::Plain, Kind::Plain) => true,
-        (Kind::Table(m), Kind::Table(n)) => m == n,
-        _ => false,
-    }
-}
-
-fn same_cells(xs: &[Scalar], ys: &[Scalar]) -> bool
-    ensures { result ≡ cells.same_cells xs.now ys.now }
-{
-    match (xs.split_first(), ys.split_first()) {
-        (None, None) => true,
-        (Some((x, others)), Some((y, rest))) => same(x, y) && same_cells(others, rest),
-        _ => false,
-    }
-}
-
-fn same_row(r: &Row, s: &Row) -> bool
-    ensures { result ≡ spec.same_row r.now s.now }
-{
-    same_kind(r.kind, s.kind) && same_cells(r.cells.as_slice(), s.cells.as_slice())
-}
-
-fn has_row(rows: &[Row], r: &Row) -> bool
-    ensures { result ≡ list_any (spec.same_row r.now) rows.now }
-{
-    for s in rows {
-        if same_row(r, s) {
-            return true;
-        }
-    }
-    false
 }
 
 // Rows with one last, where it isn't among them.

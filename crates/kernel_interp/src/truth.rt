@@ -8,11 +8,11 @@ ghost use Rattle.kernel_lang.specs.Validity.{is_flag, names_a_flag};
 ghost use Rattle.kernel_interp.specs.Reading.{rows_in, world_of, flagged, plain_of, guard_at};
 
 use crate::atom::test_holds;
-use crate::mark::{guard, same_bool, set_at};
+use crate::mark::{guard, set_at};
 use crate::place::Place;
 use crate::setting::Setting;
 use kernel_lang::Acc;
-use tor_terms::{Atom, Formula};
+use tor_terms::{Atom, Formula, same_bool};
 
 // The accumulator with that number.
 #[tactic(auto, using(crate::proofs::Mapped::mapped))]
