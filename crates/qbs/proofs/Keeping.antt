@@ -37,7 +37,7 @@ use Rattle.sql_ast.specs.Valid.{IsFromItem, IsColOf, IsQueryOf}
 use Rattle.sql_ast.proofs.CanonicalQuery.{canonical_has_query}
 use Rattle.qbs.specs.declared.form.FirstForm.{FirstForm}
 use Rattle.qbs.specs.Form.{with, nodes_of, form_nodes, word, integer, is_variable, is_named_well, HasFirstForm}
-use Rattle.qbs.specs.Form as form
+use Rattle.java_parser.specs.Words as parsed
 use Rattle.qbs.specs.Made.{form_places, query_places, method_with, first_program, rewritten, selection_text}
 use Rattle.qbs.specs.Program.{long_column, is_long_type, is_long_column, is_long_at}
 use Rattle.qbs.proofs.Forms.{with_some}
@@ -238,7 +238,7 @@ module _ (tables : List Table) (f : FirstForm) (table column : ℕ) (h : HasPlac
 -- the variables of the form are two
 other_variables : (f : FirstForm) → is_named_well f ≡ true → f.row ≢ f.list
 other_variables f e same =
-    let h = both (form.is_name f.class && form.is_name f.method && is_variable f.list && is_variable f.row) (not (bytes_eq f.list f.row)) e in
+    let h = both (parsed.is_name f.class && parsed.is_name f.method && is_variable f.list && is_variable f.row) (not (bytes_eq f.list f.row)) e in
     let k : bytes_eq f.list f.row ≡ true = (bytes_eq-Decides f.list f.row).1 (sym same) in
     let l : not true ≡ true = subst (λ (b : Bool). not b ≡ true) k h.1 in
     absurd cc
