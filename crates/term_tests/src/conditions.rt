@@ -7,7 +7,7 @@ use std::alloc::Global;
 use std::test::Fail;
 use tor_axioms::Vcs;
 use tor_terms::{Atom, Atoms, Elem, Formula, Operand, Term, same_term};
-use vc_gen::conditions;
+use vc_gen::{conditions, own_condition};
 
 fn tests(alloc: Global) -> Result<Atoms, NoMemory> {
     let loops = numbers(alloc, &[0])?;
@@ -98,6 +98,52 @@ fn a_flag_has_conditions_of_its_own(rt: HostRuntime) -> Result<(), Fail> {
     let parts = parts(alloc)?;
     match KFragment::from_parts(Box::into_inner(parts)) {
         Ok(frag) => assert!(rt; are_as_written(alloc, &frag)?),
+        Err(sentence) => panic!(rt; "{sentence}"),
+    }
+    Ok(())
+}
+
+// How many facts each condition of an accumulator has that chooses the first formula of its pool.
+fn own_as_written(
+    alloc: Global,
+    atoms: &Atoms,
+    acc: &Acc,
+    facts: &[usize; 4],
+) -> Result<bool, NoMemory> {
+    if acc.chain.len() > 3 {
+        return Ok(false);
+    }
+    let Some(choice) = acc.pool.as_slice().get(..1) else {
+        return Ok(false);
+    };
+    for (n, count) in facts.iter().enumerate() {
+        match own_condition(alloc, atoms, acc, choice, n)? {
+            Some(condition) => {
+                if condition.facts.len() != *count {
+                    return Ok(false);
+                }
+            }
+            None => return Ok(false),
+        }
+    }
+    Ok(own_condition(alloc, atoms, acc, choice, 4)?.is_none())
+}
+
+fn each_as_written(alloc: Global, frag: &KFragment) -> Result<bool, NoMemory> {
+    for acc in frag.accs.as_slice() {
+        if !own_as_written(alloc, &frag.atoms, acc, &[0, 1, 1, 0])? {
+            return Ok(false);
+        }
+    }
+    Ok(frag.accs.len() == 2)
+}
+
+#[test]
+fn conditions_of_an_accumulator_come_one_at_a_time(rt: HostRuntime) -> Result<(), Fail> {
+    let alloc = rt.alloc();
+    let parts = parts(alloc)?;
+    match KFragment::from_parts(Box::into_inner(parts)) {
+        Ok(frag) => assert!(rt; each_as_written(alloc, &frag)?),
         Err(sentence) => panic!(rt; "{sentence}"),
     }
     Ok(())

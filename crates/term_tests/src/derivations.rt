@@ -3,8 +3,8 @@ use crate::turns::{added_row, added_top, condition};
 use qbs_base::NoMemory;
 use std::alloc::Global;
 use std::test::Fail;
-use tor_axioms::{Derivation, Step, Vc};
-use tor_prover::derive;
+use tor_axioms::{Condition, Derivation, Step, Vc};
+use tor_prover::{derive, derives};
 use tor_terms::{Atom, Index, Operand};
 
 // The condition of a turn in which the loop adds its row, where column 4 is true.
@@ -59,5 +59,27 @@ fn a_turn_is_derived_by_what_is_known_of_its_test(rt: HostRuntime) -> Result<(),
     assert_eq!(rt; shown(rt.alloc(), &[true, false]), "absurd");
     assert_eq!(rt; shown(rt.alloc(), &[false]), "none");
     assert_eq!(rt; shown(rt.alloc(), &[]), "none");
+    Ok(())
+}
+
+fn is_derived(alloc: Global, known: &[bool]) -> Result<bool, NoMemory> {
+    let vc = turn(alloc, known)?;
+    let Vc {
+        atoms,
+        facts,
+        left,
+        right,
+    } = Box::into_inner(vc);
+    let condition = Condition { facts, left, right };
+    derives(alloc, &atoms, &condition)
+}
+
+#[test]
+fn a_turn_is_derived_without_its_steps(rt: HostRuntime) -> Result<(), Fail> {
+    let alloc = rt.alloc();
+    assert!(rt; is_derived(alloc, &[true])?);
+    assert!(rt; is_derived(alloc, &[true, false])?);
+    assert!(rt; !is_derived(alloc, &[false])?);
+    assert!(rt; !is_derived(alloc, &[])?);
     Ok(())
 }

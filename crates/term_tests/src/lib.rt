@@ -19,6 +19,8 @@ mod made;
 #[cfg(test)]
 mod rules;
 #[cfg(test)]
+mod searched;
+#[cfg(test)]
 mod terms;
 #[cfg(test)]
 mod turns;
