@@ -16,48 +16,42 @@ use Rattle.sql_emit.specs.Given.{AreKnownTo, IsGiven, SaysWhatIsClaimed}
 use Rattle.sql_emit.proofs.Claims.{says}
 use Rattle.sql_emit.proofs.Entries.{entries_are}
 use Rattle.sql_emit.proofs.Flags.{column_taken}
-use Rattle.java_ast.specs.Tree.{Nothing, Then, PlainProgram}
+use Rattle.java_ast.specs.Tree.{PlainProgram}
 use Rattle.java_mean.specs.Asks.{frame_of}
 use Rattle.java_mean.specs.Numbers.{NumbersFit}
 use Rattle.java_mean.specs.Queries.{Reader}
-use Rattle.java_mean.specs.Refines.{loop_at, IsTypedPlace}
 use Rattle.java_mean.specs.Statement.{State, GoesOn, meanings}
-use Rattle.java_mean.specs.Types.{Types, types_of_params, types_past, IsTyped}
-use Rattle.java_mean.specs.Typing.{Frame, IsWorld, TypedStatements}
+use Rattle.java_mean.specs.Types.{Types, IsTyped}
+use Rattle.java_mean.specs.Typing.{IsWorld}
 use Rattle.java_mean.specs.WellTyped.{IsWellTyped}
 use Rattle.java_mean.specs.World.{World}
-use Rattle.java_mean.proofs.TypedPlaces.{places_typed}
 use Rattle.loop_text.specs.Statements.Fragment.{Fragment, accumulators, needed_of}
 use Rattle.java_loops.specs.Kernel.Kernel.{broken, lowering}
 use Rattle.java_loops.specs.Kernel.Setting.{Setting, setting_of}
 use Rattle.java_loops.specs.Lowering.Lowered.{needed_in_order}
-use Rattle.java_loops.specs.Lowering.Numbering.{numbers_of, entries_of, known_of}
+use Rattle.java_loops.specs.Lowering.Numbering.{numbers_of}
 use Rattle.java_loops.specs.Meant.Asking.{AskForLoop}
 use Rattle.java_loops.specs.Meant.GivesWay.{AreAnswers, AnswersWithAnswers}
 use Rattle.java_loops.specs.Meant.Means.{AreMatched, HasScalar, IsWholeAnswer, MeansItsLoopThere}
-use Rattle.java_loops.specs.Walks.Replacing.{seen_at, run_and_loop}
-use Rattle.java_loops.proofs.Known.KnownGiven.{IsGivenKnown, AreGiven, fragment_is_given}
+use Rattle.java_loops.specs.Walks.Replacing.{seen_at}
 use Rattle.java_loops.proofs.Listed.ListedRows.{IsSeenFragment, fragment_seen}
 use Rattle.java_loops.proofs.Lowering.LowerChains.{at_setting}
 use Rattle.java_loops.proofs.Lowering.LowerValid.{fragment_valid}
 use Rattle.java_loops.proofs.Meant.AnswersWhole.{answers_suffice}
 use Rattle.java_loops.proofs.Meant.MeanChains.{IsNeeded, all_needed}
-use Rattle.java_loops.proofs.Meant.MeanGiven.{entries_matched}
 use Rattle.java_loops.proofs.Nested.NestNames.{among_filtered}
 use Rattle.java_loops.proofs.Nested.NestRules.{Unbroken}
 use Rattle.java_loops.proofs.Placing.PlaceLoop.{kernel_unbroken}
 use Rattle.java_loops.proofs.Placing.PlaceTyped.{FragmentThere}
 use Rattle.java_loops.proofs.Starts.Start.{IsStarted, accumulator_started}
 use Rattle.java_loops.proofs.Typing.TypedFragment.{fragment_fits}
-use Rattle.java_loops.proofs.Walks.TypedPasses.{run_leaves_typed}
-use Rattle.java_loops.proofs.Walks.Visibility.{TypedParts, typed_parts, typed_past}
 use Rattle.fragments.specs.Asked.{queries_in}
 use Rattle.fragments.proofs.Known.KnownLoop.{known_to}
 use Rattle.rewrite_core.specs.Asked.{Place, asks_of}
 use Rattle.rewrite_core.specs.Asking.{MayBeAsked}
 use Rattle.rewrite_core.proofs.AllAnswer.{all_answer}
 use Rattle.rewrite_core.proofs.Asks.{emission_of, follow_first, asks_are, starts_asked, asks_read}
-use Rattle.rewrite_core.proofs.Known.{one_matched, known_answers}
+use Rattle.rewrite_core.proofs.GivenThere.{given_there}
 use Rattle.rewrite_core.proofs.Outer.{AreOuter, accumulators_there}
 
 module _ (schema : Schema) (reader : Reader schema) (p : PlainProgram) (path : List ℕ) (f : Fragment) (g : Types) (well : IsWellTyped schema reader.read p) (numbers : NumbersFit p) (there : FragmentThere schema reader.read p path f g) (rules : broken (setting_of schema reader.read g f) ≡ None) (candidate : List ℕ) (may : MayBeAsked schema reader.read p path (setting_of schema reader.read g f) candidate) where
@@ -97,44 +91,9 @@ module _ (schema : Schema) (reader : Reader schema) (p : PlainProgram) (path : L
   -- ---- At the loop
 
   module _ (here : MeansItsLoopThere schema reader.read p path w) (world : World) (is_world : IsWorld (frame_of schema reader.read here.method) world) (s t : State) (from : IsTyped schema (seen_at schema here.method here.hole) s.store) (passes : meanings f.run world s ≡ Ok (GoesOn t)) where
-    abbrev frame : Frame
-    frame = frame_of schema reader.read here.method
-
-    abbrev before : Types
-    before = seen_at schema here.method here.hole
-
-    abbrev around : Option Types
-    around = loop_at schema None (types_of_params schema here.method.params) here.hole
-
-    abbrev after : Types
-    after = types_past schema before (run_and_loop f.run f.loop)
-
-    place : IsTypedPlace frame None (types_of_params schema here.method.params) here.hole (run_and_loop f.run f.loop)
-    place = places_typed schema reader.read p here.number here.method here.hole (run_and_loop f.run f.loop) well numbers here.found here.stands
-
-    at_loop : IsTyped schema g t.store
-    at_loop = subst (λ z. IsTyped schema z t.store) (sym here.types) (run_leaves_typed frame around before after f.run f.loop place.typed world is_world s t from passes)
-
-    parts : TypedParts frame around before f.run (Then f.loop Nothing) after
-    parts = typed_parts frame around before f.run (Then f.loop Nothing) after place.typed
-
-    run : TypedStatements frame around before f.run g
-    run = subst (λ z. TypedStatements frame around before f.run z) (typed_past frame around before parts.middle f.run parts.first ∙ sym here.types) parts.first
-
-    given : AreGiven w world t
-    given = fragment_is_given schema reader.read f g seen unbroken.conditions here.method around before run world is_world s t at_loop there.place.placed.simple passes
-
     module _ (entry : Entry) (matched : AreMatched (HasScalar world t.store) (lowering w).entries entry.values) (typed : AreOf (lowering w).fragment.entries entry.values) (whole : AreMatched (IsWholeAnswer world t.store f.run) (numbers_of w).known entry.known) where
-      same_values : given.entries.values ≡ entry.values
-      same_values = one_matched world t.store (entries_of w) given.entries.values entry.values (entries_matched w world t given) matched
-
       given_so : IsGiven schema (lowering w).fragment (queries_in (lowering w).known) (lowering w).arguments world.db entry
-      given_so =
-          record {
-            database = is_world.tables;
-            values = typed;
-            answers = known_answers w world t is_world.asked entry.values (known_of w) entry.known (subst (λ zs. AllByRecursion (IsGivenKnown w world t zs) (known_of w)) same_values given.known) whole;
-          }
+      given_so = given_there schema reader p path f g well numbers there rules here world is_world s t from passes entry matched typed whole
 
       claimed : (k : ℕ) (m : Member) → slice_get (members (lowering w).fragment candidate) k ≡ Some m → m.0.base ≡ 0 → SaysWhatIsClaimed schema (lowering w).fragment candidate (queries_in (lowering w).known) (lowering w).arguments m (emission_of l m)
       claimed k m at base = says schema (lowering w).fragment candidate (queries_in (lowering w).known) (lowering w).arguments k m unbroken_fragment fits known at base

@@ -10,6 +10,7 @@ pub mod FaultlessArguments
 pub mod FaultlessAsks
 pub mod FaultlessCalls
 pub mod Fitting
+pub mod GivenThere
 pub mod Keeping
 pub mod KeptFaultless
 pub mod Known

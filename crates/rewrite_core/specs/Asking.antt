@@ -1,10 +1,12 @@
 -- What is asked of a loop whose asks have what its fragment ends with.
-use Rattle.std.specs.Prelude.{◌≡◌, ℕ, ◌<◌, true, false, List, [], ◌∷◌, length, bytes_eq, codes}
+use Rattle.std.specs.Prelude.{◌≡◌, ℕ, ◌<◌, true, false, List, [], ◌∷◌, length, bytes_eq, codes, Ok}
 use Rattle.std.specs.declared.option.Option.{Option}
 use Rattle.std.specs.declared.option.Option.TheVariants.{Some, None}
-use Rattle.qbs_base.specs.Values.{Schema}
+use Rattle.qbs_base.specs.Values.{Schema, AreOf}
+use Rattle.kernel_lang.specs.declared.parts.Entry.{Entry}
 use Rattle.sql_ast.specs.Tree.{PlainQuery}
 use Rattle.sql_ast.specs.Valid.{IsQueryOf}
+use Rattle.sql_emit.specs.Given.{IsGiven}
 use Rattle.sql_emit.specs.Numbered.{Emission}
 use Rattle.vc_gen.specs.Soundness.{EndsAnywhere}
 use Rattle.java_ast.specs.Tree.{Spelled, PlainProgram}
@@ -12,17 +14,21 @@ use Rattle.java_mean.specs.declared.types.JavaType.{JavaType}
 use Rattle.java_mean.specs.Places.{Around, in_expression}
 use Rattle.java_mean.specs.declared.types.Kindred.TheVariants.{Only}
 use Rattle.java_mean.specs.Rules.{type_of, is_set_of_rows, copied_row, aliased, is_walked}
-use Rattle.java_mean.specs.Types.{Types, type_spelled}
-use Rattle.java_mean.specs.Typing.{Frame, HasType}
+use Rattle.java_mean.specs.Statement.{State, GoesOn, meanings}
+use Rattle.java_mean.specs.Types.{Types, IsTyped, type_spelled}
+use Rattle.java_mean.specs.Typing.{Frame, HasType, IsWorld}
 use Rattle.java_mean.specs.Visible.{Visible, is_visible, type_at}
 use Rattle.java_mean.specs.WellTyped.{faults_in}
+use Rattle.java_mean.specs.World.{World}
 use Rattle.loop_text.specs.Statements.Names.{is_among}
 use Rattle.java_loops.specs.Kernel.Kernel.{lowering}
 use Rattle.java_loops.specs.Kernel.Setting.{Setting}
 use Rattle.java_loops.specs.Lowering.Lowered.{needed_in_order, names_read}
+use Rattle.java_loops.specs.Lowering.Numbering.{numbers_of}
+use Rattle.java_loops.specs.Meant.Means.{AreMatched, HasScalar, IsWholeAnswer}
 use Rattle.java_loops.specs.Walks.Reads.{Set}
 use Rattle.java_loops.specs.Walks.Replacing.{Ask, is_asked}
-use Rattle.fragments.specs.Asked.{IsKernelLoop, HasQueriesOf}
+use Rattle.fragments.specs.Asked.{queries_in, IsKernelLoop, HasQueriesOf}
 use Rattle.rewrite_core.specs.Asked.{emitted_for}
 
 -- what is emitted for the needed accumulators of a loop with this candidate is of the grammar of queries
@@ -84,3 +90,16 @@ AlikeOn f g h = (x : List ℕ) → f x ≡ true → g x ≡ h x
 pub record Sees (vs : Visible) (g : Types) : Type 0 where
   pub same : (x : List ℕ) → type_at vs x ≡ g x
   pub known : (x : List ℕ) → is_visible vs x ≡ true → (k : JavaType) × (type_at vs x ≡ Some k)
+
+-- In a world of the frame, from a typed store: entry values and whole answers of the known queries that are there behind the
+-- run are a database, values and known lists as emission asks for them.
+abbrev pub IsGivenThere : Frame → Types → Setting → Type 0
+IsGivenThere c before w =
+    (world : World) → IsWorld c world
+    → (s t : State) → IsTyped c.schema before s.store
+    → meanings w.fragment.run world s ≡ Ok (GoesOn t)
+    → (entry : Entry)
+    → AreMatched (HasScalar world t.store) (lowering w).entries entry.values
+    → AreOf (lowering w).fragment.entries entry.values
+    → AreMatched (IsWholeAnswer world t.store w.fragment.run) (numbers_of w).known entry.known
+    → IsGiven c.schema (lowering w).fragment (queries_in (lowering w).known) (lowering w).arguments world.db entry

@@ -31,11 +31,21 @@ ghost use Rattle.java_loops.specs.Kernel.Kernel.{lowering};
 ghost use Rattle.java_loops.specs.Kernel.Setting.{Setting};
 ghost use Rattle.java_loops.specs.Meant.Asking.{AskForLoop};
 ghost use Rattle.java_loops.specs.Walks.Reads.{Set};
-ghost use Rattle.java_loops.specs.Walks.Replacing.{Ask, asked, is_asked, replacement, run_and_loop};
+ghost use Rattle.java_loops.specs.Meant.Means.{MeansItsLoopThere};
+ghost use Rattle.java_loops.specs.Walks.Replacing.{Ask, asked, is_asked, replacement, run_and_loop, seen_at};
 ghost use Rattle.java_loops.specs.Walks.Runs.{kept, KeptRead};
 ghost use Rattle.fragments.specs.Asked.{queries_in, IsKernelLoop, HasQueriesOf};
 ghost use Rattle.rewrite_core.specs.Asked.{Place, asks_of, replaced};
-ghost use Rattle.rewrite_core.specs.Asking.{QueriesAreValid, MayBeAsked, AgreeOnEntries, IsTypedAsk, SeesEntries, IsFaultlessAsk, Sees, AlikeOn, AllMayStand};
+ghost use Rattle.rewrite_core.specs.Asking.{IsGivenThere, QueriesAreValid, MayBeAsked, AgreeOnEntries, IsTypedAsk, SeesEntries, IsFaultlessAsk, Sees, AlikeOn, AllMayStand};
+
+/// At a loop of the kernel form, in a world of its method's frame, entry values and whole answers of the known queries are
+/// what emission asks for: the known lists are what the known queries answer to the entry values.
+pub fn whole_answers_are_given()
+    ensures { (schema : Schema) (reader : Reader schema) (p : PlainProgram) (path : List ℕ) (w : Setting)
+        → IsKernelLoop schema reader.read p path w
+        → (here : MeansItsLoopThere schema reader.read p path w)
+        → IsGivenThere (frame_of schema reader.read here.method) (seen_at schema here.method here.hole) w }
+{}
 
 /// The asks that stand for a loop of the kernel form ask for what the loop makes: each is for the variable of a needed
 /// accumulator, reads what the fragment's entry values read, and has what the fragment ends with, wherever the loop stands in a
