@@ -54,9 +54,9 @@ use Rattle.java_loops.proofs.Typing.Visible.{names_back}
 
 -- An ask for the variable fits where its first statement stood: what that assigns is there before the run, and what it
 -- declares has the type with which it is visible behind the run.
-record FitsStart (schema : Schema) (before after : Types) (x : List ℕ) (s : Statement) : Type 0 where
-  there : IsThere before (spelled_by s) x
-  same : HasSameType schema after (spelled_by s) x
+pub record FitsStart (schema : Schema) (before after : Types) (x : List ℕ) (s : Statement) : Type 0 where
+  pub there : IsThere before (spelled_by s) x
+  pub same : HasSameType schema after (spelled_by s) x
 
 start_fits_here : (c : Frame) (l : Option Types) (g h z : Types) (s : Statement) (x : List ℕ) (e : Expression) → Gives s x e → TypedStatement c l g s h → Extends z h → FitsStart c.schema g z x s
 start_fits_here c l g h z _ _ _ (declares at ty x e) t i =
@@ -93,7 +93,7 @@ some_statement a s e = cc
 touches_given : (x : List ℕ) (s : Statement) → bytes_eq (set_by s) x ≡ true → touches x s ≡ true
 touches_given x s h = or_left (bytes_eq (set_by s) x) (is_among (mentioned_in s) x) h
 
-start_fits : (c : Frame) (l : Option Types) (x : List ℕ) (g z : Types) (run : Statements) → Starts x run → TypedStatements c l g run z → (s : Statement) → first_touching x run ≡ Some s → FitsStart c.schema g z x s
+pub start_fits : (c : Frame) (l : Option Types) (x : List ℕ) (g z : Types) (run : Statements) → Starts x run → TypedStatements c l g run z → (s : Statement) → first_touching x run ≡ Some s → FitsStart c.schema g z x s
 start_fits c l x g z _ (here a p e given plain none) t s found =
     let n : TypedNext c l g a p z = next_of c l g a p z t in
     let touched : touches x a ≡ true = touches_given x a (given_sets x a e given) in
@@ -112,7 +112,7 @@ order_wider y x ys true h = or_right (bytes_eq x y) (is_among ys x) h
 order_wider y x ys false h = h
 
 -- each name that the run starts is in the order of the run
-started_in_order : (xs : Names) (x : List ℕ) (run : Statements) → is_among xs x ≡ true → Starts x run → is_among (set_in_order xs run) x ≡ true
+pub started_in_order : (xs : Names) (x : List ℕ) (run : Statements) → is_among xs x ≡ true → Starts x run → is_among (set_in_order xs run) x ≡ true
 started_in_order xs x _ h (here s ss e given plain none) =
     let sets : bytes_eq (set_by s) x ≡ true = given_sets x s e given in
     ap (λ b. is_among (cond b (set_by s ∷ set_in_order xs ss) (set_in_order xs ss)) x) (ap (is_among xs) (names_equal (set_by s) x sets) ∙ h)
@@ -130,7 +130,7 @@ not_in_order xs x (Then s ss) h =
     order_without (set_by s) x (set_in_order xs ss) (is_among xs (set_by s)) (or_parts (bytes_eq (set_by s) x) (is_among (mentioned_in s) x) two.0).0 (not_in_order xs x ss two.1)
 
 -- one of these statements starts the variable and no other mentions it, or none mentions it
-abbrev AtMostOnce : List ℕ → Statements → Type 0
+abbrev pub AtMostOnce : List ℕ → Statements → Type 0
 AtMostOnce x p = Starts x p ⊎ (is_found (first_touching x p) ≡ false)
 
 started_rest : (x : List ℕ) (s : Statement) (ss : Statements) → Starts x (Then s ss) → AtMostOnce x ss
@@ -158,7 +158,7 @@ apart_step xs y ys true e h a = (h e, a)
 apart_step xs y ys false e h a = a
 
 -- each name stands once in the order of the run
-order_apart : (xs : Names) (p : Statements) → ((x : List ℕ) → is_among xs x ≡ true → AtMostOnce x p) → AreApart (set_in_order xs p)
+pub order_apart : (xs : Names) (p : Statements) → ((x : List ℕ) → is_among xs x ≡ true → AtMostOnce x p) → AreApart (set_in_order xs p)
 order_apart xs Nothing h = tt
 order_apart xs (Then s ss) h =
     apart_step xs (set_by s) (set_in_order xs ss) (is_among xs (set_by s)) refl
@@ -169,7 +169,7 @@ order_apart xs (Then s ss) h =
 
 module _ (w : Setting) where
   -- what is asked for are these names
-  asked_are : (xs : Names) (ks : List Ask) → AreMatched (IsForStarted w) xs ks → (x : List ℕ) → is_asked ks x ≡ is_among xs x
+  pub asked_are : (xs : Names) (ks : List Ask) → AreMatched (IsForStarted w) xs ks → (x : List ℕ) → is_asked ks x ≡ is_among xs x
   asked_are [] [] m x = refl
   asked_are (y ∷ ys) (k ∷ ks) m x = ap₂ (λ a b. a || b) (ap (λ z. bytes_eq z x) m.0.name ∙ names_back y x) (asked_are ys ks m.1 x)
   asked_are [] (k ∷ ks) m x = absurd m
@@ -177,17 +177,17 @@ module _ (w : Setting) where
 
   module _ (schema : Schema) (before : Types) (r : Set) where
     -- the set hasn't the name, and an ask for it fits where its first statement stood
-    record IsReady (x : List ℕ) : Type 0 where
-      outside : r x ≡ false
-      fits : (s : Statement) → first_touching x w.fragment.run ≡ Some s → FitsStart schema before w.types x s
+    pub record IsReady (x : List ℕ) : Type 0 where
+      pub outside : r x ≡ false
+      pub fits : (s : Statement) → first_touching x w.fragment.run ≡ Some s → FitsStart schema before w.types x s
 
     abbrev ReadsSet : Ask → Type 0
     ReadsSet k = Reads r k.value
 
-    ask_there : (x : List ℕ) (k : Ask) (m : IsForStarted w x k) → IsReady x → IsThere before k.ty k.name
+    pub ask_there : (x : List ℕ) (k : Ask) (m : IsForStarted w x k) → IsReady x → IsThere before k.ty k.name
     ask_there x k m h = subst (λ ty. IsThere before ty k.name) (sym m.ty) (subst (IsThere before (spelled_by m.start)) (sym m.name) (h.fits m.start m.found).there)
 
-    ask_same : (x : List ℕ) (k : Ask) (m : IsForStarted w x k) → IsReady x → HasSameType schema w.types k.ty k.name
+    pub ask_same : (x : List ℕ) (k : Ask) (m : IsForStarted w x k) → IsReady x → HasSameType schema w.types k.ty k.name
     ask_same x k m h = subst (λ ty. HasSameType schema w.types ty k.name) (sym m.ty) (subst (HasSameType schema w.types (spelled_by m.start)) (sym m.name) (h.fits m.start m.found).same)
 
     all_fit : (xs : Names) (ks : List Ask) → AreMatched (IsForStarted w) xs ks → AreApart xs → AllByRecursion IsReady xs → AllByRecursion ReadsSet ks → AllFit r before ks
@@ -256,35 +256,35 @@ module _ (schema : Schema) (read : List ℕ → Option PlainQuery) (p : PlainPro
   set : IsKeptSet f further r
   set = is_kept_set f further
 
-  not_kept : (x : List ℕ) → dropped_of f x ≡ true → r x ≡ false
+  pub not_kept : (x : List ℕ) → dropped_of f x ≡ true → r x ≡ false
   not_kept x d = false_from_ne_true (r x) (λ h. let e : dropped_of f x ≡ false = set.not_dropped x h in absurd cc)
 
-  needed_dropped : (x : List ℕ) → is_among (needed_of f) x ≡ true → dropped_of f x ≡ true
+  pub needed_dropped : (x : List ℕ) → is_among (needed_of f) x ≡ true → dropped_of f x ≡ true
   needed_dropped x h = or_left (is_among (accumulators f) x) (is_name (counter f.loop) x) (among_filtered _ (accumulators f) x h).0
 
-  needed_started : (x : List ℕ) → is_among (needed_of f) x ≡ true → Starts x f.run
+  pub needed_started : (x : List ℕ) → is_among (needed_of f) x ≡ true → Starts x f.run
   needed_started x h = dropped_started w unbroken x (needed_dropped x h)
 
-  needed_ready : (x : List ℕ) → is_among (needed_of f) x ≡ true → IsReady w schema before r x
+  pub needed_ready : (x : List ℕ) → is_among (needed_of f) x ≡ true → IsReady w schema before r x
   needed_ready x h = record { outside = not_kept x (needed_dropped x h); fits = λ s found. start_fits c there.typed.loop x before g f.run (needed_started x h) there.typed.run s found }
 
-  all_ready : AllByRecursion (IsReady w schema before r) (needed_in_order w)
+  pub all_ready : AllByRecursion (IsReady w schema before r) (needed_in_order w)
   all_ready = all_more (IsNeeded (needed_of f)) (IsReady w schema before r) (λ x h. needed_ready x h) (needed_in_order w) (all_needed (needed_of f) f.run)
 
   -- entry values read kept variables alone
-  entries_kept : (x : List ℕ) → is_among further x ≡ true → r x ≡ true
+  pub entries_kept : (x : List ℕ) → is_among further x ≡ true → r x ≡ true
   entries_kept x h =
       let entries : AllByRecursion (IsEntryFrom w) (entries_of w) = all_more (IsGoodEntry w) (IsEntryFrom w) (λ e i. entry_from w i.number e i.entry) (entries_of w) (entries_good schema read f g (fragment_seen schema read p path f g well there) unbroken.conditions) in
       set.holds x (steady_outside w unbroken x (entries_steady w (entries_of w) entries x h)) (wanted.read x h)
 
-  asks_read : AllByRecursion (λ (k : Ask). Reads r k.value) ks
+  pub asks_read : AllByRecursion (λ (k : Ask). Reads r k.value) ks
   asks_read = all_more (λ (k : Ask). Reads (is_among further) k.value) (λ (k : Ask). Reads r k.value) (λ k h. reads_wider k.value (is_among further) r entries_kept h) ks asks.reads
 
-  before_live : (x : List ℕ) (k : JavaType) → before x ≡ Some k → is_live f x ≡ true
+  pub before_live : (x : List ℕ) (k : JavaType) → before x ≡ Some k → is_live f x ≡ true
   before_live x k seen = or_left (is_among f.visible x) (is_among (mentioned_behind f) x) (sym (there.typed.visible x) ∙ ap is_some seen)
 
   -- a live variable is kept or asked for
-  live_known : (x : List ℕ) (b : Bool) → is_among (accumulators f) x ≡ b → is_live f x ≡ true → (r x || is_asked ks x) ≡ true
+  pub live_known : (x : List ℕ) (b : Bool) → is_among (accumulators f) x ≡ b → is_live f x ≡ true → (r x || is_asked ks x) ≡ true
   live_known x true a l =
       or_right (r x) (is_asked ks x)
       (let needed : is_among (needed_of f) x ≡ true = among_filter _ (accumulators f) x a l in asked_are w (needed_in_order w) ks asks.starts x ∙ started_in_order (needed_of f) x f.run needed (needed_started x needed))

@@ -51,7 +51,7 @@ many_behind zero p h = omega arith
 many_behind (suc n) Nothing h = absurd (omega arith)
 many_behind (suc n) (Then s p) h = let ih : n + how_many (behind_of n p) ≡ how_many p = many_behind n p (omega arith) in omega arith
 
-some_is : {A : Type 0} (a b : A) → Some a ≡ Some b → a ≡ b
+pub some_is : {A : Type 0} (a b : A) → Some a ≡ Some b → a ≡ b
 some_is a b e = cc
 
 -- as many statements behind both numbers
@@ -83,7 +83,7 @@ module _ (b m : ℕ) (path : List ℕ) (f : Fragment) (first number : ℕ) (ih :
   number_deeper names (Some s) h i run = number_branch (names s) (branch_of b s) h i run
 
 -- The run of a fragment begins at one number of its block.
-number_is : (path : List ℕ) (names : Names) (n : ℕ) (block : Statements) (f : Fragment) (first number : ℕ) → fragment_in names path n block ≡ Some f → first_in path n block ≡ Some first → number ≤ last_of (n ∷ path) → run_in path n number block ≡ f.run → first ≡ number
+pub number_is : (path : List ℕ) (names : Names) (n : ℕ) (block : Statements) (f : Fragment) (first number : ℕ) → fragment_in names path n block ≡ Some f → first_in path n block ≡ Some first → number ≤ last_of (n ∷ path) → run_in path n number block ≡ f.run → first ≡ number
 number_is [] names n block f first number h i below run =
     sym (some_is (how_many (before_run (paths.first_of n block))) first i) ∙ number_here names n number block (behind_of n block) f refl h below run
 number_is (b ∷ []) names n block f first number h i below run = absurd cc
@@ -112,32 +112,32 @@ module _ (schema : Schema) (reader : Reader schema) (p : PlainProgram) (path : L
   abbrev down : List ℕ
   down = there.place.down
 
-  fragment_there : fragment_in (names_of_params m.params) down n m.body ≡ Some f
+  pub fragment_there : fragment_in (names_of_params m.params) down n m.body ≡ Some f
   fragment_there =
       sym (ap (λ z. fragment_at z p) there.place.is ∙ ap (found_in (λ (z : PlainMethod). fragment_in (names_of_params z.params) down n z.body)) there.place.found) ∙ leads
 
-  first_there : first_in down n m.body ≡ Some first
+  pub first_there : first_in down n m.body ≡ Some first
   first_there = sym (ap (λ z. first_at z p) there.place.is ∙ ap (found_in (λ (z : PlainMethod). first_in down n z.body)) there.place.found) ∙ begins
 
-  first_is : first ≡ there.place.placed.number
+  pub first_is : first ≡ there.place.placed.number
   first_is = number_is down (names_of_params m.params) n m.body f first there.place.placed.number fragment_there first_there there.place.placed.before_loop there.place.placed.run_there
 
-  place_is : place_in down n first m.body ≡ there.place.placed.hole
+  pub place_is : place_in down n first m.body ≡ there.place.placed.hole
   place_is = ap (λ j. place_in down n j m.body) first_is ∙ there.place.placed.place
 
-  new_is : and_then (with_numbers kept first f.run) (asked ks) ≡ replacement r f.run ks
+  pub new_is : and_then (with_numbers kept first f.run) (asked ks) ≡ replacement r f.run ks
   new_is =
       and_then_is (with_numbers kept first f.run) (asked ks)
       ∙ ap (λ q. followed_by q (asked ks)) (numbers_keep f further r (is_kept_set f further) first f.run kept numbers)
 
-  replaced_is : (new : Statements) → replaced_at path first new p ≡ with_statements p there.place.number there.place.placed.hole new
+  pub replaced_is : (new : Statements) → replaced_at path first new p ≡ with_statements p there.place.number there.place.placed.hole new
   replaced_is new =
       let k : MethodAt there.place.number p.methods m = method_at there.place.number p.methods m there.place.found in
       let body : replaced_in down n first new m.body ≡ fill there.place.placed.hole new = replaced_fills down n first new m.body f.loop there.place.placed.loop_there ∙ ap (λ h. fill h new) place_is in
       ap (λ z. replaced_at z first new p) there.place.is
       ∙ ap (with_methods p) (k.changed (λ z. with_body z (replaced_in down n first new z.body)) ∙ ap (λ b. k.before ++ with_body m b ∷ k.after) body ∙ sym (k.changed (λ z. with_body z (fill there.place.placed.hole new))))
 
-  rewritten_is : rewritten_at path first kept w ks p ≡ with_statements p there.place.number there.place.placed.hole (replacement r f.run ks)
+  pub rewritten_is : rewritten_at path first kept w ks p ≡ with_statements p there.place.number there.place.placed.hole (replacement r f.run ks)
   rewritten_is = ap (λ q. replaced_at path first q p) new_is ∙ replaced_is (replacement r f.run ks)
 
   rewritten_keeps : AskForLoop schema reader.read p path w ks → IsWellTyped schema reader.read (rewritten_at path first kept w ks p) → NumbersFit (rewritten_at path first kept w ks p) → Keeps p (rewritten_at path first kept w ks p) schema
