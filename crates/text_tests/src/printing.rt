@@ -88,11 +88,23 @@ fn replaced_text(
 }
 
 /// The same, with the program itself.
-fn put_text(alloc: Global, program: Program) -> Result<Option<Text>, NoMemory> {
+fn put_text(
+    alloc: Global,
+    program: Box<Program>,
+    path: &Path,
+    with: Vec<Stmt>,
+) -> Result<Option<Text>, NoMemory> {
+    match put_at(alloc, Box::into_inner(program), path, 0, with) {
+        Ok(changed) => printed(alloc, &changed),
+        Err(NoMemory) => Err(NoMemory),
+    }
+}
+
+fn copied_put_text(alloc: Global, program: &Program) -> Result<Option<Text>, NoMemory> {
     let path = return_path(alloc)?;
     let with = one_break(alloc)?.into_vec();
-    let changed = put_at(alloc, program, &path, 0, with)?;
-    printed(alloc, &changed)
+    let copy = Box::new(alloc, copy_program(alloc, program)?)?;
+    put_text(alloc, copy, &path, with)
 }
 
 fn copied_text(alloc: Global, program: &Program) -> Result<Option<Text>, NoMemory> {
@@ -112,10 +124,7 @@ fn changed_text(
         Change::Replaced => {
             replaced_text(alloc, program, &return_path(alloc)?, &one_break(alloc)?)
         }
-        Change::Put => match copy_program(alloc, program) {
-            Ok(copy) => put_text(alloc, copy),
-            Err(NoMemory) => Err(NoMemory),
-        },
+        Change::Put => copied_put_text(alloc, program),
     }
 }
 
