@@ -14,14 +14,14 @@ ghost use Rattle.kernel_lang.specs.Plain as kernel;
 ghost use Rattle.kernel_lang.specs.Running.{fragment_end};
 ghost use Rattle.java_loops.specs.Meant.Members.{HaveSameMembers, SameButForOrder};
 ghost use Rattle.loop_text.specs.Statements.Names.{Names};
-ghost use Rattle.loop_text.specs.Statements.Fragment.{Fragment, IsWanted, IsClosed, are_simple, before_run, run_of, fragment_at};
+ghost use Rattle.loop_text.specs.Statements.Fragment.{Fragment, IsWanted, IsClosed, drops, live_or, are_simple, before_run, run_of, fragment_at};
 ghost use Rattle.loop_text.specs.Statements.KeptStatements.{first_at};
 ghost use Rattle.loop_text.specs.Statements.Walking.{IsLoopOf};
 
 /// The wanted variables of a fragment are in each closed set.
-#[tactic(auto, using(crate::proofs::Kept::Least::wanted_in_closed))]
+#[tactic(auto, using(crate::proofs::Walks::Walks::needed_in_closed))]
 pub fn wanted_variables_are_the_least_set()
-    ensures { (f : Fragment) (further : Names) (r : List ℕ → Bool) (x : List ℕ) → IsClosed f further r → IsWanted f further x → r x ≡ true }
+    ensures { (f : Fragment) (further : Names) (r : List ℕ → Bool) (x : List ℕ) → IsClosed (live_or f further) (drops f) f.run r → IsWanted f further x → r x ≡ true }
 {}
 
 /// The run at the end of statements has simple statements alone, and there is no longer one: wherever

@@ -1,9 +1,10 @@
 //! Laws of the variables that a replacement needs. They do nothing.
 ghost use Rattle.std.specs.Prelude.{◌≡◌, ℕ, Bool, true, List};
 ghost use Rattle.java_ast.specs.Tree.{Statements};
+ghost use Rattle.loop_text.specs.Statements.Fragment.{IsNeeded, IsClosed};
 ghost use Rattle.java_loops.specs.Walks.Reads.{Set};
 ghost use Rattle.java_loops.specs.Walks.Runs.{KeptRead};
-ghost use Rattle.java_loops.specs.Walks.Needed.{IsNeeded, IsClosed, AreNeeded, keeping, walked, needed, KeptAlone};
+ghost use Rattle.java_loops.specs.Walks.Needed.{AreNeeded, keeping, walked, needed, KeptAlone};
 
 /// The needed variables are in each closed set. A walk through the run adds needed ones alone and takes none
 /// away, and a set to which it adds nothing is closed: so the walk, repeated until it adds nothing, comes to

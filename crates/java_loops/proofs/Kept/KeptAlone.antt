@@ -9,13 +9,13 @@ use Rattle.java_loops.specs.Walks.Needed.{needed, KeptAlone}
 use Rattle.java_loops.specs.Walks.Runs.{Gives, declares, assigns, KeptRead}
 use Rattle.java_loops.proofs.Walks.EnoughWalks.{needed_closed}
 use Rattle.java_loops.proofs.Walks.Walks.{closed_reads}
-use Rattle.loop_text.specs.Statements.Fragment.{Fragment, accumulators, counter, is_name, is_live, set_by, StandsIn, first, after}
+use Rattle.loop_text.specs.Statements.Fragment.{Fragment, accumulators, counter, is_name, is_live, set_by, StandsIn, first, after, drops, live_or}
 use Rattle.loop_text.specs.Kernel.KernelLoop.{starts_at_zero}
 use Rattle.java_loops.specs.Kernel.KernelLoop.{broken_loop}
 use Rattle.loop_text.specs.Statements.Names.{Names, is_among, mentioned_in}
 use Rattle.java_loops.specs.Kernel.Setting.{Setting}
 use Rattle.loop_text.specs.Statements.Setting.{touches, first_touching, is_found, given_by}
-use Rattle.java_loops.specs.Meant.KeptNumbers.{base_of, dropped_of, kept_set}
+use Rattle.java_loops.specs.Meant.KeptNumbers.{kept_set}
 use Rattle.java_loops.proofs.Nested.NestCounter.{Kind, each, counts, loop_kind, counted_name}
 use Rattle.java_loops.proofs.Nested.NestRules.{Unbroken}
 use Rattle.java_loops.proofs.Nested.NestStarts.{Starts, here, later, accumulator_starts, counter_starts}
@@ -60,24 +60,24 @@ counter_started f _ (each at ty y e b) x h = absurd cc
 counter_started f _ (counts at c b k e i z) x h = counter_starts x f.run (subst (λ y. starts_at_zero y f.run ≡ true) (sym (counted_name c k x e h)) z)
 
 -- the run starts what is dropped
-pub dropped_started : (w : Setting) → Unbroken w → (x : List ℕ) → dropped_of w.fragment x ≡ true → Starts x w.fragment.run
+pub dropped_started : (w : Setting) → Unbroken w → (x : List ℕ) → drops w.fragment x ≡ true → Starts x w.fragment.run
 dropped_started w u x h =
     ⊎_elim (λ a. accumulator_starts w u x a) (λ c. counter_started w.fragment w.fragment.loop (loop_kind w u) x c)
     (or_cases (is_among (accumulators w.fragment) x) (is_name (counter w.fragment.loop) x) h)
 
 -- No kept statement mentions a dropped variable.
-dropped_alone : (w : Setting) → Unbroken w → KeptAlone (dropped_of w.fragment) w.fragment.run
+dropped_alone : (w : Setting) → Unbroken w → KeptAlone (drops w.fragment) w.fragment.run
 dropped_alone w u s x i d m =
-    false_from_ne_true (dropped_of w.fragment x) (λ e.
+    false_from_ne_true (drops w.fragment x) (λ e.
     let sets : bytes_eq (set_by s) x ≡ true = mention_sets x s w.fragment.run i (dropped_started w u x e) m in
-    let same : dropped_of w.fragment (set_by s) ≡ dropped_of w.fragment x = ap (dropped_of w.fragment) (names_equal (set_by s) x sets) in
+    let same : drops w.fragment (set_by s) ≡ drops w.fragment x = ap (drops w.fragment) (names_equal (set_by s) x sets) in
     absurd cc)
 
 -- Kept statements read kept variables alone.
 pub kept_read : (w : Setting) → Unbroken w → (further : Names) → KeptRead (kept_set w.fragment further) w.fragment.run
 kept_read w u further =
-    closed_reads (base_of w.fragment further) (dropped_of w.fragment) w.fragment.run (needed (base_of w.fragment further) (dropped_of w.fragment) w.fragment.run)
-    (needed_closed (base_of w.fragment further) (dropped_of w.fragment) w.fragment.run) (dropped_alone w u)
+    closed_reads (live_or w.fragment further) (drops w.fragment) w.fragment.run (needed (live_or w.fragment further) (drops w.fragment) w.fragment.run)
+    (needed_closed (live_or w.fragment further) (drops w.fragment) w.fragment.run) (dropped_alone w u)
 
 -- ---- The counter isn't live
 

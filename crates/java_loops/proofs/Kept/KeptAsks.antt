@@ -20,8 +20,7 @@ use Rattle.java_loops.specs.Walks.Runs.{Gives, declares, assigns}
 use Rattle.java_loops.proofs.Walks.Names.{reads_wider}
 use Rattle.java_loops.proofs.Walks.Visibility.{TypedNext, next_of}
 use Rattle.java_loops.specs.Meant.Asking.{spelled_by, IsForStarted, AskForLoop}
-use Rattle.loop_text.specs.Statements.Fragment as wanted
-use Rattle.loop_text.specs.Statements.Fragment.{Fragment, are_simple, accumulators, needed_of, mentioned_behind, is_live, counter, is_name, set_by, live}
+use Rattle.loop_text.specs.Statements.Fragment.{Fragment, are_simple, accumulators, needed_of, mentioned_behind, is_live, counter, is_name, set_by, drops}
 use Rattle.java_loops.specs.Meant.GivesWay.{MayStandForLoop}
 use Rattle.java_loops.specs.Kernel.Kernel.{broken, lowering}
 use Rattle.java_loops.specs.Lowering.Lowered.{set_in_order, needed_in_order, names_read}
@@ -34,7 +33,8 @@ use Rattle.loop_text.specs.Sites.Sites.{is_some}
 use Rattle.java_loops.proofs.Typing.BoundTyping.{TypedDeclare, typed_declare, TypedAssign, typed_assign}
 use Rattle.java_loops.proofs.Kept.KeptAlone.{given_sets, untouched_parts, dropped_started, kept_read, live_uncounted}
 use Rattle.java_loops.proofs.Kept.KeptMeant.{meant_there}
-use Rattle.java_loops.specs.Meant.KeptNumbers.{dropped_of, kept_set}
+use Rattle.java_loops.specs.Meant.KeptNumbers.{kept_set}
+use Rattle.java_loops.proofs.Kept.Least.{live_wanted, read_wanted}
 use Rattle.java_loops.proofs.Kept.KeptRuns.{IsKeptSet, is_kept_set}
 use Rattle.java_loops.proofs.Known.KnownNumbers.{IsGoodEntry, entries_good}
 use Rattle.java_loops.proofs.Listed.ListedRows.{fragment_seen}
@@ -256,10 +256,10 @@ module _ (schema : Schema) (read : List ℕ → Option PlainQuery) (p : PlainPro
   set : IsKeptSet f further r
   set = is_kept_set f further
 
-  pub not_kept : (x : List ℕ) → dropped_of f x ≡ true → r x ≡ false
-  not_kept x d = false_from_ne_true (r x) (λ h. let e : dropped_of f x ≡ false = set.not_dropped x h in absurd cc)
+  pub not_kept : (x : List ℕ) → drops f x ≡ true → r x ≡ false
+  not_kept x d = false_from_ne_true (r x) (λ h. let e : drops f x ≡ false = set.not_dropped x h in absurd cc)
 
-  pub needed_dropped : (x : List ℕ) → is_among (needed_of f) x ≡ true → dropped_of f x ≡ true
+  pub needed_dropped : (x : List ℕ) → is_among (needed_of f) x ≡ true → drops f x ≡ true
   needed_dropped x h = or_left (is_among (accumulators f) x) (is_name (counter f.loop) x) (among_filtered _ (accumulators f) x h).0
 
   pub needed_started : (x : List ℕ) → is_among (needed_of f) x ≡ true → Starts x f.run
@@ -275,7 +275,7 @@ module _ (schema : Schema) (read : List ℕ → Option PlainQuery) (p : PlainPro
   pub entries_kept : (x : List ℕ) → is_among further x ≡ true → r x ≡ true
   entries_kept x h =
       let entries : AllByRecursion (IsEntryFrom w) (entries_of w) = all_more (IsGoodEntry w) (IsEntryFrom w) (λ e i. entry_from w i.number e i.entry) (entries_of w) (entries_good schema read f g (fragment_seen schema read p path f g well there) unbroken.conditions) in
-      set.holds x (steady_outside w unbroken x (entries_steady w (entries_of w) entries x h)) (wanted.read x h)
+      set.holds x (steady_outside w unbroken x (entries_steady w (entries_of w) entries x h)) (read_wanted f further x h)
 
   pub asks_read : AllByRecursion (λ (k : Ask). Reads r k.value) ks
   asks_read = all_more (λ (k : Ask). Reads (is_among further) k.value) (λ (k : Ask). Reads r k.value) (λ k h. reads_wider k.value (is_among further) r entries_kept h) ks asks.reads
@@ -290,7 +290,7 @@ module _ (schema : Schema) (read : List ℕ → Option PlainQuery) (p : PlainPro
       (let needed : is_among (needed_of f) x ≡ true = among_filter _ (accumulators f) x a l in asked_are w (needed_in_order w) ks asks.starts x ∙ started_in_order (needed_of f) x f.run needed (needed_started x needed))
   live_known x false a l =
       or_left (r x) (is_asked ks x)
-      (set.holds x (or_from (is_among (accumulators f) x) (is_name (counter f.loop) x) a (live_uncounted w unbroken.loop x l)) (live x l))
+      (set.holds x (or_from (is_among (accumulators f) x) (is_name (counter f.loop) x) a (live_uncounted w unbroken.loop x l)) (live_wanted f further x l))
 
   -- The kept statements and the asks may stand for the loop.
   pub asks_stand : MayStandForLoop (frame_of schema read there.place.method) (types_before schema p path f there.place) (setting_of schema read g f) (kept_set f (names_read (lowering (setting_of schema read g f)).entries)) ks

@@ -16,7 +16,7 @@ use Rattle.java_loops.specs.Walks.Runs as runs
 use Rattle.java_loops.specs.Walks.Runs.{KeptPasses}
 use Rattle.java_loops.proofs.Walks.KeptRuns.{kept_passes}
 use Rattle.java_loops.proofs.Walks.Passing.{same_state}
-use Rattle.loop_text.specs.Statements.Fragment.{Fragment, are_simple, accumulators, counter, is_name, is_live, live}
+use Rattle.loop_text.specs.Statements.Fragment.{Fragment, are_simple, accumulators, counter, is_name, is_live}
 use Rattle.java_loops.specs.Kernel.Kernel.{broken, lowering, setting_at}
 use Rattle.loop_text.specs.Statements.KeptStatements.{AreKept, with_numbers}
 use Rattle.java_loops.specs.Lowering.Lowered.{Lowering, names_read}
@@ -26,6 +26,7 @@ use Rattle.loop_text.specs.Statements.Names.{Names, is_among}
 use Rattle.java_loops.specs.Kernel.Setting.{Setting, setting_of}
 use Rattle.java_loops.proofs.Kept.KeptAlone.{kept_read, live_uncounted}
 use Rattle.java_loops.specs.Meant.KeptNumbers.{kept_set}
+use Rattle.java_loops.proofs.Kept.Least.{live_wanted}
 use Rattle.java_loops.proofs.Kept.KeptRuns.{IsKeptSet, is_kept_set, numbers_keep}
 use Rattle.java_loops.proofs.Lowering.LowerChains.{fragment_chains, at_setting}
 use Rattle.java_loops.proofs.Meant.MeanWhole.{fragment_means, means_there}
@@ -39,7 +40,7 @@ use Rattle.java_loops.proofs.Placing.PlaceTyped.{types_before, FragmentThere}
 live_kept : (w : Setting) → Unbroken w → (further : Names) → are_simple w.fragment.run ≡ true → (x : List ℕ) → is_live w.fragment x ≡ true → is_among (accumulators w.fragment) x ≡ false → kept_set w.fragment further x ≡ true
 live_kept w u further simple x l plain =
     let set : IsKeptSet w.fragment further (kept_set w.fragment further) = is_kept_set w.fragment further in
-    set.holds x (or_from (is_among (accumulators w.fragment) x) (is_name (counter w.fragment.loop) x) plain (live_uncounted w u.loop x l)) (live x l)
+    set.holds x (or_from (is_among (accumulators w.fragment) x) (is_name (counter w.fragment.loop) x) plain (live_uncounted w u.loop x l)) (live_wanted w.fragment further x l)
 
 -- The kept statements stand for the rest, where the fragment means its loop.
 kept_stand : (c : Frame) (before : Types) (w : Setting) → Unbroken w → are_simple w.fragment.run ≡ true → MeansItsLoop c before w → (further : Names) → StandForTheRest c before w (runs.kept (kept_set w.fragment further) w.fragment.run)

@@ -5,20 +5,21 @@ use Rattle.std.specs.Str.{bytes_eq}
 use Rattle.std.proofs.Common.{refl, sym, ap, ◌∙◌, subst}
 use Rattle.java_ast.specs.Tree.{Statement, Statements, Nothing, Then}
 use Rattle.java_mean.proofs.Puts.{name_same}
-use Rattle.loop_text.specs.Statements.Fragment.{Fragment, IsWanted, IsKept, IsClosed, live, read, mentioned, StandsIn, first, after, is_live, set_by}
+use Rattle.loop_text.specs.Statements.Fragment.{Fragment, IsWanted, IsKept, IsClosed, mentioned, live_or, StandsIn, first, after, is_live, set_by}
 use Rattle.loop_text.specs.Statements.KeptStatements as kept
 use Rattle.loop_text.specs.Statements.KeptStatements.{AreKept}
 use Rattle.loop_text.specs.Statements.Names.{Names, is_among, with_names, mentioned_in, mentioned_among}
 use Rattle.loop_text.specs.Statements.Wanted.{one_where, setting, mentioned_in_all, drops, keeps_visible, mentioned_where, mentioned_by_visible, wanted_first, AreWanted, HasAll, HasFollowing, keeps_setting, kept_numbers}
 use Rattle.java_loops.proofs.Lists.Following.{either, or_left, or_right, among_left, among_right, from_both, with_left, with_right, from_with}
-use Rattle.java_loops.proofs.Kept.Least.{wanted_in_closed}
+use Rattle.java_loops.proofs.Kept.Least.{live_wanted, read_wanted}
+use Rattle.java_loops.proofs.Walks.Walks.{needed_in_closed}
 
 -- ---- What is wanted to begin with
 
 visible_mentioned_by : (f : Fragment) (further : Names) (b c : Bool) (s : Statement) (rest : Names) (x : List ℕ) → is_among f.visible (set_by s) ≡ b → drops f (set_by s) ≡ c → StandsIn s f.run → (is_among rest x ≡ true → IsWanted f further x) → is_among (mentioned_where (b && not c) s ++ rest) x ≡ true → IsWanted f further x
 visible_mentioned_by f further true false s rest x v kept stands below h =
     from_both (mentioned_in s) rest x
-    (λ k. mentioned s x stands kept (live (set_by s) (or_left (is_among f.visible (set_by s)) (is_among (with_names [] (mentioned_among f.behind)) (set_by s)) v)) k)
+    (λ k. mentioned s x stands kept (live_wanted f further (set_by s) (or_left (is_among f.visible (set_by s)) (is_among (with_names [] (mentioned_among f.behind)) (set_by s)) v)) k)
     below
     h
 visible_mentioned_by f further true true s rest x v kept stands below h = below h
@@ -38,8 +39,8 @@ first_are_wanted f further =
           from_with (with_names (with_names [] (mentioned_among f.behind)) further) (mentioned_by_visible f f.run) x
           (λ k.
           from_with (with_names [] (mentioned_among f.behind)) further x
-          (λ m. live x (or_right (is_among f.visible x) (is_among (with_names [] (mentioned_among f.behind)) x) m))
-          (λ r. read x r)
+          (λ m. live_wanted f further x (or_right (is_among f.visible x) (is_among (with_names [] (mentioned_among f.behind)) x) m))
+          (λ r. read_wanted f further x r)
           k)
           (λ k. visible_mentioned f further x f.run (λ s stands. stands) k)
           h;
@@ -82,11 +83,14 @@ behind_at_first : (f : Fragment) (further : Names) (x : List ℕ) → is_among (
 behind_at_first f further x h =
     with_left (with_names (with_names [] (mentioned_among f.behind)) further) (mentioned_by_visible f f.run) x (with_left (with_names [] (mentioned_among f.behind)) further x h)
 
-closed : (f : Fragment) (further xs : Names) → HasAll xs (wanted_first f further) → HasFollowing f xs xs → IsClosed f further (λ x. is_live f x || is_among xs x)
+closed : (f : Fragment) (further xs : Names) → HasAll xs (wanted_first f further) → HasFollowing f xs xs → IsClosed (live_or f further) (drops f) f.run (λ x. is_live f x || is_among xs x)
 closed f further xs all has =
     record {
-      has_live = λ x h. or_left (is_live f x) (is_among xs x) h;
-      has_read = λ x h. or_right (is_live f x) (is_among xs x) (all.by x (with_left (with_names (with_names [] (mentioned_among f.behind)) further) (mentioned_by_visible f f.run) x (with_right (with_names [] (mentioned_among f.behind)) further x h)));
+      has_base = λ x h.
+          either (is_live f x) (is_among further x)
+          (λ l. or_left (is_live f x) (is_among xs x) l)
+          (λ r. or_right (is_live f x) (is_among xs x) (all.by x (with_left (with_names (with_names [] (mentioned_among f.behind)) further) (mentioned_by_visible f f.run) x (with_right (with_names [] (mentioned_among f.behind)) further x r))))
+          h;
       has_mentioned = λ s x stands kept there m. or_right (is_live f x) (is_among xs x)
           (either (is_live f (set_by s)) (is_among xs (set_by s))
           (either (is_among f.visible (set_by s)) (is_among (with_names [] (mentioned_among f.behind)) (set_by s))
@@ -115,7 +119,7 @@ no_both false c h there absent = cc
 wanted_where : (f : Fragment) (further xs : Names) (x : List ℕ) → AreWanted f further xs → (is_among f.visible x || is_among xs x) ≡ true → IsWanted f further x
 wanted_where f further xs x wanted h =
     either (is_among f.visible x) (is_among xs x)
-    (λ v. live x (or_left (is_among f.visible x) (is_among (with_names [] (mentioned_among f.behind)) x) v))
+    (λ v. live_wanted f further x (or_left (is_among f.visible x) (is_among (with_names [] (mentioned_among f.behind)) x) v))
     (wanted.by x)
     h
 
@@ -126,7 +130,7 @@ where_wanted f further xs x all has wanted =
     (or_left (is_among f.visible x) (is_among xs x))
     (λ k. or_right (is_among f.visible x) (is_among xs x) (all.by x (behind_at_first f further x k))))
     (or_right (is_among f.visible x) (is_among xs x))
-    (wanted_in_closed f further (λ y. is_live f y || is_among xs y) x (closed f further xs all has) wanted)
+    (needed_in_closed (live_or f further) (drops f) f.run (λ y. is_live f y || is_among xs y) x (closed f further xs all has) wanted)
 
 kept_step : (b : Bool) (f : Fragment) (further xs : Names) (n : ℕ) (s : Statement) (ss : Statements) (numbers : List ℕ) → keeps_setting f xs (set_by s) ≡ b → AreWanted f further xs → HasAll xs (wanted_first f further) → HasFollowing f xs xs → AreKept f further (suc n) ss numbers → AreKept f further n (Then s ss) (if b then n ∷ numbers else numbers)
 kept_step true f further xs n s ss numbers is wanted all has rest =

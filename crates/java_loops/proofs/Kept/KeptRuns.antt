@@ -1,49 +1,36 @@
 -- The kept statements of a run, by their numbers, are those that set a needed variable which isn't dropped.
 use Rattle.std.proofs.Common.{◌≡◌, ℕ, suc, ◌≤◌, Bool, true, false, not, ◌||◌, List, [], ◌∷◌, refl, sym, ap, ◌∙◌, cond, nat_eq, arith}
 use Rattle.std.specs.List.{AllByRecursion}
-use Rattle.std.proofs.lemmas.Bool.{and_parts, and_from, or_left, or_right, not_from_false, false_from_ne_true, eq-eqb, eqb-true}
+use Rattle.std.proofs.lemmas.Bool.{and_parts, and_from, not_from_false, false_from_ne_true, eq-eqb, eqb-true}
 use Rattle.java_ast.specs.Tree.{Statement, Statements, Nothing, Then}
-use Rattle.java_loops.specs.Walks.Needed as needs
-use Rattle.java_loops.specs.Walks.Needed.{needed, keeping}
+use Rattle.java_loops.specs.Walks.Needed.{needed}
 use Rattle.java_loops.specs.Walks.Reads.{Set}
-use Rattle.java_loops.specs.Meant.KeptNumbers.{base_of, dropped_of, kept_set, numbers_setting, kept_numbers}
+use Rattle.java_loops.specs.Meant.KeptNumbers.{kept_set, numbers_setting, kept_numbers}
 use Rattle.java_loops.specs.Walks.Runs as runs
 use Rattle.java_loops.proofs.Walks.EnoughWalks.{all_needed, needed_found}
-use Rattle.loop_text.specs.Statements.Fragment.{Fragment, is_live, set_by, IsWanted, live, read, mentioned, IsKept}
+use Rattle.loop_text.specs.Statements.Fragment.{Fragment, live_or, set_by, IsWanted, IsKept}
+use Rattle.loop_text.specs.Statements.Fragment as fragment
 use Rattle.loop_text.specs.Statements.KeptStatements.{AreKept, none, keeps, drops, with_numbers}
-use Rattle.loop_text.specs.Statements.Names.{Names, is_among}
+use Rattle.loop_text.specs.Statements.Names.{Names}
 use Rattle.loop_text.specs.Sites.Sites.{has_number}
 use Rattle.java_loops.proofs.Nested.NestRules.{false_from_not}
 
 -- ---- The needed variables of a fragment
 
-wanted_needed : (f : Fragment) (further : Names) (x : List ℕ) → IsWanted f further x → needs.IsNeeded (base_of f further) (dropped_of f) f.run x
-wanted_needed f further _ (live x h) = needs.based x (or_left (is_live f x) (is_among further x) h)
-wanted_needed f further _ (read x h) = needs.based x (or_right (is_live f x) (is_among further x) h)
-wanted_needed f further _ (mentioned s x i d w h) = needs.mentioned s x i d (wanted_needed f further (set_by s) w) h
-
-based_wanted : (f : Fragment) (further : Names) (x : List ℕ) (b : Bool) → is_live f x ≡ b → (b || is_among further x) ≡ true → IsWanted f further x
-based_wanted f further x true e h = live x e
-based_wanted f further x false e h = read x h
-
-needed_wanted : (f : Fragment) (further : Names) (x : List ℕ) → needs.IsNeeded (base_of f further) (dropped_of f) f.run x → IsWanted f further x
-needed_wanted f further _ (needs.based x h) = based_wanted f further x (is_live f x) refl h
-needed_wanted f further _ (needs.mentioned s x i d n h) = mentioned s x i d (needed_wanted f further (set_by s) n) h
-
 -- the set has the wanted variables whose statements aren't dropped, and no others
 pub record IsKeptSet (f : Fragment) (further : Names) (r : Set) : Type 0 where
-  pub not_dropped : (x : List ℕ) → r x ≡ true → dropped_of f x ≡ false
+  pub not_dropped : (x : List ℕ) → r x ≡ true → fragment.drops f x ≡ false
   pub wanted : (x : List ℕ) → r x ≡ true → IsWanted f further x
-  pub holds : (x : List ℕ) → dropped_of f x ≡ false → IsWanted f further x → r x ≡ true
+  pub holds : (x : List ℕ) → fragment.drops f x ≡ false → IsWanted f further x → r x ≡ true
 
 pub is_kept_set : (f : Fragment) (further : Names) → IsKeptSet f further (kept_set f further)
 is_kept_set f further =
-    let base : Set = base_of f further in
-    let dropped : Set = dropped_of f in
+    let base : Set = live_or f further in
+    let dropped : Set = fragment.drops f in
     record {
       not_dropped = λ x h. false_from_not (dropped x) (and_parts (needed base dropped f.run x) (not (dropped x)) h).1;
-      wanted = λ x h. needed_wanted f further x (all_needed base dropped f.run x (and_parts (needed base dropped f.run x) (not (dropped x)) h).0);
-      holds = λ x d w. and_from (needed base dropped f.run x) (not (dropped x)) (needed_found base dropped f.run x (wanted_needed f further x w)) (not_from_false (dropped x) d);
+      wanted = λ x h. all_needed base dropped f.run x (and_parts (needed base dropped f.run x) (not (dropped x)) h).0;
+      holds = λ x d w. and_from (needed base dropped f.run x) (not (dropped x)) (needed_found base dropped f.run x w) (not_from_false (dropped x) d);
     }
 
 -- ---- The numbers of kept statements

@@ -1,10 +1,12 @@
--- The set of wanted variables is the least closed one.
-use Rattle.std.specs.Prelude.{ℕ, List, Bool, true}
+-- Live variables and further ones are wanted.
+use Rattle.std.specs.Prelude.{ℕ, List, true}
 use Rattle.std.proofs.Common.{◌≡◌}
-use Rattle.loop_text.specs.Statements.Names.{Names}
-use Rattle.loop_text.specs.Statements.Fragment.{Fragment, set_by, IsWanted, live, read, mentioned, IsClosed}
+use Rattle.std.proofs.lemmas.Bool.{or_left, or_right}
+use Rattle.loop_text.specs.Statements.Names.{Names, is_among}
+use Rattle.loop_text.specs.Statements.Fragment.{Fragment, is_live, IsWanted, based}
 
-pub wanted_in_closed : (f : Fragment) (further : Names) (r : List ℕ → Bool) (x : List ℕ) → IsClosed f further r → IsWanted f further x → r x ≡ true
-wanted_in_closed _ _ r _ closed (live x h) = closed.has_live x h
-wanted_in_closed _ _ r _ closed (read x h) = closed.has_read x h
-wanted_in_closed f further r _ closed (mentioned s x stands kept wanted h) = closed.has_mentioned s x stands kept (wanted_in_closed f further r (set_by s) closed wanted) h
+pub live_wanted : (f : Fragment) (further : Names) (x : List ℕ) → is_live f x ≡ true → IsWanted f further x
+live_wanted f further x h = based x (or_left (is_live f x) (is_among further x) h)
+
+pub read_wanted : (f : Fragment) (further : Names) (x : List ℕ) → is_among further x ≡ true → IsWanted f further x
+read_wanted f further x h = based x (or_right (is_live f x) (is_among further x) h)

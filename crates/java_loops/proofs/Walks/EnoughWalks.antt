@@ -2,8 +2,8 @@
 use Rattle.std.proofs.Common.{◌≡◌, ℕ, zero, suc, ◌+◌, ◌≤◌, ◌<◌, Bool, true, false, not, ◌&&◌, ◌||◌, List, refl, ap, arith, ◌⊎◌, inl, inr}
 use Rattle.java_ast.specs.Tree.{Statement, Statements, Nothing, Then}
 use Rattle.java_loops.specs.Walks.Reads.{Set}
-use Rattle.loop_text.specs.Statements.Fragment.{set_by, StandsIn, first, after}
-use Rattle.java_loops.specs.Walks.Needed.{mentions, IsNeeded, based, IsClosed, AreNeeded, keeping, joined, walked, size, one_where, how_many_kept, walks, needed}
+use Rattle.loop_text.specs.Statements.Fragment.{set_by, StandsIn, first, after, IsNeeded, based, IsClosed}
+use Rattle.java_loops.specs.Walks.Needed.{mentions, AreNeeded, keeping, joined, walked, size, one_where, how_many_kept, walks, needed}
 use Rattle.java_loops.proofs.Walks.Walks.{needed_in_closed, walk_needed, walked_covers, walked_adds}
 use Rattle.java_loops.proofs.Walks.Truth.{and_true, not_true, and_both}
 

@@ -3,9 +3,9 @@ use Rattle.std.proofs.Common.{◌≡◌, ℕ, Bool, true, false, not, ◌&&◌, 
 use Rattle.java_ast.specs.Tree as tree
 use Rattle.java_ast.specs.Tree.{Expression, Expressions, NoMore, And, Statement, Statements, Nothing, Then}
 use Rattle.java_loops.specs.Walks.Reads.{Set}
-use Rattle.loop_text.specs.Statements.Fragment.{set_by, StandsIn, first, after}
+use Rattle.loop_text.specs.Statements.Fragment.{set_by, StandsIn, first, after, IsNeeded, based, mentioned, IsClosed}
 use Rattle.java_loops.specs.Walks.Runs.{StepReads, KeptRead}
-use Rattle.java_loops.specs.Walks.Needed.{mentions, IsNeeded, based, mentioned, IsClosed, AreNeeded, keeping, joined, walked, KeptAlone}
+use Rattle.java_loops.specs.Walks.Needed.{mentions, AreNeeded, keeping, joined, walked, KeptAlone}
 use Rattle.loop_text.specs.Statements.Names.{names_in}
 use Rattle.java_loops.proofs.Walks.Named.{among_more, reads_named}
 use Rattle.java_loops.proofs.Walks.Truth.{and_true, not_true, or_left, or_right, and_both}

@@ -1,22 +1,14 @@
 -- The numbers of the statements of a run that a rewrite keeps, as a function.
-use Rattle.std.specs.Prelude.{ℕ, suc, ◌||◌, List, [], ◌∷◌, if◌then◌else◌}
+use Rattle.std.specs.Prelude.{ℕ, suc, List, [], ◌∷◌, if◌then◌else◌}
 use Rattle.java_ast.specs.Tree.{Statements, Nothing, Then}
 use Rattle.java_loops.specs.Walks.Needed.{needed, keeping}
 use Rattle.java_loops.specs.Walks.Reads.{Set}
-use Rattle.loop_text.specs.Statements.Fragment.{Fragment, accumulators, counter, is_name, is_live, set_by}
-use Rattle.loop_text.specs.Statements.Names.{Names, is_among}
-
--- the variables that are live, and further ones
-abbrev pub base_of : Fragment → Names → Set
-base_of f further = λ x. is_live f x || is_among further x
-
--- the variables whose statements are dropped
-abbrev pub dropped_of : Fragment → Set
-dropped_of f = λ x. is_among (accumulators f) x || is_name (counter f.loop) x
+use Rattle.loop_text.specs.Statements.Fragment.{Fragment, drops, live_or, set_by}
+use Rattle.loop_text.specs.Statements.Names.{Names}
 
 -- the needed variables whose statements aren't dropped
 abbrev pub kept_set : Fragment → Names → Set
-kept_set f further = keeping (needed (base_of f further) (dropped_of f) f.run) (dropped_of f)
+kept_set f further = keeping (needed (live_or f further) (drops f) f.run) (drops f)
 
 -- the numbers of the statements that set a variable of the set, of a run whose first one has this number
 abbrev pub numbers_setting : Set → ℕ → Statements → List ℕ

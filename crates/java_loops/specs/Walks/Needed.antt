@@ -3,23 +3,12 @@
 use Rattle.std.specs.Prelude.{◌≡◌, ℕ, zero, suc, Bool, true, false, not, ◌&&◌, ◌||◌, List}
 use Rattle.java_ast.specs.Tree.{Statement, Statements, Nothing, Then}
 use Rattle.java_loops.specs.Walks.Reads.{Set}
-use Rattle.loop_text.specs.Statements.Fragment.{StandsIn, set_by}
+use Rattle.loop_text.specs.Statements.Fragment.{StandsIn, set_by, IsNeeded}
 use Rattle.loop_text.specs.Statements.Names.{is_among, mentioned_in}
 
 -- the names that a statement mentions, other than to declare them
 abbrev pub mentions : Statement → Set
 mentions s = is_among (mentioned_in s)
-
--- The least set with the first variables, and with those that are mentioned in a kept statement: one that sets a
--- variable of the set, and none of those that are dropped.
-pub data IsNeeded (base dropped : Set) (run : Statements) : List ℕ → Type 0 where
-  based : (x : List ℕ) → base x ≡ true → IsNeeded base dropped run x
-  mentioned : (a : Statement) (x : List ℕ) → StandsIn a run → dropped (set_by a) ≡ false → IsNeeded base dropped run (set_by a) → mentions a x ≡ true → IsNeeded base dropped run x
-
--- a set with the first variables, and with what the statements mention that it keeps
-pub record IsClosed (base dropped : Set) (run : Statements) (r : Set) : Type 0 where
-  pub has_base : (x : List ℕ) → base x ≡ true → r x ≡ true
-  pub has_mentioned : (a : Statement) (x : List ℕ) → StandsIn a run → dropped (set_by a) ≡ false → r (set_by a) ≡ true → mentions a x ≡ true → r x ≡ true
 
 -- a set of needed variables alone
 pub record AreNeeded (base dropped : Set) (run : Statements) (r : Set) : Type 0 where

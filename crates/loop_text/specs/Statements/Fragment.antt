@@ -129,29 +129,39 @@ set_by (plain.Assign at x e) = x
 set_by (plain.Sort at x keys downs) = x
 set_by _ = []
 
--- a statement of a run that sets an accumulator or a counter is dropped
+-- the variables whose statements are dropped: accumulators and counters
+abbrev pub drops : Fragment → List ℕ → Bool
+drops f x = is_among (accumulators f) x || is_name (counter f.loop) x
+
+-- a statement of a run that sets such a variable is dropped
 abbrev pub is_dropped : Fragment → Statement → Bool
-is_dropped f s = is_among (accumulators f) (set_by s) || is_name (counter f.loop) (set_by s)
+is_dropped f s = drops f (set_by s)
 
 -- a statement of a run
 pub data StandsIn : Statement → Statements → Type 0 where
   first : (s : Statement) (ss : Statements) → StandsIn s (Then s ss)
   after : (s a : Statement) (ss : Statements) → StandsIn s ss → StandsIn s (Then a ss)
 
--- The least set of variables with those that are live, further ones (what the queries of the rewrite
--- read), and those that are mentioned in a kept statement: one that isn't dropped and sets a variable of the set.
-pub data IsWanted (f : Fragment) (further : Names) : List ℕ → Type 0 where
-  live : (x : List ℕ) → is_live f x ≡ true → IsWanted f further x
-  read : (x : List ℕ) → is_among further x ≡ true → IsWanted f further x
-  mentioned : (s : Statement) (x : List ℕ) → StandsIn s f.run → is_dropped f s ≡ false → IsWanted f further (set_by s) → is_among (mentioned_in s) x ≡ true → IsWanted f further x
+-- The least set with the first variables, and with those that are mentioned in a kept statement: one that sets a
+-- variable of the set, and none of those that are dropped.
+pub data IsNeeded (base dropped : List ℕ → Bool) (run : Statements) : List ℕ → Type 0 where
+  based : (x : List ℕ) → base x ≡ true → IsNeeded base dropped run x
+  mentioned : (s : Statement) (x : List ℕ) → StandsIn s run → dropped (set_by s) ≡ false → IsNeeded base dropped run (set_by s) → is_among (mentioned_in s) x ≡ true → IsNeeded base dropped run x
+
+-- a set with the first variables, and with what the statements mention that it keeps
+pub record IsClosed (base dropped : List ℕ → Bool) (run : Statements) (r : List ℕ → Bool) : Type 0 where
+  pub has_base : (x : List ℕ) → base x ≡ true → r x ≡ true
+  pub has_mentioned : (s : Statement) (x : List ℕ) → StandsIn s run → dropped (set_by s) ≡ false → r (set_by s) ≡ true → is_among (mentioned_in s) x ≡ true → r x ≡ true
+
+-- the variables that are live, and further ones (what the queries of the rewrite read)
+abbrev pub live_or : Fragment → Names → List ℕ → Bool
+live_or f further x = is_live f x || is_among further x
+
+-- a variable that a rewrite of the loop needs
+abbrev pub IsWanted : Fragment → Names → List ℕ → Type 0
+IsWanted f further = IsNeeded (live_or f further) (drops f) f.run
 
 -- a statement of the run is kept
 pub record IsKept (f : Fragment) (further : Names) (s : Statement) : Type 0 where
   pub not_dropped : is_dropped f s ≡ false
   pub wanted : IsWanted f further (set_by s)
-
--- a set of variables with those that are live, the further ones, and what statements mention that it keeps
-pub record IsClosed (f : Fragment) (further : Names) (r : List ℕ → Bool) : Type 0 where
-  pub has_live : (x : List ℕ) → is_live f x ≡ true → r x ≡ true
-  pub has_read : (x : List ℕ) → is_among further x ≡ true → r x ≡ true
-  pub has_mentioned : (s : Statement) (x : List ℕ) → StandsIn s f.run → is_dropped f s ≡ false → r (set_by s) ≡ true → is_among (mentioned_in s) x ≡ true → r x ≡ true

@@ -5,7 +5,8 @@ use Rattle.std.specs.Borrow.{Bor}
 use Rattle.java_ast.specs.declared.tree.Stmt.{Stmt}
 use Rattle.java_ast.specs.Reading.{statement}
 use Rattle.java_ast.specs.Tree.{Statement, Statements, Nothing, Then}
-use Rattle.loop_text.specs.Statements.Fragment.{Fragment, IsWanted, accumulators, counter, is_name, set_by}
+use Rattle.loop_text.specs.Statements.Fragment.{Fragment, IsWanted, set_by}
+pub use Rattle.loop_text.specs.Statements.Fragment.{drops}
 use Rattle.loop_text.specs.Statements.Names.{Names, is_among, with_names, mentioned_in, mentioned_among}
 
 -- ---- The statements that set a variable
@@ -28,10 +29,6 @@ mentioned_in_all [] = []
 mentioned_in_all (s ∷ ss) = mentioned_in s ++ mentioned_in_all ss
 
 -- ---- What is wanted
-
--- a variable whose statements are dropped
-abbrev pub drops : Fragment → List ℕ → Bool
-drops f x = is_among (accumulators f) x || is_name (counter f.loop) x
 
 -- what the statements of the run mention that set a variable, where they aren't dropped
 abbrev pub following : Fragment → List ℕ → Names
