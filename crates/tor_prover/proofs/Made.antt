@@ -1,5 +1,5 @@
 -- What the normaliser's calls give, about plain trees.
-use Rattle.std.proofs.Common.{◌≡◌, ℕ, ◌+◌, ◌*◌, ◌<◌, ◌≤◌, max, List, sym, ap, ◌∙◌, subst, arith}
+use Rattle.std.proofs.Common.{◌≡◌, ℕ, ◌+◌, ◌*◌, ◌<◌, ◌≤◌, max, List, [], sym, ap, ◌∙◌, subst, arith}
 use Rattle.std.specs.declared.option.Option.TheVariants.{Some, None}
 use Rattle.tor_terms.specs.declared.term.Atom.{Atom}
 use Rattle.tor_terms.specs.Plain.{Tree}
@@ -37,6 +37,9 @@ module _ (atoms : List Atom) (facts : List Literal) (t : Tree) where
 
   pub finished-normal : (u : Tree) (steps : List Step) (rest : Outcome) → Normal u steps ≡ normal_parts (normal_form atoms facts) (parts t) → rest ≡ at_head atoms facts (normal_form atoms facts) u → after_steps steps rest ≡ normal_form atoms facts t
   finished-normal u steps rest e h = ap (after_steps steps) h ∙ ap (then_head atoms facts (normal_form atoms facts)) e ∙ sym (normal_form-made atoms facts t)
+
+  pub settled-head : None ≡ met atoms facts t → None ≡ first_rule atoms facts t → Normal t [] ≡ at_head atoms facts (normal_form atoms facts) t
+  settled-head d e = ap (rewritten (normal_form atoms facts) t) e ∙ ap (λ m. unless_met m (rewritten (normal_form atoms facts) t (first_rule atoms facts t))) d
 
   pub rewritten-head : (n : ℕ) (u : Tree) (rest : Outcome) → None ≡ met atoms facts t → Some (n, u) ≡ first_rule atoms facts t → rest ≡ normal_form atoms facts u
       → after_steps (step_at_head n) rest ≡ at_head atoms facts (normal_form atoms facts) t

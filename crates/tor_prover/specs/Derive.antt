@@ -49,3 +49,7 @@ derived atoms (suc depth) (Some facts) l r =
 
 unfoldable pub derivation_of : Claim → Option Proof
 derivation_of c = derived c.atoms 10 (with_facts c.atoms [] c.facts) c.left c.right
+
+-- the condition with these parts
+abbrev pub claim_made : List Atom → List Literal → Tree → Tree → Claim
+claim_made atoms facts l r = record { atoms = atoms; facts = facts; left = l; right = r }

@@ -44,7 +44,7 @@ compared (Reduct r) (Stuck k) = Open k
 compared (Reduct r) (Reduct s) = cond (same_tree r s) Alike Unlike
 
 abbrev pub reduced_seen : ReducedCode → Reduced
-reduced_seen (codes.Reduct t) = Reduct (tree_of t)
+reduced_seen (codes.Reduct t) = Reduct (tree_of t.value)
 reduced_seen (codes.Stuck k) = Stuck k
 
 abbrev pub verdict_seen : VerdictCode → Verdict

@@ -14,7 +14,7 @@ use Rattle.tor_prover.specs.Derive.{Judgement, Same, Differ, Splits}
 use Rattle.tor_prover.specs.Normal.{Outcome, Normal, Meets, Parts, NoChild, OneChild, TwoChildren}
 
 abbrev pub outcome_of : OutcomeCode → Outcome
-outcome_of (outcomes.Normal t steps) = Normal (tree_of t) steps
+outcome_of (outcomes.Normal t steps) = Normal (tree_of t.value) steps
 outcome_of (outcomes.Meets k) = Meets k
 
 abbrev pub judgement_of : JudgementCode → Judgement
@@ -42,5 +42,5 @@ around_two two_heads.Or a b = Or a b
 
 abbrev pub parts_of : PartsCode → Parts
 parts_of (parts.NoChild t) = NoChild (tree_of t)
-parts_of (parts.OneChild head r) = OneChild (around_one head) (tree_of r)
-parts_of (parts.TwoChildren head r s) = TwoChildren (around_two head) (tree_of r) (tree_of s)
+parts_of (parts.OneChild head r) = OneChild (around_one head) (tree_of r.value)
+parts_of (parts.TwoChildren head r s) = TwoChildren (around_two head) (tree_of r.value) (tree_of s.value)

@@ -11,7 +11,7 @@ use crate::reduce::{Reduced, reduce};
 use qbs_base::NoMemory;
 use std::alloc::Global;
 use tor_axioms::{Condition, Facts, with_fact, with_facts};
-use tor_terms::{Atoms, copy_term, same_term};
+use tor_terms::{Atoms, copy_boxed_term, same_term};
 
 /// What the normal forms of both sides show: one term, different ones, or the open atom that the first
 /// of them to meet one names.
@@ -30,10 +30,20 @@ fn compare(
 ) -> Result<Verdict, NoMemory>
     ensures { IfOk result (λ v. verdict_seen v ≡ verdict_of (spec.judged atoms.now facts.now (tree_of condition.now.left) (tree_of condition.now.right))) }
 {
-    match reduce(alloc, atoms, facts, copy_term(alloc, &condition.left)?)? {
+    match reduce(
+        alloc,
+        atoms,
+        facts,
+        copy_boxed_term(alloc, &condition.left)?,
+    )? {
         Reduced::Stuck(k) => Ok(Verdict::Open(k)),
         Reduced::Reduct(t) => {
-            match reduce(alloc, atoms, facts, copy_term(alloc, &condition.right)?)? {
+            match reduce(
+                alloc,
+                atoms,
+                facts,
+                copy_boxed_term(alloc, &condition.right)?,
+            )? {
                 Reduced::Stuck(k) => Ok(Verdict::Open(k)),
                 Reduced::Reduct(u) => {
                     if same_term(&t, &u) {

@@ -1,29 +1,36 @@
 // The derivation of a condition.
 ghost use Rattle.std.specs.Prelude.{◌≡◌, Some, IfOk, IfSome, IsTrue, option_map};
 ghost use Rattle.tor_terms.specs.Plain.{tree_of};
-ghost use Rattle.tor_axioms.specs.Accepts.{accepts, claim_of, proof_of};
+ghost use Rattle.tor_axioms.specs.Accepts.{accepts, claim_of, claim_over, proof_of};
 ghost use Rattle.tor_axioms.specs.Decide.{literal, with_fact as with_fact_of};
 ghost use Rattle.tor_prover.specs.Derive as spec;
+ghost use Rattle.tor_prover.specs.Derive.{claim_made};
 ghost use Rattle.tor_prover.specs.Seen.{judgement_of};
 
 use crate::normal::normalise;
 use crate::outcome::{Judgement, Outcome};
 use qbs_base::NoMemory;
 use std::alloc::Global;
-use tor_axioms::{Derivation, Facts, Vc, with_fact, with_facts};
-use tor_terms::{copy_term, same_term};
+use tor_axioms::{Condition, Derivation, Facts, Literal, Vc, with_fact, with_facts};
+use tor_terms::{Atoms, Term, copy_boxed_term, same_term};
 
 /// How many splits may stand inside one another.
 pub const DEPTH: u32 = 10;
 
 /// What the normal forms of both sides show.
-fn judge(alloc: Global, vc: &Vc, facts: &Facts) -> Result<Judgement, NoMemory>
-    ensures { IfOk result (λ j. judgement_of j ≡ spec.judged vc.now.atoms facts.now (tree_of vc.now.left) (tree_of vc.now.right)) }
+fn judge(
+    alloc: Global,
+    atoms: &Atoms,
+    left: &Term,
+    right: &Term,
+    facts: &Facts,
+) -> Result<Judgement, NoMemory>
+    ensures { IfOk result (λ j. judgement_of j ≡ spec.judged atoms.now facts.now (tree_of left.now) (tree_of right.now)) }
 {
-    match normalise(alloc, &vc.atoms, facts, copy_term(alloc, &vc.left)?)? {
+    match normalise(alloc, atoms, facts, copy_boxed_term(alloc, left)?)? {
         Outcome::Meets(k) => Ok(Judgement::Splits(k)),
         Outcome::Normal(t, steps) => {
-            match normalise(alloc, &vc.atoms, facts, copy_term(alloc, &vc.right)?)? {
+            match normalise(alloc, atoms, facts, copy_boxed_term(alloc, right)?)? {
                 Outcome::Meets(k) => Ok(Judgement::Splits(k)),
                 Outcome::Normal(u, more) => {
                     if same_term(&t, &u) {
@@ -60,23 +67,25 @@ fn split_at(
 #[cycle(derive_within)]
 fn derive_within(
     alloc: Global,
-    vc: &Vc,
+    atoms: &Atoms,
+    left: &Term,
+    right: &Term,
     depth: u32,
     facts: &Facts,
 ) -> Result<Option<Derivation>, NoMemory>
-    ensures { IfOk result (λ o. option_map proof_of o ≡ spec.derived vc.now.atoms depth (Some facts.now) (tree_of vc.now.left) (tree_of vc.now.right)) }
+    ensures { IfOk result (λ o. option_map proof_of o ≡ spec.derived atoms.now depth (Some facts.now) (tree_of left.now) (tree_of right.now)) }
 {
-    match judge(alloc, vc, facts)? {
+    match judge(alloc, atoms, left, right, facts)? {
         Judgement::Same(left, right) => Ok(Some(Derivation::Steps { left, right })),
         Judgement::Differ => Ok(None),
         Judgement::Splits(k) => {
             if depth == 0 {
                 return Ok(None);
             }
-            match derive_with(alloc, vc, depth - 1, facts, k, true)? {
+            match derive_with(alloc, atoms, left, right, depth - 1, facts, k, true)? {
                 None => Ok(None),
                 Some(yes) => {
-                    let no = derive_with(alloc, vc, depth - 1, facts, k, false)?;
+                    let no = derive_with(alloc, atoms, left, right, depth - 1, facts, k, false)?;
                     split_at(alloc, k, yes, no)
                 }
             }
@@ -88,7 +97,9 @@ fn derive_within(
 #[cycle(derive_within)]
 fn derive_with(
     alloc: Global,
-    vc: &Vc,
+    atoms: &Atoms,
+    left: &Term,
+    right: &Term,
     depth: u32,
     facts: &Facts,
     atom: u32,
@@ -96,20 +107,27 @@ fn derive_with(
 ) -> Result<Option<Derivation>, NoMemory>
     ensures { IfOk result (λ o.
         option_map proof_of o
-        ≡ spec.derived vc.now.atoms depth (with_fact_of vc.now.atoms facts.now (literal atom holds)) (tree_of vc.now.left) (tree_of vc.now.right)) }
+        ≡ spec.derived atoms.now depth (with_fact_of atoms.now facts.now (literal atom holds)) (tree_of left.now) (tree_of right.now)) }
 {
-    match with_fact(alloc, &vc.atoms, facts, atom, holds)? {
+    match with_fact(alloc, atoms, facts, atom, holds)? {
         None => Ok(Some(Derivation::Absurd)),
-        Some(more) => derive_within(alloc, vc, depth, &more),
+        Some(more) => derive_within(alloc, atoms, left, right, depth, &more),
     }
 }
 
-fn derive_exactly(alloc: Global, vc: &Vc) -> Result<Option<Derivation>, NoMemory>
-    ensures { IfOk result (λ o. option_map proof_of o ≡ spec.derivation_of (claim_of vc.now)) }
+/// The derivation of a condition by its parts.
+fn derive_exactly(
+    alloc: Global,
+    atoms: &Atoms,
+    facts: &[Literal],
+    left: &Term,
+    right: &Term,
+) -> Result<Option<Derivation>, NoMemory>
+    ensures { IfOk result (λ o. option_map proof_of o ≡ spec.derivation_of (claim_made atoms.now facts.now (tree_of left.now) (tree_of right.now))) }
 {
-    match with_facts(alloc, &vc.atoms, vc.facts.as_slice())? {
+    match with_facts(alloc, atoms, facts)? {
         None => Ok(Some(Derivation::Absurd)),
-        Some(facts) => derive_within(alloc, vc, DEPTH, &facts),
+        Some(facts) => derive_within(alloc, atoms, left, right, DEPTH, &facts),
     }
 }
 
@@ -123,5 +141,24 @@ pub fn derive(alloc: Global, vc: &Vc) -> Result<Option<Derivation>, NoMemory>
     ensures exact { IfOk result (λ o. option_map proof_of o ≡ spec.derivation_of (claim_of vc.now)) }
     ensures accepted { IfOk result (λ o. IfSome o (λ d. IsTrue (accepts (claim_of vc.now) (proof_of d)))) }
 {
-    derive_exactly(alloc, vc)
+    derive_exactly(alloc, &vc.atoms, vc.facts.as_slice(), &vc.left, &vc.right)
+}
+
+/// The derivation of a condition over atoms that stand elsewhere, and aren't copied. Else it is as `derive`
+/// says.
+pub fn derive_over(
+    alloc: Global,
+    atoms: &Atoms,
+    condition: &Condition,
+) -> Result<Option<Derivation>, NoMemory>
+    ensures exact { IfOk result (λ o. option_map proof_of o ≡ spec.derivation_of (claim_over atoms.now condition.now)) }
+    ensures accepted { IfOk result (λ o. IfSome o (λ d. IsTrue (accepts (claim_over atoms.now condition.now) (proof_of d)))) }
+{
+    derive_exactly(
+        alloc,
+        atoms,
+        condition.facts.as_slice(),
+        &condition.left,
+        &condition.right,
+    )
 }

@@ -11,4 +11,4 @@ mod parts;
 mod reduce;
 
 pub use derivable::derives;
-pub use derivation::derive;
+pub use derivation::{derive, derive_over};

@@ -21,10 +21,13 @@ fn at_head(
     t: &Term,
     atoms: &Atoms,
     facts: &Facts,
-) -> Result<Option<Term>, NoMemory>
-    ensures { IfOk result (λ o. option_map tree_of o ≡ at_head_of atoms.now facts.now rule (tree_of t.now)) }
+) -> Result<Option<Box<Term>>, NoMemory>
+    ensures { IfOk result (λ o. option_map (λ u. tree_of u.value) o ≡ at_head_of atoms.now facts.now rule (tree_of t.now)) }
 {
-    apply(alloc, rule, &Items::new(alloc), t, atoms, facts)
+    match apply(alloc, rule, &Items::new(alloc), t, atoms, facts)? {
+        Some(u) => Ok(Some(Box::new(alloc, u)?)),
+        None => Ok(None),
+    }
 }
 
 // The rules that may match at the head: the first one's number, and one more than the last one's.
@@ -57,8 +60,8 @@ pub fn first_rule(
     atoms: &Atoms,
     facts: &Facts,
     t: &Term,
-) -> Result<Option<(u32, Term)>, NoMemory>
-    ensures { IfOk result (λ o. option_map (λ p. (p.0, tree_of p.1)) o ≡ spec.first_rule atoms.now facts.now (tree_of t.now)) }
+) -> Result<Option<(u32, Box<Term>)>, NoMemory>
+    ensures { IfOk result (λ o. option_map (λ p. (p.0, tree_of p.1.value)) o ≡ spec.first_rule atoms.now facts.now (tree_of t.now)) }
 {
     let (first, past) = head_rules(t);
     for rule in first..past {
@@ -158,8 +161,13 @@ fn with_children(
 /// form from left to right, and then the first rule by number that matches at the head is applied
 /// and what it gives is brought to normal form in turn.
 #[cycle(normalise)]
-pub fn normalise(alloc: Global, atoms: &Atoms, facts: &Facts, t: Term) -> Result<Outcome, NoMemory>
-    ensures { IfOk result (λ o. outcome_of o ≡ spec.normal_form atoms.now facts.now (tree_of t)) }
+pub fn normalise(
+    alloc: Global,
+    atoms: &Atoms,
+    facts: &Facts,
+    t: Box<Term>,
+) -> Result<Outcome, NoMemory>
+    ensures { IfOk result (λ o. outcome_of o ≡ spec.normal_form atoms.now facts.now (tree_of t.value)) }
 {
     match normal_children(alloc, atoms, facts, take_apart(t))? {
         Outcome::Meets(k) => Ok(Outcome::Meets(k)),
@@ -181,7 +189,7 @@ fn normal_children(
     ensures { IfOk result (λ o. outcome_of o ≡ spec.normal_parts (spec.normal_form atoms.now facts.now) (parts_of parts)) }
 {
     match parts {
-        Parts::NoChild(t) => Ok(Outcome::Normal(t, Items::new(alloc))),
+        Parts::NoChild(t) => Ok(Outcome::Normal(Box::new(alloc, t)?, Items::new(alloc))),
         Parts::OneChild(head, r) => {
             let child = normalise(alloc, atoms, facts, r)?;
             with_child(alloc, head, child)
@@ -199,8 +207,8 @@ fn normal_children(
 
 /// The normal form of a term whose children are in normal form.
 #[cycle(normalise)]
-fn finish(alloc: Global, atoms: &Atoms, facts: &Facts, t: Term) -> Result<Outcome, NoMemory>
-    ensures { IfOk result (λ o. outcome_of o ≡ spec.at_head atoms.now facts.now (spec.normal_form atoms.now facts.now) (tree_of t)) }
+fn finish(alloc: Global, atoms: &Atoms, facts: &Facts, t: Box<Term>) -> Result<Outcome, NoMemory>
+    ensures { IfOk result (λ o. outcome_of o ≡ spec.at_head atoms.now facts.now (spec.normal_form atoms.now facts.now) (tree_of t.value)) }
 {
     if let Some(k) = met(atoms, facts, &t) {
         return Ok(Outcome::Meets(k));

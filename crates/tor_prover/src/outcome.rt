@@ -5,7 +5,7 @@ use tor_terms::Term;
 /// The normal form of a term with the steps that lead to it, or the open atom that is met.
 #[derive(Drop)]
 pub enum Outcome {
-    Normal(Term, Steps),
+    Normal(Box<Term>, Steps),
     Meets(u32),
 }
 

@@ -2,7 +2,8 @@
 ghost use Rattle.std.specs.Prelude.{◌≡◌, IfOk};
 ghost use Rattle.tor_terms.specs.Plain.{tree_of};
 ghost use Rattle.tor_prover.specs.Normal as spec;
-ghost use Rattle.tor_prover.specs.Seen.{around_one, around_two, parts_of};
+ghost use Rattle.tor_prover.specs.Seen as seen;
+ghost use Rattle.tor_prover.specs.Seen.{parts_of};
 
 use qbs_base::NoMemory;
 use std::alloc::Global;
@@ -36,29 +37,29 @@ pub enum TwoHead {
 #[derive(Drop)]
 pub enum Parts {
     NoChild(Term),
-    OneChild(OneHead, Term),
-    TwoChildren(TwoHead, Term, Term),
+    OneChild(OneHead, Box<Term>),
+    TwoChildren(TwoHead, Box<Term>, Box<Term>),
 }
 
 /// Takes a term apart.
-pub fn take_apart(t: Term) -> Parts
-    ensures { parts_of result ≡ spec.parts (tree_of t) }
+pub fn take_apart(t: Box<Term>) -> Parts
+    ensures { parts_of result ≡ spec.parts (tree_of t.value) }
 {
-    match t {
-        Term::Top(index, r) => Parts::OneChild(OneHead::Top(index), Box::into_inner(r)),
-        Term::Sel(fs, r) => Parts::OneChild(OneHead::Sel(fs), Box::into_inner(r)),
-        Term::Proj(e, r) => Parts::OneChild(OneHead::Proj(e), Box::into_inner(r)),
-        Term::Uniq(r) => Parts::OneChild(OneHead::Uniq, Box::into_inner(r)),
-        Term::Insert(r, e) => Parts::OneChild(OneHead::Insert(e), Box::into_inner(r)),
-        Term::Count(r) => Parts::OneChild(OneHead::Count, Box::into_inner(r)),
-        Term::Sum(r) => Parts::OneChild(OneHead::Sum, Box::into_inner(r)),
-        Term::Any(r) => Parts::OneChild(OneHead::Any, Box::into_inner(r)),
-        Term::Cat(r, s) => two(TwoHead::Cat, Box::into_inner(r), Box::into_inner(s)),
-        Term::Join(r, s) => two(TwoHead::Join, Box::into_inner(r), Box::into_inner(s)),
-        Term::Best(way, v, r) => two(TwoHead::Best(way), Box::into_inner(v), Box::into_inner(r)),
-        Term::Pick(way, v, n) => two(TwoHead::Pick(way), Box::into_inner(v), Box::into_inner(n)),
-        Term::Add(a, b) => two(TwoHead::Add, Box::into_inner(a), Box::into_inner(b)),
-        Term::Or(a, b) => two(TwoHead::Or, Box::into_inner(a), Box::into_inner(b)),
+    match Box::into_inner(t) {
+        Term::Top(index, r) => Parts::OneChild(OneHead::Top(index), r),
+        Term::Sel(fs, r) => Parts::OneChild(OneHead::Sel(fs), r),
+        Term::Proj(e, r) => Parts::OneChild(OneHead::Proj(e), r),
+        Term::Uniq(r) => Parts::OneChild(OneHead::Uniq, r),
+        Term::Insert(r, e) => Parts::OneChild(OneHead::Insert(e), r),
+        Term::Count(r) => Parts::OneChild(OneHead::Count, r),
+        Term::Sum(r) => Parts::OneChild(OneHead::Sum, r),
+        Term::Any(r) => Parts::OneChild(OneHead::Any, r),
+        Term::Cat(r, s) => Parts::TwoChildren(TwoHead::Cat, r, s),
+        Term::Join(r, s) => Parts::TwoChildren(TwoHead::Join, r, s),
+        Term::Best(way, v, r) => Parts::TwoChildren(TwoHead::Best(way), v, r),
+        Term::Pick(way, v, n) => Parts::TwoChildren(TwoHead::Pick(way), v, n),
+        Term::Add(a, b) => Parts::TwoChildren(TwoHead::Add, a, b),
+        Term::Or(a, b) => Parts::TwoChildren(TwoHead::Or, a, b),
         Term::Nil => Parts::NoChild(Term::Nil),
         Term::Walk(j) => Parts::NoChild(Term::Walk(j)),
         Term::One(loops) => Parts::NoChild(Term::One(loops)),
@@ -69,41 +70,51 @@ pub fn take_apart(t: Term) -> Parts
     }
 }
 
-fn two(head: TwoHead, first: Term, second: Term) -> Parts
-    ensures { parts_of result ≡ spec.TwoChildren (around_two head) (tree_of first) (tree_of second) }
+fn around_one(head: OneHead, child: Box<Term>) -> Term
+    ensures { tree_of result ≡ seen.around_one head (tree_of child.value) }
 {
-    Parts::TwoChildren(head, first, second)
+    match head {
+        OneHead::Top(index) => Term::Top(index, child),
+        OneHead::Sel(fs) => Term::Sel(fs, child),
+        OneHead::Proj(e) => Term::Proj(e, child),
+        OneHead::Uniq => Term::Uniq(child),
+        OneHead::Insert(e) => Term::Insert(child, e),
+        OneHead::Count => Term::Count(child),
+        OneHead::Sum => Term::Sum(child),
+        OneHead::Any => Term::Any(child),
+    }
+}
+
+fn around_two(head: TwoHead, first: Box<Term>, second: Box<Term>) -> Term
+    ensures { tree_of result ≡ seen.around_two head (tree_of first.value) (tree_of second.value) }
+{
+    match head {
+        TwoHead::Cat => Term::Cat(first, second),
+        TwoHead::Join => Term::Join(first, second),
+        TwoHead::Best(way) => Term::Best(way, first, second),
+        TwoHead::Pick(way) => Term::Pick(way, first, second),
+        TwoHead::Add => Term::Add(first, second),
+        TwoHead::Or => Term::Or(first, second),
+    }
 }
 
 /// The term with this head and child.
-pub fn make_one(alloc: Global, head: OneHead, child: Term) -> Result<Term, NoMemory>
-    ensures { IfOk result (λ t. tree_of t ≡ around_one head (tree_of child)) }
+pub fn make_one(alloc: Global, head: OneHead, child: Box<Term>) -> Result<Box<Term>, NoMemory>
+    ensures { IfOk result (λ t. tree_of t.value ≡ seen.around_one head (tree_of child.value)) }
 {
-    let r = Box::new(alloc, child)?;
-    match head {
-        OneHead::Top(index) => Ok(Term::Top(index, r)),
-        OneHead::Sel(fs) => Ok(Term::Sel(fs, r)),
-        OneHead::Proj(e) => Ok(Term::Proj(e, r)),
-        OneHead::Uniq => Ok(Term::Uniq(r)),
-        OneHead::Insert(e) => Ok(Term::Insert(r, e)),
-        OneHead::Count => Ok(Term::Count(r)),
-        OneHead::Sum => Ok(Term::Sum(r)),
-        OneHead::Any => Ok(Term::Any(r)),
-    }
+    let term = around_one(head, child);
+    Ok(Box::new(alloc, term)?)
 }
 
 /// The term with this head and children.
-pub fn make_two(alloc: Global, head: TwoHead, first: Term, second: Term) -> Result<Term, NoMemory>
-    ensures { IfOk result (λ t. tree_of t ≡ around_two head (tree_of first) (tree_of second)) }
+pub fn make_two(
+    alloc: Global,
+    head: TwoHead,
+    first: Box<Term>,
+    second: Box<Term>,
+) -> Result<Box<Term>, NoMemory>
+    ensures { IfOk result (λ t. tree_of t.value ≡ seen.around_two head (tree_of first.value) (tree_of second.value)) }
 {
-    let r = Box::new(alloc, first)?;
-    let s = Box::new(alloc, second)?;
-    match head {
-        TwoHead::Cat => Ok(Term::Cat(r, s)),
-        TwoHead::Join => Ok(Term::Join(r, s)),
-        TwoHead::Best(way) => Ok(Term::Best(way, r, s)),
-        TwoHead::Pick(way) => Ok(Term::Pick(way, r, s)),
-        TwoHead::Add => Ok(Term::Add(r, s)),
-        TwoHead::Or => Ok(Term::Or(r, s)),
-    }
+    let term = around_two(head, first, second);
+    Ok(Box::new(alloc, term)?)
 }

@@ -16,7 +16,7 @@ use tor_terms::{Atoms, Term};
 /// A normal form, or the open atom that is met.
 #[derive(Drop)]
 pub enum Reduced {
-    Reduct(Term),
+    Reduct(Box<Term>),
     Stuck(u32),
 }
 
@@ -48,8 +48,13 @@ fn with_children(
 
 /// The normal form of a term, or the open atom that it meets.
 #[cycle(reduce)]
-pub fn reduce(alloc: Global, atoms: &Atoms, facts: &Facts, t: Term) -> Result<Reduced, NoMemory>
-    ensures { IfOk result (λ r. reduced_seen r ≡ reduced (spec.normal_form atoms.now facts.now (tree_of t))) }
+pub fn reduce(
+    alloc: Global,
+    atoms: &Atoms,
+    facts: &Facts,
+    t: Box<Term>,
+) -> Result<Reduced, NoMemory>
+    ensures { IfOk result (λ r. reduced_seen r ≡ reduced (spec.normal_form atoms.now facts.now (tree_of t.value))) }
 {
     match reduce_children(alloc, atoms, facts, take_apart(t))? {
         Reduced::Stuck(k) => Ok(Reduced::Stuck(k)),
@@ -68,7 +73,7 @@ fn reduce_children(
     ensures { IfOk result (λ r. reduced_seen r ≡ reduced (spec.normal_parts (spec.normal_form atoms.now facts.now) (parts_of parts))) }
 {
     match parts {
-        Parts::NoChild(t) => Ok(Reduced::Reduct(t)),
+        Parts::NoChild(t) => Ok(Reduced::Reduct(Box::new(alloc, t)?)),
         Parts::OneChild(head, r) => {
             let child = reduce(alloc, atoms, facts, r)?;
             with_child(alloc, head, child)
@@ -86,8 +91,13 @@ fn reduce_children(
 
 // The normal form of a term whose children are in normal form.
 #[cycle(reduce)]
-fn reduce_head(alloc: Global, atoms: &Atoms, facts: &Facts, t: Term) -> Result<Reduced, NoMemory>
-    ensures { IfOk result (λ r. reduced_seen r ≡ reduced (spec.at_head atoms.now facts.now (spec.normal_form atoms.now facts.now) (tree_of t))) }
+fn reduce_head(
+    alloc: Global,
+    atoms: &Atoms,
+    facts: &Facts,
+    t: Box<Term>,
+) -> Result<Reduced, NoMemory>
+    ensures { IfOk result (λ r. reduced_seen r ≡ reduced (spec.at_head atoms.now facts.now (spec.normal_form atoms.now facts.now) (tree_of t.value))) }
 {
     if let Some(k) = met(atoms, facts, &t) {
         return Ok(Reduced::Stuck(k));

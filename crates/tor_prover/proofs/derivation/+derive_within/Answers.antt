@@ -9,11 +9,11 @@ pub derive_within-returns-in-None : goal.derive_within-returns-in-None
 derive_within-returns-in-None t c =
     let j = sym (ap judgement_of c.in-Splits.is) ∙ c.in_ok-left.ensures in
     let a = sym (ap (option_map proof_of) c.in-None.is) ∙ c.in_ok-derive_with-in-Splits.ensures in
-    split-fails c.args.vc.now.atoms c.args.depth c.args.facts.now (tree_of c.args.vc.now.left) (tree_of c.args.vc.now.right) c.in-Splits.k (omega arith) j a
+    split-fails c.args.atoms.now c.args.depth c.args.facts.now (tree_of c.args.left.now) (tree_of c.args.right.now) c.in-Splits.k (omega arith) j a
 
 pub derive_within-returns-in_ok-no-in-Some : goal.derive_within-returns-in_ok-no-in-Some
 derive_within-returns-in_ok-no-in-Some t c =
     let j = sym (ap judgement_of c.in-Splits.is) ∙ c.in_ok-left.ensures in
     let a = sym (ap (option_map proof_of) c.in-Some.is) ∙ c.in_ok-derive_with-in-Splits.ensures in
-    let q = split-derived c.args.vc.now.atoms c.args.depth c.args.facts.now (tree_of c.args.vc.now.left) (tree_of c.args.vc.now.right) c.in-Splits.k _ _ (omega arith) j a c.in_ok-no-in-Some.ensures in
+    let q = split-derived c.args.atoms.now c.args.depth c.args.facts.now (tree_of c.args.left.now) (tree_of c.args.right.now) c.in-Splits.k _ _ (omega arith) j a c.in_ok-no-in-Some.ensures in
     subst (λ x. IfOk c.split_at.result (λ o. option_map proof_of o ≡ x)) q c.split_at.ensures

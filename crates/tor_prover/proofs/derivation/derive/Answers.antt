@@ -1,6 +1,12 @@
-use Rattle.tor_axioms.specs.Accepts.{claim_of}
+use Rattle.std.proofs.Common.{◌≡◌, IfOk, ap, subst, option_map}
+use Rattle.tor_terms.specs.Plain.{tree_of}
+use Rattle.tor_axioms.specs.Accepts.{claim_of, proof_of}
+use Rattle.tor_prover.specs.Derive.{claim_made, derivation_of}
 use Rattle.tor_prover.proofs.Derived.{answer-accepted}
 use Rattle.tor_prover.proofs.derivation.derive.Goals as goal
 
-pub returns-clause-accepted : goal.returns-clause-accepted
-returns-clause-accepted c = answer-accepted (claim_of c.args.vc.now) c.derive_exactly.result c.derive_exactly.ensures
+pub returns : goal.returns
+returns c =
+    let q = ap (λ facts. derivation_of (claim_made c.args.vc.now.atoms facts (tree_of c.args.vc.now.left) (tree_of c.args.vc.now.right))) c.as_slice.ensures in
+    let e = subst (λ x. IfOk c.derive_exactly.result (λ o. option_map proof_of o ≡ x)) q c.derive_exactly.ensures in
+    record { exact = e; accepted = answer-accepted (claim_of c.args.vc.now) c.derive_exactly.result e }

@@ -6,10 +6,10 @@ use Rattle.tor_prover.proofs.Made.{room}
 use Rattle.tor_prover.proofs.normal.+normalise.Given as goal
 
 abbrev pub decreases-normalise : goal.decreases-normalise
-decreases-normalise l = 3 * weight (tree_of l.t) + 2
+decreases-normalise l = 3 * weight (tree_of l.t.value) + 2
 
 abbrev pub decreases-normal_children : goal.decreases-normal_children
 decreases-normal_children l = room (parts_of l.parts)
 
 abbrev pub decreases-finish : goal.decreases-finish
-decreases-finish l = 3 * weight (tree_of l.t)
+decreases-finish l = 3 * weight (tree_of l.t.value)

@@ -8,13 +8,13 @@ use Rattle.tor_prover.proofs.normal.first_rule.Goals as goal
 
 pub returns-in-Some : goal.returns-in-Some
 returns-in-Some c =
-    first_found (rules c.args.atoms.now c.args.facts.now) c.loop-rule.rule (tree_of c.args.t.now) (tree_of c.in-Some.u) _ c.loop-rule.invariant (omega (arith, c.loop-rule.auto.rule, c.head_rules-first.ensures.first)) (omega (arith, c.loop-rule-test.true, c.head_rules-first.ensures.last))
-    (sym (ap (option_map tree_of) c.in-Some.is) ∙ c.in_ok-u.ensures)
+    first_found (rules c.args.atoms.now c.args.facts.now) c.loop-rule.rule (tree_of c.args.t.now) (tree_of c.in-Some.u.value) _ c.loop-rule.invariant (omega (arith, c.loop-rule.auto.rule, c.head_rules-first.ensures.first)) (omega (arith, c.loop-rule-test.true, c.head_rules-first.ensures.last))
+    (sym (ap (option_map (λ u. tree_of u.value)) c.in-Some.is) ∙ c.in_ok-u.ensures)
 
 pub loop-rule-preserved : goal.loop-rule-preserved
 loop-rule-preserved c =
     first_missed (rules c.args.atoms.now c.args.facts.now) c.loop-rule.rule (tree_of c.args.t.now) _ c.loop-rule.invariant (omega (arith, c.loop-rule.auto.rule, c.head_rules-first.ensures.first)) (omega (arith, c.loop-rule-test.true, c.head_rules-first.ensures.last))
-    (sym (ap (option_map tree_of) c.in_default.is) ∙ c.in_ok-u.ensures)
+    (sym (ap (option_map (λ u. tree_of u.value)) c.in_default.is) ∙ c.in_ok-u.ensures)
 
 pub loop-rule-init : goal.loop-rule-init
 loop-rule-init c =

@@ -6,10 +6,10 @@ use Rattle.tor_prover.proofs.Made.{room}
 use Rattle.tor_prover.proofs.reduce.+reduce.Given as goal
 
 abbrev pub decreases-reduce : goal.decreases-reduce
-decreases-reduce l = 3 * weight (tree_of l.t) + 2
+decreases-reduce l = 3 * weight (tree_of l.t.value) + 2
 
 abbrev pub decreases-reduce_children : goal.decreases-reduce_children
 decreases-reduce_children l = room (parts_of l.parts)
 
 abbrev pub decreases-reduce_head : goal.decreases-reduce_head
-decreases-reduce_head l = 3 * weight (tree_of l.t)
+decreases-reduce_head l = 3 * weight (tree_of l.t.value)

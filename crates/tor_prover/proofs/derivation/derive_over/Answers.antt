@@ -1,0 +1,12 @@
+use Rattle.std.proofs.Common.{◌≡◌, IfOk, ap, subst, option_map}
+use Rattle.tor_terms.specs.Plain.{tree_of}
+use Rattle.tor_axioms.specs.Accepts.{claim_over, proof_of}
+use Rattle.tor_prover.specs.Derive.{claim_made, derivation_of}
+use Rattle.tor_prover.proofs.Derived.{answer-accepted}
+use Rattle.tor_prover.proofs.derivation.derive_over.Goals as goal
+
+pub returns : goal.returns
+returns c =
+    let q = ap (λ facts. derivation_of (claim_made c.args.atoms.now facts (tree_of c.args.condition.now.left) (tree_of c.args.condition.now.right))) c.as_slice.ensures in
+    let e = subst (λ x. IfOk c.derive_exactly.result (λ o. option_map proof_of o ≡ x)) q c.derive_exactly.ensures in
+    record { exact = e; accepted = answer-accepted (claim_over c.args.atoms.now c.args.condition.now) c.derive_exactly.result e }
