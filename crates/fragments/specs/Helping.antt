@@ -1,3 +1,4 @@
+pub mod AtNumbers
 pub mod Capped
 pub mod Contexts
 pub mod Counted

@@ -6,3 +6,4 @@ pub mod live;
 pub mod mentioned;
 pub mod name_list;
 pub mod setters;
+pub mod statements;

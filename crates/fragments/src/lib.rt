@@ -10,6 +10,7 @@ mod places;
 mod rules;
 mod verdict;
 
+pub use kept::statements::kept_statements;
 pub use loop_text::statements::walk::loops_of;
 pub use lowering::lowered::{Lowered, Outside};
 pub use places::located::needed;

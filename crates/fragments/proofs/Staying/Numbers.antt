@@ -1,0 +1,100 @@
+-- Statements at the numbers of the kept ones are the kept statements.
+use Rattle.std.proofs.Common.{◌≡◌, ℕ, zero, suc, ◌-◌, ◌≤◌, ◌||◌, List, [], ◌∷◌, ◌++◌, Option, Some, None, refl, sym, ap, ◌∙◌, subst, cond, arith}
+use Rattle.std.proofs.lemmas.Bool.{eq-eqb}
+use Rattle.qbs_base.specs.Values.{Schema}
+use Rattle.sql_ast.specs.Tree.{PlainQuery}
+use Rattle.java_ast.specs.declared.tree.Stmt.{Stmt}
+use Rattle.java_ast.specs.Path.{and_then, numbered}
+use Rattle.java_ast.specs.Reading.{statement, statements}
+use Rattle.java_ast.specs.Tree.{Statement, Statements, Nothing, Then, PlainProgram}
+use Rattle.java_ast.proofs.Ranges.{appended}
+use Rattle.java_loops.specs.Kernel.Kernel.{setting_at, types_at}
+use Rattle.java_loops.specs.Kernel.Setting.{Setting}
+use Rattle.java_loops.specs.Lowering.Lowered.{Lowering, names_read}
+use Rattle.java_loops.specs.Meant.Lowers.{IsLowered}
+use Rattle.java_loops.proofs.Kept.KeptPath.{setting_fragment}
+use Rattle.java_loops.proofs.Kept.KeptRuns.{AreFrom, numbers_from, none_there, earlier_number}
+use Rattle.loop_text.specs.Sites.Sites.{has_number}
+use Rattle.loop_text.specs.Statements.Fragment.{Fragment, fragment_at}
+use Rattle.loop_text.specs.Statements.KeptStatements.{AreKept, none, keeps, drops, with_numbers}
+use Rattle.loop_text.specs.Statements.Names.{Names}
+use Rattle.fragments.specs.Helping.AtNumbers.{alone, at_numbers}
+use Rattle.fragments.specs.RunsThere.{run_of_fragment}
+
+-- ---- One more statement
+
+and_then_assoc : (a b c : Statements) → and_then (and_then a b) c ≡ and_then a (and_then b c)
+and_then_assoc Nothing b c = refl
+and_then_assoc (Then s a) b c = ap (Then s) (and_then_assoc a b c)
+
+pub and_then_nothing : (a : Statements) → and_then a Nothing ≡ a
+and_then_nothing Nothing = refl
+and_then_nothing (Then s a) = ap (Then s) (and_then_nothing a)
+
+-- a statement that is found is pushed
+pub pushed_one : (all after run : List Stmt) (c s : Stmt) (n : ℕ) → after ≡ all ++ c ∷ [] → statement c ≡ statement s → Some (statement s) ≡ numbered n (statements run) → statements after ≡ and_then (statements all) (alone (numbered n (statements run)))
+pushed_one all after run c s n is same there =
+    ap statements is
+    ∙ appended all (c ∷ [])
+    ∙ ap (λ (x : Statement). and_then (statements all) (Then x Nothing)) same
+    ∙ ap (λ (o : Option Statement). and_then (statements all) (alone o)) there
+
+pub pushed_none : (all run : List Stmt) (n : ℕ) → None ≡ numbered n (statements run) → statements all ≡ and_then (statements all) (alone (numbered n (statements run)))
+pushed_none all run n there = sym (and_then_nothing (statements all)) ∙ ap (λ (o : Option Statement). and_then (statements all) (alone o)) there
+
+-- what has been found, followed by the rest, where one more is found
+pub one_further : (first : ℕ) (run before after whole : Statements) (n : ℕ) (numbers rest : List ℕ) → and_then before (at_numbers first run numbers) ≡ whole → numbers ≡ n ∷ rest → after ≡ and_then before (alone (numbered (n - first) run)) → and_then after (at_numbers first run rest) ≡ whole
+one_further first run before after whole n numbers rest h cut found =
+    ap (λ (ss : Statements). and_then ss (at_numbers first run rest)) found
+    ∙ and_then_assoc before (alone (numbered (n - first) run)) (at_numbers first run rest)
+    ∙ sym (ap (λ (ns : List ℕ). and_then before (at_numbers first run ns)) cut)
+    ∙ h
+
+-- ---- At the numbers of the kept statements
+
+one_less : (n m : ℕ) → suc n ≤ m → m - n ≡ suc (m - suc n)
+one_less n m h = omega arith
+
+zero_less : (n : ℕ) → n - n ≡ zero
+zero_less n = omega arith
+
+-- numbers behind that of the first statement pass over it
+passes : (n : ℕ) (s : Statement) (ss : Statements) (numbers : List ℕ) → AreFrom (suc n) numbers → at_numbers n (Then s ss) numbers ≡ at_numbers (suc n) ss numbers
+passes n s ss [] h = refl
+passes n s ss (m ∷ ms) h =
+    ap (λ (j : ℕ). and_then (alone (numbered j (Then s ss))) (at_numbers n (Then s ss) ms)) (one_less n m h.0)
+    ∙ ap (and_then (alone (numbered (m - suc n) ss))) (passes n s ss ms h.1)
+
+kept_found : (f : Fragment) (further : Names) (n : ℕ) (p : Statements) (numbers : List ℕ) → AreKept f further n p numbers → at_numbers n p numbers ≡ with_numbers numbers n p
+kept_found f further _ _ _ (none n) = refl
+kept_found f further _ _ _ (keeps n s ss numbers k h) =
+    ap (λ (j : ℕ). and_then (alone (numbered j (Then s ss))) (at_numbers n (Then s ss) numbers)) (zero_less n)
+    ∙ ap (Then s) (passes n s ss numbers (numbers_from f further (suc n) ss numbers h) ∙ kept_found f further (suc n) ss numbers h ∙ sym (earlier_number numbers n (suc n) ss (omega arith)))
+    ∙ sym (ap (λ b. cond (b || has_number numbers n) (Then s (with_numbers (n ∷ numbers) (suc n) ss)) (with_numbers (n ∷ numbers) (suc n) ss)) (eq-eqb n n refl))
+kept_found f further _ _ _ (drops n s ss numbers k h) =
+    passes n s ss numbers (numbers_from f further (suc n) ss numbers h)
+    ∙ kept_found f further (suc n) ss numbers h
+    ∙ sym (ap (λ b. cond b (Then s (with_numbers numbers (suc n) ss)) (with_numbers numbers (suc n) ss)) (none_there n numbers (numbers_from f further (suc n) ss numbers h)))
+
+-- ---- In a program
+
+same_setting : (o : Option Setting) (v w : Setting) → o ≡ Some v → o ≡ Some w → v ≡ w
+same_setting o v w e h = cc
+
+module _ (schema : Schema) (read : List ℕ → Option PlainQuery) (p : PlainProgram) (path : List ℕ) (l : Lowering) (first : ℕ) (kept : List ℕ) (k : IsLowered schema read p path l first kept) (w : Setting) (is : setting_at schema read path p ≡ Some w) where
+  fragment_is : fragment_at path p ≡ Some w.fragment
+  fragment_is = setting_fragment schema read p path w (types_at schema path p) (fragment_at path p) refl is
+
+  kept_is : AreKept w.fragment (names_read l.entries) first w.fragment.run kept
+  kept_is = subst (λ (v : Setting). AreKept v.fragment (names_read l.entries) first v.fragment.run kept) (same_setting (setting_at schema read path p) k.setting w k.there is) k.keeps
+
+  -- those that are found in the run are kept
+  pub run_kept : (run ss : Statements) → Some run ≡ run_of_fragment (fragment_at path p) → ss ≡ at_numbers first run kept → ss ≡ with_numbers kept first w.fragment.run
+  run_kept run ss there found =
+      let same : Some run ≡ Some w.fragment.run = there ∙ ap run_of_fragment fragment_is in
+      let runs : run ≡ w.fragment.run = cc in
+      found ∙ ap (λ (z : Statements). at_numbers first z kept) runs ∙ kept_found w.fragment (names_read l.entries) first w.fragment.run kept kept_is
+
+  -- a loop has a run
+  pub run_missing : None ≡ run_of_fragment (fragment_at path p) → ⊥
+  run_missing h = let same : None ≡ Some w.fragment.run = h ∙ ap run_of_fragment fragment_is in absurd cc

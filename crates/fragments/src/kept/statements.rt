@@ -1,0 +1,76 @@
+// The kept statements of a run, as they stand.
+ghost use Rattle.std.specs.Prelude.{◌≡◌, ℕ, ◌-◌, List, IfOk, OnOk};
+ghost use Rattle.std.specs.declared.option.Option.{Option};
+ghost use Rattle.std.specs.declared.option.Option.TheVariants.{Some};
+ghost use Rattle.qbs_base.specs.Values.{Schema};
+ghost use Rattle.sql_ast.specs.Tree.{PlainQuery};
+ghost use Rattle.java_ast.specs.Path.{and_then, numbered};
+ghost use Rattle.java_ast.specs.Reading.{statements, program as plain_program};
+ghost use Rattle.java_loops.specs.Kernel.Kernel.{setting_at};
+ghost use Rattle.java_loops.specs.Kernel.Setting.{Setting};
+ghost use Rattle.java_loops.specs.Lowering.Lowered.{Lowering};
+ghost use Rattle.java_loops.specs.Meant.Lowers.{IsLowered};
+ghost use Rattle.loop_text.specs.Statements.KeptStatements.{with_numbers};
+ghost use Rattle.fragments.specs.Helping.AtNumbers as specs;
+
+use crate::lowering::lowered::Lowered;
+use crate::places::run::run_at;
+use java_ast::{Path, Program, Stmt, copy_statement};
+use qbs_base::NoMemory;
+use std::alloc::Global;
+
+// One more statement: that with this number, where the first of the run has the number `first`. None, where there is none.
+fn push_numbered(
+    alloc: Global,
+    all: &mut Vec<Stmt>,
+    run: &[Stmt],
+    first: u64,
+    number: u64,
+) -> Result<(), NoMemory>
+    ensures { OnOk result (
+        statements all.new.items
+        ≡ and_then (statements all.old.items) (specs.alone (numbered (number - first) (statements run.now)))) }
+{
+    let Some(s) = run.get(number.saturating_sub(first) as usize) else {
+        return Ok(());
+    };
+    all.push(copy_statement(alloc, s)?)?;
+    Ok(())
+}
+
+// The statements with these numbers.
+fn at_numbers(
+    alloc: Global,
+    run: &[Stmt],
+    first: u64,
+    numbers: &[u64],
+) -> Result<Vec<Stmt>, NoMemory>
+    ensures { IfOk result (λ r. statements r.items ≡ specs.at_numbers first (statements run.now) numbers.now) }
+{
+    let mut all = Vec::new(alloc);
+    for number in numbers {
+        push_numbered(alloc, &mut all, run, first, *number)?;
+    }
+    Ok(all)
+}
+
+/// The statements of the run before a loop that a rewrite keeps, copied in their order with their places. The program, the path
+/// and what `lower` gave for the loop there are its arguments; a path that leads to no loop has no such statements. Each is
+/// found by its number, and the rest of the program isn't walked. The error is want of memory.
+pub fn kept_statements(
+    alloc: Global,
+    program: &Program,
+    path: &Path,
+    lowered: &Lowered,
+) -> Result<Vec<Stmt>, NoMemory>
+    ensures { IfOk result (λ r.
+        (schema : Schema) (read : List ℕ → Option PlainQuery) (l : Lowering) (w : Setting)
+        → IsLowered schema read (plain_program program.now) path.now l lowered.now.first lowered.now.kept
+        → setting_at schema read path.now (plain_program program.now) ≡ Some w
+        → statements r.items ≡ with_numbers lowered.now.kept lowered.now.first w.fragment.run) }
+{
+    match run_at(program, path) {
+        None => Ok(Vec::new(alloc)),
+        Some(before) => at_numbers(alloc, before, lowered.first, lowered.kept.as_slice()),
+    }
+}
