@@ -22,3 +22,4 @@ pub mod Standing
 pub mod TypedAnswers
 pub mod TypedArguments
 pub mod TypedAsks
+pub mod Writable

@@ -1,6 +1,6 @@
 -- The element type with which an ask is spelled is that of its variable, and the table of rows that are taken whole is the one
 -- that is spelled.
-use Rattle.std.proofs.Common.{◌≡◌, ℕ, List, [], slice_get, get_or, bytes_eq, Option, Some, None, refl, ap, ◌∙◌}
+use Rattle.std.proofs.Common.{◌≡◌, ℕ, List, [], slice_get, get_or, bytes_eq, Option, Some, None, refl, sym, ap, ◌∙◌}
 use Rattle.std.proofs.lemmas.List.Quantifiers.{position-Some}
 use Rattle.std.proofs.lemmas.Option.{slice_get-get_or}
 use Rattle.qbs_base.specs.Columns.{table_number}
@@ -120,3 +120,9 @@ module _ (schema : Schema) where
   table_spelled e n h =
       let t : NamesTable e n = names_table e n h in
       ap (λ z. row_type (table_number schema z)) (table_named t.name n t.number) ∙ ap row_type t.number
+
+  -- What is spelled as the rows of a table is spelled by the table's name.
+  pub table_is : (e : Spelled) (n : ℕ) → single_spelled schema e ≡ Some (RowOf n) → e ≡ tree.Table (table_name (slice_get schema n))
+  table_is e n h =
+      let t : NamesTable e n = names_table e n h in
+      t.is ∙ ap tree.Table (sym (table_named t.name n t.number))

@@ -1,0 +1,5 @@
+pub mod Asks
+pub mod Entries
+pub mod Parts
+pub mod QueryTexts
+pub mod Replaced

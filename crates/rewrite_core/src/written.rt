@@ -1,0 +1,19 @@
+//! That rewritten programs are of the grammar and can be written as texts, as a law. It does nothing.
+ghost use Rattle.qbs_base.specs.Values.{Schema};
+ghost use Rattle.java_mean.specs.Queries.{Reader};
+ghost use Rattle.java_parser.specs.InGrammar.{IsInGrammar};
+ghost use Rattle.java_parser.specs.Written.{IsWritten};
+ghost use Rattle.rewrite_core.specs.Asked.{Place, replaced};
+ghost use Rattle.rewrite_core.specs.Asking.{MayBeAsked};
+
+/// A program in which a loop gives way to the asks that stand for it is a program of the grammar that can be written as a text,
+/// where the program with the loop is one: its canonical text has it. The kept statements stood there before, the asks'
+/// variables and types are those of the run, their arguments read what the loop and its run read, and the texts of their queries
+/// are UTF-8.
+pub fn replaced_programs_are_written()
+    ensures { (schema : Schema) (reader : Reader schema) (l : Place)
+        → MayBeAsked schema reader.read l.program l.path l.setting l.candidate
+        → IsInGrammar l.program
+        → IsWritten l.program
+        → IsInGrammar (replaced l) × IsWritten (replaced l) }
+{}
