@@ -107,7 +107,7 @@ module _ (schema : Schema) (reader : Reader schema) (p : PlainProgram) (path : L
   answer_whole : (here : MeansItsLoopThere schema reader.read p path w) → AnswersWithAnswers (frame_of schema reader.read here.method) (seen_at schema here.method here.hole) w (asks_of l)
   answer_whole here world is_world s t from passes entry matched typed whole fitting values ended = answers here world is_world s t from passes entry matched typed whole values ended
 
-  asks_for_loop : AskForLoop schema reader.read p path w (asks_of l)
+  pub asks_for_loop : AskForLoop schema reader.read p path w (asks_of l)
   asks_for_loop =
       let are = asks_are l 0 0 (needed_in_order w) (lowering w).fragment.accs (follow_first l) outer in
       record {

@@ -6,6 +6,7 @@ pub mod AskedFaultless
 pub mod Asks
 pub mod Claimed
 pub mod Computed
+pub mod EachName
 pub mod FaultlessArguments
 pub mod FaultlessAsks
 pub mod FaultlessCalls
@@ -16,9 +17,12 @@ pub mod KeptFaultless
 pub mod Known
 pub mod May
 pub mod NoReturns
+pub mod NumbersStay
 pub mod Outer
 pub mod SpelledElements
 pub mod Standing
+pub mod Starting
+pub mod StaysTyped
 pub mod TypedAnswers
 pub mod TypedArguments
 pub mod TypedAsks

@@ -61,12 +61,12 @@ module _ (schema : Schema) (round : Around) (at_loop : Types) where
 -- ---- Kept statements
 
 module _ (schema : Schema) where
-  past_both : (g : Types) (p q : Statements) → types_past schema g (followed_by p q) ≡ types_past schema (types_past schema g p) q
+  pub past_both : (g : Types) (p q : Statements) → types_past schema g (followed_by p q) ≡ types_past schema (types_past schema g p) q
   past_both g Nothing q = refl
   past_both g (Then a p) q = past_both (types_after schema g a) p q
 
   -- a loop leaves nothing more visible
-  past_loop : (g : Types) (a : Statement) → is_loop a ≡ true → types_past schema g (Then a Nothing) ≡ g
+  pub past_loop : (g : Types) (a : Statement) → is_loop a ≡ true → types_past schema g (Then a Nothing) ≡ g
   past_loop g (tree.ForEach at ty x e b) l = refl
   past_loop g (tree.While at c b) l = refl
   past_loop g (tree.Declare at ty x e) l = absurd cc
@@ -86,7 +86,7 @@ module _ (schema : Schema) where
   one_kept r a p g h true e alike further skipped = further (alike_after schema r g h a alike)
   one_kept r a p g h false e alike further skipped = skipped (alike_dropped schema r g h a e alike)
 
-  kept_leave : (r : Set) (p : Statements) (g h : Types) → AlikeOn r g h → AlikeOn r (types_past schema g p) (types_past schema h (kept r p))
+  pub kept_leave : (r : Set) (p : Statements) (g h : Types) → AlikeOn r g h → AlikeOn r (types_past schema g p) (types_past schema h (kept r p))
   kept_leave r Nothing g h alike = alike
   kept_leave r (Then a p) g h alike = one_kept r a p g h (r (set_by a)) refl alike (λ further. kept_leave r p (types_after schema g a) (types_after schema h a) further) (λ skipped. kept_leave r p (types_after schema g a) h skipped)
 

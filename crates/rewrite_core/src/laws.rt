@@ -163,3 +163,22 @@ pub fn asked_programs_keep()
         → NumbersFit (replaced l)
         → Keeps l.program (replaced l) schema }
 {}
+
+/// The program in which the asks stand for a loop, behind the kept statements of its run, is well typed, and its literals have
+/// 64 bits: what the asks declare was declared by the run, and what is mentioned or declared behind the loop is left as the run and
+/// the loop leave it.
+pub fn replaced_programs_are_well_typed()
+    ensures typed { (schema : Schema) (reader : Reader schema) (l : Place)
+        → MayBeAsked schema reader.read l.program l.path l.setting l.candidate
+        → IsWellTyped schema reader.read (replaced l) }
+    ensures numbers { (schema : Schema) (reader : Reader schema) (l : Place)
+        → MayBeAsked schema reader.read l.program l.path l.setting l.candidate
+        → NumbersFit (replaced l) }
+{}
+
+/// A program keeps what it does where a loop that may be asked for gives way to the asks that stand for it.
+pub fn loops_give_way_to_queries()
+    ensures { (schema : Schema) (reader : Reader schema) (l : Place)
+        → MayBeAsked schema reader.read l.program l.path l.setting l.candidate
+        → Keeps l.program (replaced l) schema }
+{}
