@@ -1,5 +1,9 @@
 pub mod Asks
 pub mod Entries
+pub mod Given
+pub mod Leaves
+pub mod Literals
 pub mod Parts
 pub mod QueryTexts
 pub mod Replaced
+pub mod Worked

@@ -1,10 +1,11 @@
-//! That rewritten programs are of the grammar and can be written as texts, as a law. It does nothing.
+//! That rewritten programs are of the grammar and can be written as texts, as laws. They do nothing.
 ghost use Rattle.qbs_base.specs.Values.{Schema};
 ghost use Rattle.java_mean.specs.Queries.{Reader};
 ghost use Rattle.java_parser.specs.InGrammar.{IsInGrammar};
 ghost use Rattle.java_parser.specs.Written.{IsWritten};
 ghost use Rattle.rewrite_core.specs.Asked.{Place, replaced};
 ghost use Rattle.rewrite_core.specs.Asking.{MayBeAsked};
+ghost use Rattle.rewrite_core.specs.Worked.{asking_once};
 
 /// A program in which a loop gives way to the asks that stand for it is a program of the grammar that can be written as a text,
 /// where the program with the loop is one: its canonical text has it. The kept statements stood there before, the asks'
@@ -16,4 +17,10 @@ pub fn replaced_programs_are_written()
         → IsInGrammar l.program
         → IsWritten l.program
         → IsInGrammar (replaced l) × IsWritten (replaced l) }
+{}
+
+/// So it is for a worked class whose loop tests a known list: the class in which the loop has given way to its query is of the
+/// grammar and can be written.
+pub fn a_class_that_asks_is_written()
+    ensures { IsInGrammar asking_once × IsWritten asking_once }
 {}

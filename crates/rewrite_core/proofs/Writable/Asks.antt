@@ -30,12 +30,12 @@ use Rattle.java_mean.specs.declared.types.Single.{Single}
 use Rattle.java_mean.specs.declared.types.Single.TheVariants.{RowOf}
 use Rattle.java_mean.specs.Queries.{Reader}
 use Rattle.java_mean.specs.Types.{single_spelled, type_spelled}
-use Rattle.loop_text.specs.Sites.Sites.{place_of, sites_of}
-use Rattle.loop_text.specs.Statements.Fragment.{set_by, is_simple, are_simple, Fragment, fragment_at}
+use Rattle.loop_text.specs.Sites.Sites.{place_of}
+use Rattle.loop_text.specs.Statements.Fragment.{set_by, is_simple, are_simple, fragment_at}
 use Rattle.loop_text.specs.Statements.KeptStatements.{with_numbers}
 use Rattle.loop_text.specs.Statements.Names.{Names, is_among}
 use Rattle.loop_text.specs.Statements.Setting.{touches, first_touching}
-use Rattle.java_loops.specs.Kernel.Kernel.{types_at, broken, lowering}
+use Rattle.java_loops.specs.Kernel.Kernel.{types_at, lowering}
 use Rattle.java_loops.specs.Kernel.Setting.{Setting, setting_of}
 use Rattle.java_loops.specs.Lowering.Collected.{row_of_list, element_type, collected_type}
 use Rattle.java_loops.specs.Lowering.Lowered.{set_in_order, needed_in_order, names_read}
@@ -49,7 +49,6 @@ use Rattle.java_loops.proofs.Lowering.LowerChains.{at_setting}
 use Rattle.java_loops.proofs.Lowering.LowerValid.{fragments_valid}
 use Rattle.java_loops.proofs.Placing.Place.{IsPlacedIn}
 use Rattle.java_loops.proofs.Placing.PlaceSpelled.{spelled_there}
-use Rattle.java_loops.proofs.Placing.PlaceTyped.{FragmentThere}
 use Rattle.fragments.specs.Asked.{queries_in}
 use Rattle.rewrite_core.specs.Asked.{Place, entry_at, arguments_of, value_by, type_started, start_type, table_taken, spelled_or_text, asks_of, first_of_run, replaced}
 use Rattle.rewrite_core.specs.Asking.{QueriesAreValid, MayBeAsked}
@@ -58,8 +57,10 @@ use Rattle.rewrite_core.proofs.Outer.{AreOuter, accumulators_there}
 use Rattle.rewrite_core.proofs.SpelledElements.{list_element, table_is}
 use Rattle.rewrite_core.proofs.TypedAnswers.{made_found}
 use Rattle.rewrite_core.proofs.TypedAsks.{Collects, AllCollect, collects_there}
-use Rattle.rewrite_core.proofs.Writable.Entries.{fine_entries, fine_atoms, fine_known}
-use Rattle.rewrite_core.proofs.Writable.Parts.{Holds, IsFineFragment, fine_fragment, fine_kept, IsFineElement, fine_element}
+use Rattle.rewrite_core.proofs.Writable.Entries.{fine_entries}
+use Rattle.rewrite_core.proofs.Writable.Given.{Holds}
+use Rattle.rewrite_core.proofs.Writable.Literals.{fine_atoms, fine_known}
+use Rattle.rewrite_core.proofs.Writable.Parts.{IsFineFragment, fine_fragment, fine_kept, IsFineElement, fine_element}
 use Rattle.rewrite_core.proofs.Writable.Replaced.{IsFine, AllFine, IsFineStatement, AreFineStatements, IsFineType, IsFineProgram, fine_then, fine_first, fine_rest, fine_nothing, fine_both, fine_replaced}
 
 -- ---- Arguments

@@ -1,35 +1,20 @@
 -- The run and the loop of a fragment, and the types that its program spells, are of the grammar and can be written where the
 -- program is and can.
-use Rattle.std.proofs.Common.{◌≡◌, ℕ, zero, suc, Bool, true, false, cond, ◌==◌, List, [], ◌∷◌, slice_get, bytes_eq, Option, Some, None, refl, ap, subst}
-use Rattle.java_ast.specs.Path.{found_in, numbered, branch_of, first_branch, either_branch, first_of, behind_of}
+use Rattle.std.proofs.Common.{◌≡◌, ℕ, zero, suc, Bool, true, false, cond, ◌==◌, List, [], ◌∷◌, slice_get, bytes_eq, Option, Some, None}
+use Rattle.java_ast.specs.Path.{found_in, numbered, branch_of, first_of, behind_of}
 use Rattle.java_ast.specs.Tree.{Spelled, ListOf, SetOf, Expression, Statement, Declare, Assign, Add, Sort, If, IfElse, ForEach, While, Print, Return, Break, Statements, Nothing, Then, PlainParam, PlainMethod, PlainProgram}
 use Rattle.java_ast.specs.Tree as tree
 use Rattle.java_parser.specs.InGrammar.{IsElement, IsType, IsScalarType, InParams, InMethod, InMethods, IsInGrammar}
 use Rattle.java_parser.specs.Written.{WrittenType, WrittenParams, WrittenMethods, IsWritten}
 use Rattle.loop_text.specs.Sites.Sites.{has_number}
-use Rattle.loop_text.specs.Statements.Fragment.{are_simple, run_of, before_run, Fragment, fragment_of, fragment_where, fragment_here, fragment_in, fragment_at}
+use Rattle.loop_text.specs.Statements.Fragment.{are_simple, run_of, Fragment, fragment_of, fragment_where, fragment_here, fragment_in, fragment_at}
 use Rattle.loop_text.specs.Statements.KeptStatements.{with_numbers}
 use Rattle.loop_text.specs.Statements.Loops.{is_loop}
 use Rattle.loop_text.specs.Statements.Names.{Names, with_names, declared_among, walking, names_of_params}
 use Rattle.java_loops.specs.Lowering.Spelling.{spelled_after, spelled_past, spelled_inside, spelled_in, spelled_of_param, spelled_in_method, spelled_at, element_spelled}
 use Rattle.rewrite_core.specs.Asked.{spelled_or_text}
-use Rattle.rewrite_core.proofs.Writable.Replaced.{IsFineStatement, AreFineStatements, IsFineType, IsFineProgram, fine_then, fine_first, fine_rest, fine_nothing, fine_front, fine_behind}
-
--- what is found there is of this kind
-abbrev pub Holds : {A : Type 0} → (A → Type 0) → Option A → Type 0
-Holds P None = Unit {0}
-Holds P (Some x) = P x
-
-some_is : {A : Type 0} (x y : A) → Some x ≡ Some y → x ≡ y
-some_is x y e = cc
-
-found_holds : {A : Type 0} (P : A → Type 0) (o : Option A) (x : A) → o ≡ Some x → Holds P o → P x
-found_holds P (Some y) x e h = subst P (some_is y x e) h
-found_holds P None x e h = absurd cc
-
-found_all : {A B : Type 0} (P : A → Type 0) (Q : B → Type 0) (f : A → Option B) (o : Option A) → Holds P o → ((x : A) → P x → Holds Q (f x)) → Holds Q (found_in f o)
-found_all P Q f None h k = tt
-found_all P Q f (Some x) h k = k x h
+use Rattle.rewrite_core.proofs.Writable.Given.{Holds, found_holds, found_all}
+use Rattle.rewrite_core.proofs.Writable.Replaced.{IsFineStatement, AreFineStatements, IsFineType, IsFineProgram, fine_then, fine_first, fine_rest, fine_front, fine_behind}
 
 -- ---- Statements by their numbers
 

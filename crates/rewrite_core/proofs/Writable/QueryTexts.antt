@@ -1,5 +1,5 @@
 -- The text literals of a query that some UTF-8 text has are UTF-8.
-use Rattle.std.proofs.Common.{◌≡◌, ℕ, zero, suc, ◌+◌, ◌<◌, Bool, true, false, cond, nat_eq, List, [], ◌∷◌, ◌++◌, length, drop, get_or, codes, Option, Some, None, Result, Ok, Err, IsUtf8, refl, sym, ap, ◌∙◌, subst, arith, append_assoc, length-append}
+use Rattle.std.proofs.Common.{◌≡◌, ℕ, ◌+◌, ◌<◌, Bool, true, false, cond, nat_eq, List, [], ◌∷◌, ◌++◌, length, drop, get_or, codes, Option, Some, None, Result, Ok, Err, IsUtf8, refl, sym, ap, subst, arith, append_assoc, length-append}
 use Rattle.std.specs.List.{AllByRecursion, list_all}
 use Rattle.std.specs.Char.{is_ascii_digit}
 use Rattle.std.proofs.lemmas.Bool.{and_parts, eqb-true}
@@ -13,24 +13,19 @@ use Rattle.sql_ast.specs.declared.rule.SqlRule.{SqlRule}
 use Rattle.sql_ast.specs.declared.rule.SqlRule.TheVariants as rules
 use Rattle.sql_ast.specs.declared.tree.Cmp.{Cmp}
 use Rattle.sql_ast.specs.declared.tree.Cmp.TheVariants as tests
-use Rattle.sql_ast.specs.declared.tree.NumberKind.{NumberKind}
-use Rattle.sql_ast.specs.declared.tree.SqlCol.{SqlCol}
-use Rattle.sql_ast.specs.declared.tree.SqlItem.{SqlItem}
-use Rattle.sql_ast.specs.declared.tree.SqlKey.{SqlKey}
-use Rattle.sql_ast.specs.declared.tree.SqlOpnd.{SqlOpnd}
 use Rattle.sql_ast.specs.declared.tree.SqlOpnd.TheVariants as opnds
 use Rattle.sql_ast.specs.Canonical.{doubled}
 use Rattle.sql_ast.specs.Grammar.{HasOpnd, col_opnd, long_opnd, text_opnd, true_opnd, false_opnd, param_opnd, HasCondition, one_conjunction, either, HasConjunction, one_negation, both, HasNegation, one_atom, negation, HasAtom, enclosed, comparison, bare, exists, within, HasSource, source, HasWhere, no_where, where_of, HasCounted, count, sum, best, HasWritten, listing, number, truth}
-use Rattle.sql_ast.specs.Names.{◌>>=◌, each_of, Known, Scope, known_parts, froms_of, inside, named_col, named_opnd, named_condition, named_filter, named_item, named_group, named_key, named_kind, outermost, named_listing, named_number, named_truth, named_query}
+use Rattle.sql_ast.specs.Names.{◌>>=◌, each_of, Scope, known_parts, froms_of, inside, named_col, named_opnd, named_condition, named_filter, named_item, named_group, named_key, named_kind, outermost, named_listing, named_number, named_truth, named_query}
 use Rattle.sql_ast.specs.Texts.{with_types, judged_named, judged, HasQuery}
-use Rattle.sql_ast.specs.Tokens.{Token, Word, Digits, Quoted, Test, Open, Close, Comma, is_name, is_number, sign_of, HasSpelling, word, digits, negative, quoted, param, test, unlike, opened, closed, comma, dot, star, HasTokens, nothing, blank, token}
+use Rattle.sql_ast.specs.Tokens.{Token, Digits, Quoted, Test, Open, Close, Comma, is_name, is_number, sign_of, HasSpelling, word, digits, negative, quoted, param, test, unlike, opened, closed, comma, dot, star, HasTokens, nothing, blank, token}
 use Rattle.sql_ast.specs.Tree.{Condition, Filter, PlainListing, PlainNumber, PlainTruth, PlainQuery}
 use Rattle.sql_ast.specs.Tree as plain
 use Rattle.sql_ast.specs.Typing.{types_fit, group_fits, params_of, with_params}
-use Rattle.sql_ast.specs.Utf8.{ScalarIsUtf8, OperandIsUtf8, ConditionIsUtf8, FilterIsUtf8, LiteralsAreUtf8}
-use Rattle.sql_ast.specs.Written.{WrittenPart, WrittenOpnd, WrittenCondition, WrittenFilter, WrittenKind, WrittenListing, WrittenNumber, WrittenTruth, WrittenQuery}
-use Rattle.sql_ast.specs.Written as written
-use Rattle.sql_ast.proofs.Tools.{some_is, bind_some, passed, all_parts}
+use Rattle.sql_ast.specs.Utf8.{OperandIsUtf8, ConditionIsUtf8, FilterIsUtf8, LiteralsAreUtf8}
+use Rattle.sql_ast.specs.Written.{WrittenPart, WrittenOpnd, WrittenCondition, WrittenFilter, WrittenListing, WrittenNumber, WrittenTruth, WrittenQuery}
+use Rattle.sql_ast.proofs.Tools.{all_parts}
+use Rattle.rewrite_core.proofs.Writable.Given.{Holds, found_holds, next, any_next}
 
 -- ---- Texts that are cut at an ASCII byte
 
@@ -153,122 +148,111 @@ tokens_utf8 _ _ (token {us = us} {bs = bs} {t = t} {ts = ts} s stop rest) u = le
 
 -- ---- Conditions
 
-opnd_utf8 : (ts : List Token) (w : WrittenOpnd) → HasOpnd ts w → TokensAreUtf8 ts → (scope : Scope) (a : SqlOpnd) → named_opnd scope w ≡ Some a → OperandIsUtf8 a
-opnd_utf8 ts _ (col_opnd {col = col} h) all scope a e =
-    let b = bind_some (named_col scope col) (λ c. (let x : Option SqlOpnd = Some (opnds.Column c) in x)) a e in
-    subst OperandIsUtf8 (some_is (opnds.Column b.0) a b.2) tt
-opnd_utf8 ts _ (long_opnd {n = n} h) all scope a e = subst OperandIsUtf8 (some_is (opnds.Lit _) a e) tt
-opnd_utf8 ts _ (text_opnd {text = text}) all scope a e = subst OperandIsUtf8 (some_is (opnds.Lit _) a e) all.0
-opnd_utf8 ts _ (true_opnd h) all scope a e = subst OperandIsUtf8 (some_is (opnds.Lit _) a e) tt
-opnd_utf8 ts _ (false_opnd h) all scope a e = subst OperandIsUtf8 (some_is (opnds.Lit _) a e) tt
-opnd_utf8 ts _ (param_opnd {n = n}) all scope a e = subst OperandIsUtf8 (some_is (opnds.Param n) a e) tt
+opnd_utf8 : (ts : List Token) (w : WrittenOpnd) → HasOpnd ts w → TokensAreUtf8 ts → (scope : Scope) → Holds OperandIsUtf8 (named_opnd scope w)
+opnd_utf8 ts _ (col_opnd {col = col} h) all scope = any_next OperandIsUtf8 (named_col scope col) (λ c. Some (opnds.Column c)) (λ c. tt)
+opnd_utf8 ts _ (long_opnd h) all scope = tt
+opnd_utf8 ts _ text_opnd all scope = all.0
+opnd_utf8 ts _ (true_opnd h) all scope = tt
+opnd_utf8 ts _ (false_opnd h) all scope = tt
+opnd_utf8 ts _ param_opnd all scope = tt
 
 module _ (schema : Schema) where
   mutual
-    condition_utf8 : (ts : List Token) (w : WrittenCondition) → HasCondition ts w → TokensAreUtf8 ts → (scope : Scope) (c : Condition) → named_condition schema scope w ≡ Some c → ConditionIsUtf8 c
-    condition_utf8 ts w (one_conjunction h) all scope c e = conjunction_utf8 ts w h all scope c e
-    condition_utf8 _ _ (either {us = us} {vs = vs} {t = t} {a = a} {b = b} h k l) all scope c e =
+    condition_utf8 : (ts : List Token) (w : WrittenCondition) → HasCondition ts w → TokensAreUtf8 ts → (scope : Scope) → Holds ConditionIsUtf8 (named_condition schema scope w)
+    condition_utf8 ts w (one_conjunction h) all scope = conjunction_utf8 ts w h all scope
+    condition_utf8 _ _ (either {us = us} {vs = vs} {t = t} {a = a} {b = b} h k l) all scope =
         let f = all_parts TokenIsUtf8 us (t ∷ vs) all in
-        let x = bind_some (named_condition schema scope a) (λ c. named_condition schema scope b >>= λ d. (let x : Option Condition = Some (plain.Either c d) in x)) c e in
-        let y = bind_some (named_condition schema scope b) (λ d. (let x : Option Condition = Some (plain.Either x.0 d) in x)) c x.2 in
-        subst ConditionIsUtf8 (some_is (plain.Either x.0 y.0) c y.2) (condition_utf8 us a h f.0 scope x.0 x.1, conjunction_utf8 vs b l f.1.1 scope y.0 y.1)
+        next ConditionIsUtf8 ConditionIsUtf8 (named_condition schema scope a) (λ c. named_condition schema scope b >>= λ d. Some (plain.Either c d)) (condition_utf8 us a h f.0 scope)
+        (λ c i. next ConditionIsUtf8 ConditionIsUtf8 (named_condition schema scope b) (λ d. Some (plain.Either c d)) (conjunction_utf8 vs b l f.1.1 scope) (λ d j. (i, j)))
 
-    conjunction_utf8 : (ts : List Token) (w : WrittenCondition) → HasConjunction ts w → TokensAreUtf8 ts → (scope : Scope) (c : Condition) → named_condition schema scope w ≡ Some c → ConditionIsUtf8 c
-    conjunction_utf8 ts w (one_negation h) all scope c e = negation_utf8 ts w h all scope c e
-    conjunction_utf8 _ _ (both {us = us} {vs = vs} {t = t} {a = a} {b = b} h k l) all scope c e =
+    conjunction_utf8 : (ts : List Token) (w : WrittenCondition) → HasConjunction ts w → TokensAreUtf8 ts → (scope : Scope) → Holds ConditionIsUtf8 (named_condition schema scope w)
+    conjunction_utf8 ts w (one_negation h) all scope = negation_utf8 ts w h all scope
+    conjunction_utf8 _ _ (both {us = us} {vs = vs} {t = t} {a = a} {b = b} h k l) all scope =
         let f = all_parts TokenIsUtf8 us (t ∷ vs) all in
-        let x = bind_some (named_condition schema scope a) (λ c. named_condition schema scope b >>= λ d. (let x : Option Condition = Some (plain.Both c d) in x)) c e in
-        let y = bind_some (named_condition schema scope b) (λ d. (let x : Option Condition = Some (plain.Both x.0 d) in x)) c x.2 in
-        subst ConditionIsUtf8 (some_is (plain.Both x.0 y.0) c y.2) (conjunction_utf8 us a h f.0 scope x.0 x.1, negation_utf8 vs b l f.1.1 scope y.0 y.1)
+        next ConditionIsUtf8 ConditionIsUtf8 (named_condition schema scope a) (λ c. named_condition schema scope b >>= λ d. Some (plain.Both c d)) (conjunction_utf8 us a h f.0 scope)
+        (λ c i. next ConditionIsUtf8 ConditionIsUtf8 (named_condition schema scope b) (λ d. Some (plain.Both c d)) (negation_utf8 vs b l f.1.1 scope) (λ d j. (i, j)))
 
-    negation_utf8 : (ts : List Token) (w : WrittenCondition) → HasNegation ts w → TokensAreUtf8 ts → (scope : Scope) (c : Condition) → named_condition schema scope w ≡ Some c → ConditionIsUtf8 c
-    negation_utf8 ts w (one_atom h) all scope c e = atom_utf8 ts w h all scope c e
-    negation_utf8 _ _ (negation {ts = us} {a = a} k h) all scope c e =
-        let x = bind_some (named_condition schema scope a) (λ c. (let x : Option Condition = Some (plain.Not c) in x)) c e in
-        subst ConditionIsUtf8 (some_is (plain.Not x.0) c x.2) (negation_utf8 us a h all.1 scope x.0 x.1)
+    negation_utf8 : (ts : List Token) (w : WrittenCondition) → HasNegation ts w → TokensAreUtf8 ts → (scope : Scope) → Holds ConditionIsUtf8 (named_condition schema scope w)
+    negation_utf8 ts w (one_atom h) all scope = atom_utf8 ts w h all scope
+    negation_utf8 _ _ (negation {ts = us} {a = a} k h) all scope = next ConditionIsUtf8 ConditionIsUtf8 (named_condition schema scope a) (λ c. Some (plain.Not c)) (negation_utf8 us a h all.1 scope) (λ c i. i)
 
-    atom_utf8 : (ts : List Token) (w : WrittenCondition) → HasAtom ts w → TokensAreUtf8 ts → (scope : Scope) (c : Condition) → named_condition schema scope w ≡ Some c → ConditionIsUtf8 c
-    atom_utf8 _ w (enclosed {ts = us} h) all scope c e = condition_utf8 us w h (all_parts TokenIsUtf8 us (Close ∷ []) all.1).0 scope c e
-    atom_utf8 _ _ (comparison {us = us} {vs = vs} {cmp = cmp} {a = a} {b = b} h k) all scope c e =
+    atom_utf8 : (ts : List Token) (w : WrittenCondition) → HasAtom ts w → TokensAreUtf8 ts → (scope : Scope) → Holds ConditionIsUtf8 (named_condition schema scope w)
+    atom_utf8 _ w (enclosed {ts = us} h) all scope = condition_utf8 us w h (all_parts TokenIsUtf8 us (Close ∷ []) all.1).0 scope
+    atom_utf8 _ _ (comparison {us = us} {vs = vs} {cmp = cmp} {a = a} {b = b} h k) all scope =
         let f = all_parts TokenIsUtf8 us (Test cmp ∷ vs) all in
-        let x = bind_some (named_opnd scope a) (λ o. named_opnd scope b >>= λ p. (let x : Option Condition = Some (plain.Compare cmp o p) in x)) c e in
-        let y = bind_some (named_opnd scope b) (λ p. (let x : Option Condition = Some (plain.Compare cmp x.0 p) in x)) c x.2 in
-        subst ConditionIsUtf8 (some_is (plain.Compare cmp x.0 y.0) c y.2) (opnd_utf8 us a h f.0 scope x.0 x.1, opnd_utf8 vs b k f.1.1 scope y.0 y.1)
-    atom_utf8 _ _ (bare {col = col} h) all scope c e =
-        let x = bind_some (named_col scope col) (λ c. (let x : Option Condition = Some (plain.Bare c) in x)) c e in
-        subst ConditionIsUtf8 (some_is (plain.Bare x.0) c x.2) tt
-    atom_utf8 _ _ (exists {ts = us} {parts = parts} {where_ = f} k l s) all scope c e =
+        next OperandIsUtf8 ConditionIsUtf8 (named_opnd scope a) (λ x. named_opnd scope b >>= λ y. Some (plain.Compare cmp x y)) (opnd_utf8 us a h f.0 scope)
+        (λ x i. next OperandIsUtf8 ConditionIsUtf8 (named_opnd scope b) (λ y. Some (plain.Compare cmp x y)) (opnd_utf8 vs b k f.1.1 scope) (λ y j. (i, j)))
+    atom_utf8 _ _ (bare {col = col} h) all scope = any_next ConditionIsUtf8 (named_col scope col) (λ c. Some (plain.Bare c)) (λ c. tt)
+    atom_utf8 _ _ (exists {ts = us} {parts = parts} {where_ = f} k l s) all scope =
         let g = all_parts TokenIsUtf8 us (Close ∷ []) all.1.1.1.1 in
-        let x = bind_some (known_parts schema parts) (λ own. named_filter schema (inside scope own) f >>= λ g. (let x : Option Condition = Some (plain.Exists (froms_of own) g) in x)) c e in
-        let y = bind_some (named_filter schema (inside scope x.0) f) (λ g. (let x : Option Condition = Some (plain.Exists (froms_of x.0) g) in x)) c x.2 in
-        subst ConditionIsUtf8 (some_is (plain.Exists (froms_of x.0) y.0) c y.2) (source_utf8 us parts f s g.0 (inside scope x.0) y.0 y.1)
-    atom_utf8 _ _ (within {us = us} {ins = ins} {cs = cs} {ts = vs} {s = s} {opnd = opnd} {negated = negated} {col = col} {parts = parts} {where_ = f} h i k m src) all scope c e =
+        any_next ConditionIsUtf8 (known_parts schema parts) (λ own. named_filter schema (inside scope own) f >>= λ g. Some (plain.Exists (froms_of own) g))
+        (λ own. next FilterIsUtf8 ConditionIsUtf8 (named_filter schema (inside scope own) f) (λ g. Some (plain.Exists (froms_of own) g)) (source_utf8 us parts f s g.0 (inside scope own)) (λ g i. i))
+    atom_utf8 _ _ (within {us = us} {ins = ins} {cs = cs} {ts = vs} {s = s} {opnd = opnd} {negated = negated} {col = col} {parts = parts} {where_ = f} h i k m src) all scope =
         let f1 = all_parts TokenIsUtf8 us (ins ++ Open ∷ s ∷ (cs ++ (vs ++ Close ∷ []))) all in
         let f2 = all_parts TokenIsUtf8 ins (Open ∷ s ∷ (cs ++ (vs ++ Close ∷ []))) f1.1 in
         let f3 = all_parts TokenIsUtf8 cs (vs ++ Close ∷ []) f2.1.1.1 in
         let f4 = all_parts TokenIsUtf8 vs (Close ∷ []) f3.1 in
-        let o = bind_some (named_opnd scope opnd) (λ x. known_parts schema parts >>= λ own. named_col (inside scope own) col >>= λ c. named_filter schema (inside scope own) f >>= λ f. (let x : Option Condition = Some (plain.Within x negated c (froms_of own) f) in x)) c e in
-        let x = bind_some (known_parts schema parts) (λ own. named_col (inside scope own) col >>= λ c. named_filter schema (inside scope own) f >>= λ f. (let x : Option Condition = Some (plain.Within o.0 negated c (froms_of own) f) in x)) c o.2 in
-        let z = bind_some (named_col (inside scope x.0) col) (λ c. named_filter schema (inside scope x.0) f >>= λ f. (let x : Option Condition = Some (plain.Within o.0 negated c (froms_of x.0) f) in x)) c x.2 in
-        let y = bind_some (named_filter schema (inside scope x.0) f) (λ f. (let x : Option Condition = Some (plain.Within o.0 negated z.0 (froms_of x.0) f) in x)) c z.2 in
-        subst ConditionIsUtf8 (some_is (plain.Within o.0 negated z.0 (froms_of x.0) y.0) c y.2) (opnd_utf8 us opnd h f1.0 scope o.0 o.1, source_utf8 vs parts f src f4.0 (inside scope x.0) y.0 y.1)
+        next OperandIsUtf8 ConditionIsUtf8 (named_opnd scope opnd) (λ x. known_parts schema parts >>= λ own. named_col (inside scope own) col >>= λ c. named_filter schema (inside scope own) f >>= λ g. Some (plain.Within x negated c (froms_of own) g)) (opnd_utf8 us opnd h f1.0 scope)
+        (λ x j.
+        any_next ConditionIsUtf8 (known_parts schema parts) (λ own. named_col (inside scope own) col >>= λ c. named_filter schema (inside scope own) f >>= λ g. Some (plain.Within x negated c (froms_of own) g))
+        (λ own.
+        any_next ConditionIsUtf8 (named_col (inside scope own) col) (λ c. named_filter schema (inside scope own) f >>= λ g. Some (plain.Within x negated c (froms_of own) g))
+        (λ c. next FilterIsUtf8 ConditionIsUtf8 (named_filter schema (inside scope own) f) (λ g. Some (plain.Within x negated c (froms_of own) g)) (source_utf8 vs parts f src f4.0 (inside scope own)) (λ g n. (j, n)))))
 
-    source_utf8 : (ts : List Token) (parts : List WrittenPart) (f : WrittenFilter) → HasSource ts parts f → TokensAreUtf8 ts → (scope : Scope) (filter_ : Filter) → named_filter schema scope f ≡ Some filter_ → FilterIsUtf8 filter_
-    source_utf8 _ parts f (source {us = us} {vs = vs} from h w) all scope filter_ e = filter_utf8 vs f w (all_parts TokenIsUtf8 us vs all.1).1 scope filter_ e
+    source_utf8 : (ts : List Token) (parts : List WrittenPart) (f : WrittenFilter) → HasSource ts parts f → TokensAreUtf8 ts → (scope : Scope) → Holds FilterIsUtf8 (named_filter schema scope f)
+    source_utf8 _ parts f (source {us = us} {vs = vs} from h w) all scope = filter_utf8 vs f w (all_parts TokenIsUtf8 us vs all.1).1 scope
 
-    filter_utf8 : (ts : List Token) (w : WrittenFilter) → HasWhere ts w → TokensAreUtf8 ts → (scope : Scope) (f : Filter) → named_filter schema scope w ≡ Some f → FilterIsUtf8 f
-    filter_utf8 _ _ no_where all scope f e = subst FilterIsUtf8 (some_is plain.Everything f e) tt
-    filter_utf8 _ _ (where_of {ts = us} {a = a} k h) all scope f e =
-        let x = bind_some (named_condition schema scope a) (λ c. (let x : Option Filter = Some (plain.Where c) in x)) f e in
-        subst FilterIsUtf8 (some_is (plain.Where x.0) f x.2) (condition_utf8 us a h all.1 scope x.0 x.1)
+    filter_utf8 : (ts : List Token) (w : WrittenFilter) → HasWhere ts w → TokensAreUtf8 ts → (scope : Scope) → Holds FilterIsUtf8 (named_filter schema scope w)
+    filter_utf8 _ _ no_where all scope = tt
+    filter_utf8 _ _ (where_of {ts = us} {a = a} k h) all scope = next ConditionIsUtf8 FilterIsUtf8 (named_condition schema scope a) (λ c. Some (plain.Where c)) (condition_utf8 us a h all.1 scope) (λ c i. i)
 
   -- ---- Queries
 
-  listing_utf8 : (w : WrittenListing) (ts : List Token) → HasSource ts w.from w.filter → TokensAreUtf8 ts → (q : PlainListing) → named_listing schema w ≡ Some q → FilterIsUtf8 q.filter
-  listing_utf8 w ts s all q e =
-      let made = λ (own : List Known) (item : SqlItem) (filter_ : Filter) (group : Option SqlCol) (keys : List SqlKey). (let x : PlainListing = record { item = item; from = froms_of own; filter = filter_; group = group; keys = keys; limit = w.limit; params = [] } in x) in
-      let a = bind_some (known_parts schema w.from) (λ own. named_item (outermost own) w.item >>= λ item. named_filter schema (outermost own) w.filter >>= λ filter_. named_group (outermost own) w.group >>= λ group. each_of (named_key (outermost own)) w.keys >>= λ keys. (let x : Option PlainListing = Some (made own item filter_ group keys) in x)) q e in
-      let b = bind_some (named_item (outermost a.0) w.item) (λ item. named_filter schema (outermost a.0) w.filter >>= λ filter_. named_group (outermost a.0) w.group >>= λ group. each_of (named_key (outermost a.0)) w.keys >>= λ keys. (let x : Option PlainListing = Some (made a.0 item filter_ group keys) in x)) q a.2 in
-      let c = bind_some (named_filter schema (outermost a.0) w.filter) (λ filter_. named_group (outermost a.0) w.group >>= λ group. each_of (named_key (outermost a.0)) w.keys >>= λ keys. (let x : Option PlainListing = Some (made a.0 b.0 filter_ group keys) in x)) q b.2 in
-      let d = bind_some (named_group (outermost a.0) w.group) (λ group. each_of (named_key (outermost a.0)) w.keys >>= λ keys. (let x : Option PlainListing = Some (made a.0 b.0 c.0 group keys) in x)) q c.2 in
-      let k = bind_some (each_of (named_key (outermost a.0)) w.keys) (λ keys. (let x : Option PlainListing = Some (made a.0 b.0 c.0 d.0 keys) in x)) q d.2 in
-      subst (λ (z : PlainListing). FilterIsUtf8 z.filter) (some_is (made a.0 b.0 c.0 d.0 k.0) q k.2) (source_utf8 ts w.from w.filter s all (outermost a.0) c.0 c.1)
+  abbrev ListingIsUtf8 : PlainListing → Type 0
+  ListingIsUtf8 q = FilterIsUtf8 q.filter
 
-  number_from : (w : WrittenNumber) (ts : List Token) → HasSource ts w.from w.filter → TokensAreUtf8 ts → (q : PlainNumber) → named_number schema w ≡ Some q → FilterIsUtf8 q.filter
-  number_from w ts s all q e =
-      let made = λ (own : List Known) (kind : NumberKind) (filter_ : Filter). (let x : PlainNumber = record { kind = kind; from = froms_of own; filter = filter_; params = [] } in x) in
-      let a = bind_some (known_parts schema w.from) (λ own. named_kind (outermost own) w.kind >>= λ kind. named_filter schema (outermost own) w.filter >>= λ filter_. (let x : Option PlainNumber = Some (made own kind filter_) in x)) q e in
-      let b = bind_some (named_kind (outermost a.0) w.kind) (λ kind. named_filter schema (outermost a.0) w.filter >>= λ filter_. (let x : Option PlainNumber = Some (made a.0 kind filter_) in x)) q a.2 in
-      let c = bind_some (named_filter schema (outermost a.0) w.filter) (λ filter_. (let x : Option PlainNumber = Some (made a.0 b.0 filter_) in x)) q b.2 in
-      subst (λ (z : PlainNumber). FilterIsUtf8 z.filter) (some_is (made a.0 b.0 c.0) q c.2) (source_utf8 ts w.from w.filter s all (outermost a.0) c.0 c.1)
+  abbrev NumberIsUtf8 : PlainNumber → Type 0
+  NumberIsUtf8 q = FilterIsUtf8 q.filter
 
-  number_utf8 : (ts : List Token) (w : WrittenNumber) → HasCounted ts w → TokensAreUtf8 ts → (q : PlainNumber) → named_number schema w ≡ Some q → FilterIsUtf8 q.filter
-  number_utf8 _ w (count {ts = us} c s) all q e = number_from w us s all.1.1.1.1 q e
-  number_utf8 _ w (sum {t = t} {cs = cs} {ts = us} c m h l s) all q e = number_from w us s (all_parts TokenIsUtf8 cs (Close ∷ Comma ∷ t ∷ Close ∷ us) all.1.1.1.1).1.1.1.1.1 q e
-  number_utf8 _ w (best {t = t} {cs = cs} {ts = us} c m h l s) all q e = number_from w us s (all_parts TokenIsUtf8 cs (Close ∷ Comma ∷ t ∷ Close ∷ us) all.1.1.1.1).1.1.1.1.1 q e
+  abbrev TruthIsUtf8 : PlainTruth → Type 0
+  TruthIsUtf8 q = FilterIsUtf8 q.filter
 
-  truth_utf8 : (w : WrittenTruth) (ts : List Token) → HasSource ts w.from w.filter → TokensAreUtf8 ts → (q : PlainTruth) → named_truth schema w ≡ Some q → FilterIsUtf8 q.filter
-  truth_utf8 w ts s all q e =
-      let made = λ (own : List Known) (filter_ : Filter). (let x : PlainTruth = record { negated = w.negated; from = froms_of own; filter = filter_; params = [] } in x) in
-      let a = bind_some (known_parts schema w.from) (λ own. named_filter schema (outermost own) w.filter >>= λ filter_. (let x : Option PlainTruth = Some (made own filter_) in x)) q e in
-      let c = bind_some (named_filter schema (outermost a.0) w.filter) (λ filter_. (let x : Option PlainTruth = Some (made a.0 filter_) in x)) q a.2 in
-      subst (λ (z : PlainTruth). FilterIsUtf8 z.filter) (some_is (made a.0 c.0) q c.2) (source_utf8 ts w.from w.filter s all (outermost a.0) c.0 c.1)
+  listing_utf8 : (w : WrittenListing) (ts : List Token) → HasSource ts w.from w.filter → TokensAreUtf8 ts → Holds ListingIsUtf8 (named_listing schema w)
+  listing_utf8 w ts s all =
+      any_next ListingIsUtf8 (known_parts schema w.from) _
+      (λ own.
+      any_next ListingIsUtf8 (named_item (outermost own) w.item) _
+      (λ item.
+      next FilterIsUtf8 ListingIsUtf8 (named_filter schema (outermost own) w.filter) _ (source_utf8 ts w.from w.filter s all (outermost own))
+      (λ filter_ i. any_next ListingIsUtf8 (named_group (outermost own) w.group) _ (λ group. any_next ListingIsUtf8 (each_of (named_key (outermost own)) w.keys) _ (λ keys. i)))))
 
-  named_utf8 : (ts : List Token) (w : WrittenQuery) → HasWritten ts w → TokensAreUtf8 ts → (q : PlainQuery) → named_query schema w ≡ Some q → LiteralsAreUtf8 q
-  named_utf8 _ _ (listing {is = is} {ts = us} {gs = gs} {os = os} {ls = ls} {item = item} {parts = ps} {where_ = f} {group = group} {keys = keys} {limit = limit} k hi hs hg ho hl) all q e =
+  number_from : (w : WrittenNumber) (ts : List Token) → HasSource ts w.from w.filter → TokensAreUtf8 ts → Holds NumberIsUtf8 (named_number schema w)
+  number_from w ts s all =
+      any_next NumberIsUtf8 (known_parts schema w.from) _
+      (λ own.
+      any_next NumberIsUtf8 (named_kind (outermost own) w.kind) _
+      (λ kind. next FilterIsUtf8 NumberIsUtf8 (named_filter schema (outermost own) w.filter) _ (source_utf8 ts w.from w.filter s all (outermost own)) (λ filter_ i. i)))
+
+  number_utf8 : (ts : List Token) (w : WrittenNumber) → HasCounted ts w → TokensAreUtf8 ts → Holds NumberIsUtf8 (named_number schema w)
+  number_utf8 _ w (count {ts = us} c s) all = number_from w us s all.1.1.1.1
+  number_utf8 _ w (sum {t = t} {cs = cs} {ts = us} c m h l s) all = number_from w us s (all_parts TokenIsUtf8 cs (Close ∷ Comma ∷ t ∷ Close ∷ us) all.1.1.1.1).1.1.1.1.1
+  number_utf8 _ w (best {t = t} {cs = cs} {ts = us} c m h l s) all = number_from w us s (all_parts TokenIsUtf8 cs (Close ∷ Comma ∷ t ∷ Close ∷ us) all.1.1.1.1).1.1.1.1.1
+
+  truth_utf8 : (w : WrittenTruth) (ts : List Token) → HasSource ts w.from w.filter → TokensAreUtf8 ts → Holds TruthIsUtf8 (named_truth schema w)
+  truth_utf8 w ts s all =
+      any_next TruthIsUtf8 (known_parts schema w.from) _ (λ own. next FilterIsUtf8 TruthIsUtf8 (named_filter schema (outermost own) w.filter) _ (source_utf8 ts w.from w.filter s all (outermost own)) (λ filter_ i. i))
+
+  named_utf8 : (ts : List Token) (w : WrittenQuery) → HasWritten ts w → TokensAreUtf8 ts → Holds LiteralsAreUtf8 (named_query schema w)
+  named_utf8 _ _ (listing {is = is} {ts = us} {gs = gs} {os = os} {ls = ls} {item = item} {parts = ps} {where_ = f} {group = group} {keys = keys} {limit = limit} k hi hs hg ho hl) all =
       let x : WrittenListing = record { item = item; from = ps; filter = f; group = group; keys = keys; limit = limit } in
       let own = all_parts TokenIsUtf8 us (gs ++ (os ++ ls)) (all_parts TokenIsUtf8 is (us ++ (gs ++ (os ++ ls))) all.1).1 in
-      let a = bind_some (named_listing schema x) (λ p. (let o : Option PlainQuery = Some (plain.Listing p) in o)) q e in
-      subst LiteralsAreUtf8 (some_is (plain.Listing a.0) q a.2) (listing_utf8 x us hs own.0 a.0 a.1)
-  named_utf8 _ _ (number {ts = us} {q = m} k h) all q e =
-      let a = bind_some (named_number schema m) (λ p. (let o : Option PlainQuery = Some (plain.Number p) in o)) q e in
-      subst LiteralsAreUtf8 (some_is (plain.Number a.0) q a.2) (number_utf8 us m h all.1 a.0 a.1)
-  named_utf8 _ _ (truth {i = i} {es = es} {ts = us} {negated = negated} {parts = ps} {where_ = f} k h l s) all q e =
+      next ListingIsUtf8 LiteralsAreUtf8 (named_listing schema x) (λ p. Some (plain.Listing p)) (listing_utf8 x us hs own.0) (λ p i. i)
+  named_utf8 _ _ (number {ts = us} {q = m} k h) all = next NumberIsUtf8 LiteralsAreUtf8 (named_number schema m) (λ p. Some (plain.Number p)) (number_utf8 us m h all.1) (λ p i. i)
+  named_utf8 _ _ (truth {i = i} {es = es} {ts = us} {negated = negated} {parts = ps} {where_ = f} k h l s) all =
       let x : WrittenTruth = record { negated = negated; from = ps; filter = f } in
       let g = all_parts TokenIsUtf8 (es ++ Open ∷ i ∷ Digits (codes "1") ∷ us) (Close ∷ []) all.1 in
       let f2 = all_parts TokenIsUtf8 es (Open ∷ i ∷ Digits (codes "1") ∷ us) g.0 in
-      let a = bind_some (named_truth schema x) (λ p. (let o : Option PlainQuery = Some (plain.Truth p) in o)) q e in
-      subst LiteralsAreUtf8 (some_is (plain.Truth a.0) q a.2) (truth_utf8 x us s f2.1.1.1.1 a.0 a.1)
+      next TruthIsUtf8 LiteralsAreUtf8 (named_truth schema x) (λ p. Some (plain.Truth p)) (truth_utf8 x us s f2.1.1.1.1) (λ p j. j)
 
   -- ---- Texts
 
@@ -283,7 +267,7 @@ module _ (schema : Schema) where
   ok_is : (x y : PlainQuery) → (let a : Judged = Ok x in a) ≡ Ok y → x ≡ y
   ok_is x y e = ap (λ (r : Judged). elim r as (λ _. PlainQuery) [ Ok z ↦ z | Err f ↦ x ]) e
 
-  judged_utf8 : (w : WrittenQuery) (q : PlainQuery) → judged schema w ≡ Ok q → ((n : PlainQuery) → named_query schema w ≡ Some n → LiteralsAreUtf8 n) → LiteralsAreUtf8 q
+  judged_utf8 : (w : WrittenQuery) (q : PlainQuery) → judged schema w ≡ Ok q → Holds LiteralsAreUtf8 (named_query schema w) → LiteralsAreUtf8 q
   judged_utf8 w q e names = go (named_query schema w) refl e
     where
       typed : (n : PlainQuery) → LiteralsAreUtf8 n → (o : Option (List Ty)) → elim o as (λ _. Judged) [ Some params ↦ Ok (with_params n params) | None ↦ Err rules.BadParameter ] ≡ Ok q → LiteralsAreUtf8 q
@@ -299,7 +283,7 @@ module _ (schema : Schema) where
       fitting n h false e = absurd cc
 
       go : (o : Option PlainQuery) → named_query schema w ≡ o → elim o as (λ _. Judged) [ Some q ↦ judged_named schema q | None ↦ Err rules.Unknown ] ≡ Ok q → LiteralsAreUtf8 q
-      go (Some n) h e = fitting n (names n h) (types_fit schema n) e
+      go (Some n) h e = fitting n (found_holds LiteralsAreUtf8 (named_query schema w) n h names) (types_fit schema n) e
       go None h e = absurd cc
 
   -- The text literals of a query are UTF-8 where a text that has the query is.

@@ -1,6 +1,6 @@
 -- A program of the grammar that can be written stays one where statements give way to others that are of the grammar and can be
 -- written.
-use Rattle.std.proofs.Common.{ℕ, zero, suc, Bool, true, false, cond, ◌==◌, List, [], ◌∷◌, slice_get, Option, Some, None}
+use Rattle.std.proofs.Common.{ℕ, zero, suc, Bool, true, false, cond, ◌==◌, List, [], ◌∷◌}
 use Rattle.java_ast.specs.Path.{and_then, first_of, behind_of, with_range, with_numbered, with_branch, replaced_in, with_body, with_method, replaced_at}
 use Rattle.java_ast.specs.Tree.{Expression, Expressions, Statement, Declare, Assign, Add, Sort, If, IfElse, ForEach, While, Print, Return, Break, Statements, Nothing, Then, Spelled, PlainMethod, PlainProgram}
 use Rattle.java_parser.specs.InGrammar.{IsType, InExpression, InExpressions, InStatement, InStatements, InMethod, InMethods, IsInGrammar}
