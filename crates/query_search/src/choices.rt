@@ -2,13 +2,12 @@
 ghost use Rattle.std.specs.Prelude.{◌≡◌, ◌+◌, ◌*◌, ◌%◌, ◌<◌, ◌≤◌, Some, None, IfOk, option_map, IfSome, OnOk, false, true, length, slice_get, is_some, map, drop, nat_eq, ◌++◌};
 ghost use Rattle.std.specs.List.{list_any};
 ghost use Rattle.tor_terms.specs.Plain.{forms_of};
-ghost use Rattle.tor_axioms.specs.Accepts.{claim_over};
-ghost use Rattle.tor_prover.specs.Derive.{derivation_of};
 ghost use Rattle.kernel_lang.specs.Plain.{accumulator};
 ghost use Rattle.kernel_lang.specs.Pools.{members_from};
 ghost use Rattle.kernel_lang.specs.Whole.{fragment_of};
 ghost use Rattle.vc_gen.specs.Conditions.{own_conditions, all_conditions};
 ghost use Rattle.query_search.specs.declared.choices.Decided.TheVariants as answers;
+ghost use Rattle.query_search.specs.declared.choices.Tried.TheVariants as trials;
 ghost use Rattle.query_search.specs.Choices.{digits, chosen_by, member_at, IsFailing, FailAsKnown};
 ghost use Rattle.query_search.specs.Remembered.{IsMemoryOf};
 ghost use Rattle.query_search.specs.Seen.{proofs_in};
@@ -18,9 +17,9 @@ use crate::judge::judge;
 use kernel_lang::{Acc, Candidate, KFragment};
 use qbs_base::{Items, NoMemory};
 use std::alloc::Global;
-use tor_axioms::{Condition, Derivations, Vc};
-use tor_prover::derive;
-use tor_terms::{Formula, Formulas, Term, copy_atoms, copy_formula};
+use tor_axioms::Derivations;
+use tor_prover::derives;
+use tor_terms::{Atoms, Formula, Formulas, copy_formula};
 use vc_gen::own_condition;
 
 /// What has been decided of an accumulator with a choice. Only that its conditions fail is relied on.
@@ -108,42 +107,67 @@ fn chosen(alloc: Global, n: usize, pool: &[Formula]) -> Result<Formulas, NoMemor
 /// The most conditions that an accumulator has.
 const MOST: usize = 4096;
 
-/// Whether a condition derives, over the atoms of the space in which it is put.
-fn derives_in(alloc: Global, space: &mut Vc, condition: Condition) -> Result<bool, NoMemory>
-    ensures atoms { OnOk result (space.new.atoms ≡ space.old.atoms) }
-    ensures exact { IfOk result (λ b. b ≡ is_some (derivation_of (claim_over space.old.atoms condition))) }
-{
-    space.facts = condition.facts;
-    space.left = condition.left;
-    space.right = condition.right;
-    let derivation = derive(alloc, space)?;
-    Ok(derivation.is_some())
+/// What comes of one condition of an accumulator.
+#[derive(Clone, Copy)]
+pub enum Tried {
+    Derives,
+    Fails,
+    Missing,
 }
 
-/// Whether all conditions of an accumulator with this choice derive, one after another up to the first that doesn't.
-fn own_derive(alloc: Global, space: &mut Vc, a: &Acc, choice: &[Formula]) -> Result<bool, NoMemory>
+/// Tries the condition of a number alone. What derives isn't kept.
+fn try_condition(
+    alloc: Global,
+    atoms: &Atoms,
+    a: &Acc,
+    choice: &[Formula],
+    n: usize,
+) -> Result<Tried, NoMemory>
     requires { length a.now.chain ≤ 3 }
-    ensures atoms { OnOk result (space.new.atoms ≡ space.old.atoms) }
-    ensures fails { IfOk result (λ b. b ≡ false → all_derived (own_conditions space.old.atoms (accumulator a.now, forms_of choice.now)) ≡ None) }
+    ensures { IfOk result (λ r. r ≡ trials.Fails → all_derived (own_conditions atoms.now (accumulator a.now, forms_of choice.now)) ≡ None) }
 {
-    for n in 0..MOST {
-        match own_condition(alloc, &space.atoms, a, choice, n)? {
-            None => return Ok(true),
-            Some(condition) => {
-                if !derives_in(alloc, space, condition)? {
-                    return Ok(false);
-                }
+    match own_condition(alloc, atoms, a, choice, n)? {
+        None => Ok(Tried::Missing),
+        Some(condition) => {
+            if !derives(alloc, atoms, &condition)? {
+                return Ok(Tried::Fails);
             }
+            Ok(Tried::Derives)
         }
     }
-    Ok(true)
 }
 
-/// What is remembered of a fragment: a space for its conditions, over a copy of its atoms, and what has been decided of choices.
+/// The number of a condition of an accumulator with this choice that doesn't derive, if any. The one of the number `likely`
+/// is tried before all others.
+fn find_failing(
+    alloc: Global,
+    atoms: &Atoms,
+    a: &Acc,
+    choice: &[Formula],
+    likely: usize,
+) -> Result<Option<usize>, NoMemory>
+    requires { length a.now.chain ≤ 3 }
+    ensures { IfOk result (λ o. is_some o ≡ true → all_derived (own_conditions atoms.now (accumulator a.now, forms_of choice.now)) ≡ None) }
+{
+    if let Tried::Fails = try_condition(alloc, atoms, a, choice, likely)? {
+        return Ok(Some(likely));
+    }
+    for n in 0..MOST {
+        match try_condition(alloc, atoms, a, choice, n)? {
+            Tried::Derives => {}
+            Tried::Fails => return Ok(Some(n)),
+            Tried::Missing => return Ok(None),
+        }
+    }
+    Ok(None)
+}
+
+/// What has been decided of a fragment's choices, each at its place, and the number of the condition that failed last: choices
+/// that fail mostly fail by the same one.
 #[derive(Drop)]
 pub struct Memory {
-    space: Vc,
     known: Vec<Decided>,
+    likely: usize,
 }
 
 fn fails_at(known: &[Decided], place: usize) -> bool
@@ -198,12 +222,16 @@ fn decide_at(
         Some(Decided::Fails) => Ok(false),
         Some(Decided::Open) => {
             let choice = chosen(alloc, place / 8, a.pool.as_slice())?;
-            if own_derive(alloc, &mut memory.space, a, choice.as_slice())? {
-                memory.known[place] = Decided::Derives;
-                Ok(true)
-            } else {
-                memory.known[place] = Decided::Fails;
-                Ok(false)
+            match find_failing(alloc, &frag.atoms, a, choice.as_slice(), memory.likely)? {
+                None => {
+                    memory.known[place] = Decided::Derives;
+                    Ok(true)
+                }
+                Some(n) => {
+                    memory.known[place] = Decided::Fails;
+                    memory.likely = n;
+                    Ok(false)
+                }
             }
         }
     }
@@ -279,13 +307,5 @@ pub fn new_memory(alloc: Global, frag: &KFragment) -> Result<Memory, NoMemory>
     ensures { IfOk result (IsMemoryOf (fragment_of frag.now)) }
 {
     let known = vec![in alloc; Decided::Open; places(frag)]?;
-    let atoms = copy_atoms(alloc, frag.atoms.as_slice())?;
-    let facts = Items::new(alloc);
-    let space = Vc {
-        atoms,
-        facts,
-        left: Term::Nil,
-        right: Term::Nil,
-    };
-    Ok(Memory { space, known })
+    Ok(Memory { known, likely: 0 })
 }
