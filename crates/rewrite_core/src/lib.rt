@@ -1,6 +1,13 @@
-//! Loops give way to queries: the asks that stand for a loop, and that they have what the loop makes; laws, no code.
+//! Loops give way to queries: the asks that stand for a loop, that they have what the loop makes, and the program in which they stand.
 #![tactic(auto)]
 
+mod asking;
 pub mod laws;
+mod looped;
+mod replacing;
+mod spelling;
+mod values;
 pub mod worked;
 pub mod written;
+
+pub use replacing::replace_loop;
