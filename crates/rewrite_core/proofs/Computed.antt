@@ -19,13 +19,11 @@ use Rattle.sql_ast.specs.Worked.{staff_schema}
 use Rattle.java_ast.specs.Tree.{SetOf, String, Long, PlainProgram}
 use Rattle.java_mean.specs.Asked.{class_A_asking, class_J_asking, name_set_asking}
 use Rattle.java_mean.specs.Keeps.{Keeps}
-use Rattle.java_mean.specs.Numbers.{NumbersFit}
 use Rattle.java_mean.specs.Queries.{Reader}
 use Rattle.java_mean.specs.WellTyped.{IsWellTyped}
 use Rattle.java_mean.specs.Worked.{User, Role, users, class_A, class_C, class_J, name_set}
 use Rattle.java_types.specs.Texts.{read_by}
 use Rattle.java_types.proofs.Found.{found_exactly}
-use Rattle.loop_text.specs.Statements.KeptStatements.{first_at}
 use Rattle.java_loops.specs.Kernel.Kernel.{lowering}
 use Rattle.java_loops.specs.Kernel.Worked.{program_of}
 use Rattle.java_loops.specs.Meant.Asking.{AskForLoop}
@@ -36,8 +34,8 @@ use Rattle.rewrite_core.specs.Asked.{Place, asks_of, replaced}
 use Rattle.rewrite_core.specs.Asking.{MayBeAsked}
 use Rattle.rewrite_core.specs.Worked.{GivesWayTo, Worked, loop_at, giving, selection_asks, greatest_asks, class_C_asking, count_asks, names_asks, known_asks, asking_once}
 use Rattle.rewrite_core.proofs.Asked.{asks_are_for_loops}
-use Rattle.rewrite_core.proofs.Keeping.{replaced_keeps}
 use Rattle.rewrite_core.proofs.May.{accepted_may, emitted_valid}
+use Rattle.rewrite_core.proofs.StaysTyped.{replaced_well, loops_give_way}
 
 -- ---- What all have
 
@@ -86,14 +84,16 @@ derived_may l loop known counted held derived =
     let d = derived_accepted (conditions (lowering l.setting).fragment l.candidate) derived in
     accepted_may staff_schema (read_by staff_schema) l.program l.path l.setting l.candidate d.0 loop known (emitted_valid staff_schema (read_by staff_schema) l.program l.path l.setting l.candidate is_schema named loop known counted held) d.1
 
-pub gives_way : (l : Place) (asks : List Ask) (q : PlainProgram) (first : ℕ) → MayBeAsked staff_schema (read_by staff_schema) l.program l.path l.setting l.candidate → asks_of l ≡ asks → replaced l ≡ q → first_at l.path l.program ≡ Some first → IsWellTyped staff_schema (read_by staff_schema) q → NumbersFit q → GivesWayTo l asks q
-gives_way l asks q first may are becomes begins typed fits =
+-- a loop that may be asked for gives way to its asks
+pub gives_way : (l : Place) (asks : List Ask) (q : PlainProgram) → MayBeAsked staff_schema (read_by staff_schema) l.program l.path l.setting l.candidate → asks_of l ≡ asks → replaced l ≡ q → GivesWayTo l asks q
+gives_way l asks q may are becomes =
     record {
       may = may;
       asks_are = are;
       answer = subst (λ ks. AskForLoop staff_schema (read_by staff_schema) l.program l.path l.setting ks) are (asks_are_for_loops staff_schema staff_reader l may);
       becomes = becomes;
-      keeps = subst (λ z. Keeps l.program z staff_schema) becomes (replaced_keeps staff_schema staff_reader l first may begins (subst (IsWellTyped staff_schema (read_by staff_schema)) (sym becomes) typed) (subst NumbersFit (sym becomes) fits));
+      typed = subst (IsWellTyped staff_schema (read_by staff_schema)) becomes (replaced_well staff_schema staff_reader l may);
+      keeps = subst (λ z. Keeps l.program z staff_schema) becomes (loops_give_way staff_schema staff_reader l may);
     }
 
 -- ---- Rows
@@ -119,12 +119,8 @@ selection_replaced : replaced selecting ≡ giving users class_A_asking
 unfolding digits
 selection_replaced = refl
 
-selection_typed : IsWellTyped staff_schema (read_by staff_schema) (giving users class_A_asking)
-unfolding tokens_in listed_at atom_at negation_in joined_from conjunction_at condition_at
-selection_typed = refl
-
 pub selection : GivesWayTo selecting selection_asks (giving users class_A_asking)
-selection = gives_way selecting selection_asks (giving users class_A_asking) 0 (derived_may selecting selection_loop tt tt selection_held selection_derived) selection_asked selection_replaced refl selection_typed refl
+selection = gives_way selecting selection_asks (giving users class_A_asking) (derived_may selecting selection_loop tt tt selection_held selection_derived) selection_asked selection_replaced
 
 -- ---- Numbers
 
@@ -149,12 +145,8 @@ greatest_replaced : replaced choosing ≡ giving Long class_C_asking
 unfolding digits
 greatest_replaced = refl
 
-greatest_typed : IsWellTyped staff_schema (read_by staff_schema) (giving Long class_C_asking)
-unfolding tokens_in listed_at atom_at negation_in joined_from conjunction_at condition_at
-greatest_typed = refl
-
 pub greatest : GivesWayTo choosing greatest_asks (giving Long class_C_asking)
-greatest = gives_way choosing greatest_asks (giving Long class_C_asking) 0 (derived_may choosing greatest_loop tt tt greatest_held greatest_derived) greatest_asked greatest_replaced refl greatest_typed refl
+greatest = gives_way choosing greatest_asks (giving Long class_C_asking) (derived_may choosing greatest_loop tt tt greatest_held greatest_derived) greatest_asked greatest_replaced
 
 -- ---- A number with an entry value
 
@@ -179,12 +171,8 @@ count_replaced : replaced counting ≡ program_of class_J_asking
 unfolding digits
 count_replaced = refl
 
-count_typed : IsWellTyped staff_schema (read_by staff_schema) (program_of class_J_asking)
-unfolding tokens_in listed_at atom_at negation_in joined_from conjunction_at condition_at
-count_typed = refl
-
 pub count : GivesWayTo counting count_asks (program_of class_J_asking)
-count = gives_way counting count_asks (program_of class_J_asking) 0 (derived_may counting count_loop tt tt count_held count_derived) count_asked count_replaced refl count_typed refl
+count = gives_way counting count_asks (program_of class_J_asking) (derived_may counting count_loop tt tt count_held count_derived) count_asked count_replaced
 
 -- ---- Sets
 
@@ -209,12 +197,8 @@ set_replaced : replaced naming ≡ giving (SetOf String) name_set_asking
 unfolding digits
 set_replaced = refl
 
-set_typed : IsWellTyped staff_schema (read_by staff_schema) (giving (SetOf String) name_set_asking)
-unfolding tokens_in listed_at atom_at negation_in joined_from conjunction_at condition_at
-set_typed = refl
-
 pub set : GivesWayTo naming names_asks (giving (SetOf String) name_set_asking)
-set = gives_way naming names_asks (giving (SetOf String) name_set_asking) 0 (derived_may naming set_loop tt tt set_held set_derived) set_asked set_replaced refl set_typed refl
+set = gives_way naming names_asks (giving (SetOf String) name_set_asking) (derived_may naming set_loop tt tt set_held set_derived) set_asked set_replaced
 
 -- ---- Known lists
 
@@ -250,15 +234,11 @@ known_replaced : replaced knowing ≡ asking_once
 unfolding digits tokens_in listed_at atom_at negation_in joined_from conjunction_at condition_at
 known_replaced = refl
 
-known_typed : IsWellTyped staff_schema (read_by staff_schema) asking_once
-unfolding tokens_in listed_at atom_at negation_in joined_from conjunction_at condition_at
-known_typed = refl
-
 pub known : GivesWayTo knowing known_asks asking_once
 known =
-    gives_way knowing known_asks asking_once 0
+    gives_way knowing known_asks asking_once
     (derived_may knowing known_loop (subst (AllByRecursion (IsQueryOf staff_schema)) (sym known_queries) (asked_valid, tt)) (subst (AllByRecursion QueryIsCounted) (sym known_queries) ((omega arith, tt), tt)) known_held known_derived)
-    known_asked known_replaced refl known_typed refl
+    known_asked known_replaced
 
 pub worked : Worked
 worked = record { selection = selection; greatest = greatest; count = count; set = set; known = known }

@@ -6,6 +6,7 @@ use Rattle.sql_ast.specs.Worked.{staff_schema}
 use Rattle.java_ast.specs.Tree.{Spelled, Long, String, Table, SetOf, Expression, Var, Query, QueryLong, NewSetOf, NoMore, And, Break, Nothing, PlainMethod, PlainProgram}
 use Rattle.java_mean.specs.Asked.{staff_text, class_A_asking, count_text, class_J_asking, name_set_asking}
 use Rattle.java_mean.specs.Keeps.{Keeps}
+use Rattle.java_mean.specs.WellTyped.{IsWellTyped}
 use Rattle.java_mean.specs.Worked.{User, somewhere, field, declare, give, method, block, users, out, u, class_A, class_C, class_J, name_set}
 use Rattle.java_types.specs.Texts.{read_by}
 use Rattle.java_loops.specs.Kernel.Kernel.{setting_at}
@@ -28,12 +29,13 @@ abbrev pub loop_at : PlainProgram → List ℕ → List ℕ → Place
 loop_at p path candidate = record { program = p; path = path; setting = found_setting (setting_at staff_schema (read_by staff_schema) path p); candidate = candidate }
 
 -- The loop may be asked for with its candidate. These asks stand for it and ask for what it makes, and this is the program in
--- which they stand in its place, which keeps what the program does.
+-- which they stand in its place, which is well typed and keeps what the program does.
 pub record GivesWayTo (l : Place) (asks : List Ask) (q : PlainProgram) : Type 0 where
   pub may : MayBeAsked staff_schema (read_by staff_schema) l.program l.path l.setting l.candidate
   pub asks_are : asks_of l ≡ asks
   pub answer : AskForLoop staff_schema (read_by staff_schema) l.program l.path l.setting asks
   pub becomes : replaced l ≡ q
+  pub typed : IsWellTyped staff_schema (read_by staff_schema) q
   pub keeps : Keeps l.program q staff_schema
 
 -- one ask, which declares a variable
