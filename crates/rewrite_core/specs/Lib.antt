@@ -1,4 +1,6 @@
 pub mod Asked
 pub mod Asking
 pub mod Looped
+pub mod TriedAsking
+pub mod Trying
 pub mod Worked

@@ -6,6 +6,7 @@ pub mod laws;
 mod looped;
 mod replacing;
 mod spelling;
+pub mod tried;
 mod values;
 pub mod worked;
 pub mod written;
