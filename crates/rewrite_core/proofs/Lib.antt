@@ -7,6 +7,7 @@ pub mod AskedFaultless
 pub mod Asks
 pub mod Claimed
 pub mod Computed
+pub mod ComputedTries
 pub mod Declared
 pub mod DistinctLoops
 pub mod EachName

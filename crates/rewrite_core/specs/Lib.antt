@@ -4,3 +4,4 @@ pub mod Looped
 pub mod TriedAsking
 pub mod Trying
 pub mod Worked
+pub mod WorkedTries
