@@ -17,6 +17,8 @@ mod fragments_run;
 #[cfg(test)]
 mod made;
 #[cfg(test)]
+mod refuting;
+#[cfg(test)]
 mod rules;
 #[cfg(test)]
 mod searched;

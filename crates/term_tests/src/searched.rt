@@ -1,5 +1,6 @@
 // What a search finds, and what pruners change of it: their count alone.
 use crate::made::{all_of, both_signs, numbers};
+use crate::refuting::answer_by_one_database;
 use kernel_lang::{Acc, Candidate, Guards, KFragment, Parts, Update};
 use qbs_base::{Items, NoMemory, Scalar};
 use query_search::{Call, Found, PruneAnswer, Pruner, search};
@@ -191,6 +192,28 @@ fn keeps(alloc: Global) -> Result<bool, NoMemory> {
 #[test]
 fn a_pruner_that_keeps_changes_nothing(rt: HostRuntime) -> Result<(), Fail> {
     assert!(rt; keeps(rt.alloc())?);
+    Ok(())
+}
+
+// Of two candidates of which the first is refuted the second is found, with a count of one.
+fn drops(alloc: Global) -> Result<bool, NoMemory> {
+    let call: Call = Box::new(alloc, |frag: &KFragment, cand: &Candidate| {
+        answer_by_one_database(frag, cand)
+    })?;
+    let pruners = [Pruner::new(call)];
+    finds(
+        alloc,
+        one_loop(alloc)?,
+        (4, 1000),
+        &pruners,
+        Wanted::Candidate(1, 1, 4),
+        1,
+    )
+}
+
+#[test]
+fn a_pruner_that_drops_the_refuted_changes_the_count_alone(rt: HostRuntime) -> Result<(), Fail> {
+    assert!(rt; drops(rt.alloc())?);
     Ok(())
 }
 
