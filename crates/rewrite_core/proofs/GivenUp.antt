@@ -1,5 +1,7 @@
 -- The program that code makes where a loop gives way is the one that is defined.
 use Rattle.std.proofs.Common.{◌≡◌, ℕ, ◌≤◌, true, List, [], ◌∷◌, map, Option, Some, None, refl, sym, ap, ap₂, ◌∙◌, subst}
+use Rattle.std.specs.List.{AllByRecursion}
+use Rattle.qbs_base.specs.declared.scalar.Ty.{Ty}
 use Rattle.qbs_base.specs.declared.span.Span.{Span}
 use Rattle.qbs_base.specs.Values.{Schema}
 use Rattle.kernel_lang.specs.Typed.{is_typed}
@@ -7,6 +9,9 @@ use Rattle.kernel_lang.specs.Whole.{fragment_of}
 use Rattle.sql_ast.specs.declared.tree.Query.{Query}
 use Rattle.sql_ast.specs.Reading.{query}
 use Rattle.sql_ast.specs.Tree.{PlainQuery}
+use Rattle.sql_ast.specs.Valid.{IsQueryOf}
+use Rattle.sql_emit.specs.Given.{AreKnown, AreKnownTo}
+use Rattle.vc_gen.specs.Soundness.{EndsAnywhere}
 use Rattle.java_ast.specs.Path.{and_then, last_of, replaced_at, statement_at}
 use Rattle.java_ast.specs.Spans.{place_of}
 use Rattle.java_ast.specs.Tree.{Statement, Statements, PlainProgram}
@@ -31,12 +36,19 @@ use Rattle.fragments.specs.Asked.{queries_in}
 use Rattle.fragments.specs.declared.lowering.lowered.Lowered.{Lowered}
 use Rattle.fragments.specs.Lowers.{lowering_in_code}
 use Rattle.rewrite_core.specs.Asked.{Place, asks_of, number_of, replaced}
-use Rattle.rewrite_core.specs.Looped.{Looped, asked_from}
-use Rattle.rewrite_core.proofs.Giving.{looped_at, all_asked}
+use Rattle.rewrite_core.specs.Asking.{MayBeAsked}
+use Rattle.rewrite_core.specs.Looped.{Looped, asked_from, AreValidFrom}
+use Rattle.rewrite_core.proofs.Giving.{looped_at, all_asked, all_are_valid}
 
 queries_found : (qs : List Query) → queries_in (map (λ q. Some (query q)) qs) ≡ map query qs
 queries_found [] = refl
 queries_found (q ∷ qs) = ap (λ (ps : List PlainQuery). query q ∷ ps) (queries_found qs)
+
+known_valid : (schema : Schema) (types : List Ty) (qs : List PlainQuery) (args : List (List ℕ)) → AreKnown schema types qs args → AllByRecursion (IsQueryOf schema) qs
+known_valid schema types [] [] h = tt
+known_valid schema types [] (a ∷ args) h = absurd h
+known_valid schema types (q ∷ qs) [] h = absurd h
+known_valid schema types (q ∷ qs) (a ∷ args) h = (h.0.valid, known_valid schema types qs args h.1)
 
 -- what is known of the setting of a loop
 pub record IsThere (schema : Schema) (p : PlainProgram) (path : List ℕ) (w : Setting) : Type 0 where
@@ -102,14 +114,31 @@ module _ (schema : Schema) (read : List ℕ → Option PlainQuery) (p : PlainPro
         (subst (λ (z : Lowering). AreKept w.fragment (names_read z.entries) l.first w.fragment.run l.kept) (sym lowered_is)
         (subst (λ (z : Setting). AreKept z.fragment (names_read (lowering_in_code l).entries) l.first z.fragment.run l.kept) same k.keeps))
 
+    found_looped : (run : Statements) (at : Span) → ((f : Fragment) → fragment_at path p ≡ Some f → run ≡ f.run) → ((s : Statement) → statement_at path p ≡ Some s → at ≡ place_of s) → made schema run at (lowering_in_code l) (map query l.known) ≡ looped_at place
+    found_looped run at run_is at_is =
+        let found : IsThere schema p path w = is_there schema read p path w there in
+        let stands : LoopStands p path w.fragment l.first = setting_stands schema read p path w l.first there k.begins in
+        looped_is run at (run_is w.fragment found.fragment_is) (at_is w.fragment.loop stands.there)
+
     -- The program with the statements that code makes in place of the run and the loop is the one that is defined.
     pub replaced_is : (run : Statements) (at : Span) → ((f : Fragment) → fragment_at path p ≡ Some f → run ≡ f.run) → ((s : Statement) → statement_at path p ≡ Some s → at ≡ place_of s) → (q : PlainProgram) (new : Statements) → new ≡ and_then (with_numbers l.kept l.first w.fragment.run) (asked_from (made schema run at (lowering_in_code l) (map query l.known)) 0 l.names) → q ≡ replaced_at path l.first new p → q ≡ replaced place
     replaced_is run at run_is at_is q new news e =
-        let found : IsThere schema p path w = is_there schema read p path w there in
-        let stands : LoopStands p path w.fragment l.first = setting_stands schema read p path w l.first there k.begins in
-        let is : made schema run at (lowering_in_code l) (map query l.known) ≡ looped_at place = looped_is run at (run_is w.fragment found.fragment_is) (at_is w.fragment.loop stands.there) in
         e
         ∙ ap (λ (ss : Statements). replaced_at path l.first ss p)
         (news
-        ∙ ap₂ (λ (ns : List ℕ) (ss : Statements). and_then (with_numbers ns l.first w.fragment.run) ss) kept_are (asks_are (made schema run at (lowering_in_code l) (map query l.known)) is))
+        ∙ ap₂ (λ (ns : List ℕ) (ss : Statements). and_then (with_numbers ns l.first w.fragment.run) ss) kept_are (asks_are (made schema run at (lowering_in_code l) (map query l.known)) (found_looped run at run_is at_is)))
         ∙ ap (λ (n : ℕ). replaced_at path n (and_then (with_numbers (kept_numbers w.fragment (names_read (lowering w).entries) n w.fragment.run) n w.fragment.run) (asked (asks_of place))) p) (sym (ap number_of k.begins))
+
+    -- The loop may be asked for, where the candidate's postconditions say what the fragment ends with.
+    pub may_ask : (run : Statements) (at : Span) → ((f : Fragment) → fragment_at path p ≡ Some f → run ≡ f.run) → ((s : Statement) → statement_at path p ≡ Some s → at ≡ place_of s) → AreKnownTo schema (fragment_of l.frag) (map query l.known) l.known_args → AreValidFrom (made schema run at (lowering_in_code l) (map query l.known)) 0 l.names → EndsAnywhere (fragment_of l.frag) candidate → MayBeAsked schema read p path w candidate
+    may_ask run at run_is at_is known valid ends =
+        let unbroken : broken w ≡ None = subst (λ (z : Setting). broken z ≡ None) same k.unbroken in
+        let found : IsThere schema p path w = is_there schema read p path w there in
+        let queries : map query l.known ≡ queries_in (lowering w).known = sym (ap (λ (z : Lowering). queries_in z.known) lowered_is ∙ queries_found l.known) in
+        let valid' : AreValidFrom (looped_at place) 0 (lowering w).names = subst (λ (xs : Names). AreValidFrom (looped_at place) 0 xs) (sym (ap (λ (z : Lowering). z.names) lowered_is)) (subst (λ (g : Looped). AreValidFrom g 0 l.names) (found_looped run at run_is at_is) valid) in
+        record {
+          loop = record { typed = typed; numbers = numbers; there = there; unbroken = unbroken };
+          known = subst (AllByRecursion (IsQueryOf schema)) queries (known_valid schema (fragment_of l.frag).entries (map query l.known) l.known_args known.each);
+          emitted = all_are_valid place (needed_there schema read p path w typed numbers there unbroken) valid';
+          ends = subst (λ (z : Lowering). EndsAnywhere z.fragment candidate) (sym lowered_is) ends;
+        }

@@ -20,7 +20,8 @@ use Rattle.java_loops.specs.Lowering.Spelling.{spelled_at, element_spelled}
 use Rattle.java_loops.specs.Walks.Replacing.{Ask, asking, asked}
 use Rattle.fragments.specs.Asked.{queries_in}
 use Rattle.rewrite_core.specs.Asked.{Place, arguments_of, value_by, spelled_or_text, start_type, table_taken, value_asked, ask_with, emitted_for, asks_from, asks_of}
-use Rattle.rewrite_core.specs.Looped.{Looped, rows_taken, element_asked, value_with, outermost, statement_for, asked_with, asked_at, asked_from}
+use Rattle.rewrite_core.specs.Asking.{QueriesAreValid}
+use Rattle.rewrite_core.specs.Looped.{Looped, rows_taken, element_asked, value_with, outermost, statement_for, asked_with, asked_at, asked_from, IsValidAt, AreValidFrom}
 
 -- ---- Values
 
@@ -154,3 +155,23 @@ module _ (l : Place) where
       from_joined 0 (length xs) xs (names_of_flags w.sites) (omega arith)
       ∙ ap₂ and_then (from_is 0 xs outer) (flags_are (length xs) (names_of_flags w.sites) needed.further)
       ∙ and_nothing (asked (asks_of l))
+
+  -- ---- Their queries
+
+  -- what is valid of all names from a number on is valid at each
+  valid_at : (xs ys : Names) (k i m : ℕ) → k + i ≡ m → i < length xs → AreValidFrom (looped_at l) k (xs ++ ys) → IsValidAt (looped_at l) m
+  valid_at [] ys k i m e below h = absurd (omega (arith, below))
+  valid_at (x ∷ xs) ys k zero m e below h = let same : k ≡ m = omega (arith, e) in subst (IsValidAt (looped_at l)) same h.0
+  valid_at (x ∷ xs) ys k (suc i) m e below h = valid_at xs ys (suc k) i m (omega (arith, e)) (omega (arith, below)) h.1
+
+  some_at : (xs : Names) (i : ℕ) → i < length xs → (x : List ℕ) × (slice_get xs i ≡ Some x)
+  some_at [] i below = absurd (omega (arith, below))
+  some_at (x ∷ xs) zero below = (x, refl)
+  some_at (x ∷ xs) (suc i) below = some_at xs i (omega (arith, below))
+
+  -- The queries that are emitted for the needed accumulators are of the schema, where those for all names are.
+  pub all_are_valid : AreForNeeded l.setting → AreValidFrom (looped_at l) 0 (lowering l.setting).names → QueriesAreValid l.setting l.candidate
+  all_are_valid needed valid k e below emits =
+      let there = some_at (needed_in_order w) k below in
+      let n : IsForNeeded w k there.0 = needed.needed k there.0 there.1 in
+      valid_at (needed_in_order w) (names_of_flags w.sites) 0 k k (omega arith) below valid n.accumulator e (ap outermost n.there ∙ outer_is n.accumulator n.outer) emits

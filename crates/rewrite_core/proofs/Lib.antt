@@ -30,6 +30,7 @@ pub mod Outer
 pub mod Pushed
 pub mod SpelledElements
 pub mod Standing
+pub mod Standings
 pub mod Starting
 pub mod StaysTyped
 pub mod Turns

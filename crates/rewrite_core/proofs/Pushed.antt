@@ -1,13 +1,14 @@
 -- The statements that ask, as code adds them one after the other.
-use Rattle.std.proofs.Common.{◌≡◌, ℕ, suc, ◌+◌, List, [], ◌∷◌, ◌++◌, length, slice_get, Option, Some, None, refl, sym, ap, ap₂, ◌∙◌, arith}
+use Rattle.std.proofs.Common.{◌≡◌, ℕ, suc, ◌+◌, List, [], ◌∷◌, ◌++◌, length, slice_get, Option, Some, None, refl, sym, ap, ap₂, ◌∙◌, subst, arith}
 use Rattle.kernel_lang.specs.Plain.{Accumulator}
 use Rattle.sql_emit.specs.Numbered.{Emission}
+use Rattle.sql_ast.specs.Valid.{IsQueryOf}
 use Rattle.java_ast.specs.declared.tree.Stmt.{Stmt}
 use Rattle.java_ast.specs.Path.{and_then}
 use Rattle.java_ast.specs.Reading.{statement, statements}
 use Rattle.java_ast.specs.Tree.{Statement, Statements, Nothing, Then}
 use Rattle.loop_text.specs.Statements.Names.{Names}
-use Rattle.rewrite_core.specs.Looped.{Looped, outermost, statement_for, emitted_in, asked_with, asked_at, asked_from}
+use Rattle.rewrite_core.specs.Looped.{Looped, outermost, statement_for, emitted_in, asked_with, asked_at, asked_from, IsValidAt, AreValidFrom}
 use Rattle.rewrite_core.proofs.Giving.{and_nothing, and_then_joined}
 
 one_pushed : (all : List Stmt) (s : Stmt) → statements (all ++ s ∷ []) ≡ and_then (statements all) (Then (statement s) Nothing)
@@ -41,3 +42,23 @@ module _ (g : Looped) where
   -- behind what stays
   pub behind_kept : (kept stays all : Statements) (names : Names) → all ≡ and_then kept (asked_from g 0 names) → kept ≡ stays → all ≡ and_then stays (asked_from g 0 names)
   behind_kept kept stays all names e is = e ∙ ap (λ (ss : Statements). and_then ss (asked_from g 0 names)) is
+
+  -- ---- Their queries
+
+  pub none_valid : (k : ℕ) → None ≡ outermost (slice_get g.fragment.accs k) → IsValidAt g k
+  none_valid k none a e found emits = let no : None ≡ Some a = none ∙ found in absurd cc
+
+  pub some_valid : (k : ℕ) (q : Emission) → Some q ≡ emitted_in g k → IsQueryOf g.schema q.query → IsValidAt g k
+  some_valid k q emits valid a e found is =
+      let both : Some q ≡ Some e = emits ∙ is in
+      let same : q ≡ e = cc in
+      subst (λ (z : Emission). IsQueryOf g.schema z.query) same valid
+
+  pub end_valid : (k : ℕ) (names : Names) → length names ≡ 0 → AreValidFrom g k names
+  end_valid k [] is = tt
+  end_valid k (x ∷ xs) is = absurd (omega (arith, is))
+
+  pub all_valid : (k next : ℕ) (x : List ℕ) (names rest : Names) → names ≡ x ∷ rest → next ≡ k + 1 → IsValidAt g k → AreValidFrom g next rest → AreValidFrom g k names
+  all_valid k next x names rest is more one others =
+      let after : next ≡ suc k = omega (arith, more) in
+      subst (AreValidFrom g k) (sym is) (one, subst (λ (n : ℕ). AreValidFrom g n rest) after others)

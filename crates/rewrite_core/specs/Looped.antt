@@ -1,5 +1,5 @@
 -- A loop that gives way, as code has it, and the statements that ask for it. `replaced` is what it comes to.
-use Rattle.std.specs.Prelude.{ℕ, suc, List, [], ◌∷◌, ◌==◌, map, slice_get, if◌then◌else◌}
+use Rattle.std.specs.Prelude.{◌≡◌, ℕ, suc, List, [], ◌∷◌, ◌==◌, map, slice_get, if◌then◌else◌}
 use Rattle.std.specs.declared.option.Option.{Option}
 use Rattle.std.specs.declared.option.Option.TheVariants.{Some, None}
 use Rattle.qbs_base.specs.declared.span.Span.{Span}
@@ -14,6 +14,7 @@ use Rattle.kernel_lang.specs.Whole.{fragment_of}
 use Rattle.sql_ast.specs.Canonical.{canonical}
 use Rattle.sql_ast.specs.Reading.{query}
 use Rattle.sql_ast.specs.Tree.{PlainQuery}
+use Rattle.sql_ast.specs.Valid.{IsQueryOf}
 use Rattle.sql_emit.specs.Numbered.{Emission, emitted}
 use Rattle.sql_emit.specs.Scopes.{def_of, table_name}
 use Rattle.java_ast.specs.Path.{and_then}
@@ -112,3 +113,14 @@ asked_at l k x = asked_with l x (outermost (slice_get l.fragment.accs k)) (emitt
 abbrev pub asked_from : Looped → ℕ → Names → Statements
 asked_from l k [] = Nothing
 asked_from l k (x ∷ xs) = and_then (asked_at l k x) (asked_from l (suc k) xs)
+
+-- ---- Their queries
+
+-- the query that is emitted for the accumulator of this number, where that stands outside all loops, is of the schema
+abbrev pub IsValidAt : Looped → ℕ → Type 0
+IsValidAt l k = (a : Accumulator) (e : Emission) → outermost (slice_get l.fragment.accs k) ≡ Some a → emitted_in l k ≡ Some e → IsQueryOf l.schema e.query
+
+-- so it is for variables, of whose accumulators the first has the number k
+abbrev pub AreValidFrom : Looped → ℕ → Names → Type 0
+AreValidFrom l k [] = Unit {0}
+AreValidFrom l k (x ∷ xs) = IsValidAt l k × AreValidFrom l (suc k) xs

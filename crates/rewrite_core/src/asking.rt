@@ -1,5 +1,5 @@
 // The statements that ask for the needed accumulators of a loop.
-ghost use Rattle.std.specs.Prelude.{◌≡◌, true, IfOk, IfSome, OnOk, Some, map, option_copied, slice_get, suc};
+ghost use Rattle.std.specs.Prelude.{◌≡◌, true, IfOk, IfSome, OnOk, Some, map, option_copied, slice_get};
 ghost use Rattle.std.specs.Option.{option_map};
 ghost use Rattle.java_ast.specs.Path.{and_then};
 ghost use Rattle.java_ast.specs.Reading.{spelled, expression, statement, statements};
@@ -10,6 +10,7 @@ ghost use Rattle.kernel_lang.specs.Whole.{fragment_of};
 ghost use Rattle.loop_text.specs.Statements.Setting as setting;
 ghost use Rattle.sql_ast.specs.Canonical.{canonical};
 ghost use Rattle.sql_ast.specs.Reading.{query as plain_query};
+ghost use Rattle.sql_ast.specs.Valid.{IsQueryOf};
 ghost use Rattle.sql_emit.specs.Given.{AreKnownTo, IsOutermost};
 ghost use Rattle.sql_emit.specs.Reading.{emission_of};
 ghost use Rattle.rewrite_core.specs.Asked.{type_started};
@@ -156,7 +157,8 @@ fn emitted(alloc: Global, l: Looped, k: u32) -> Result<Box<Emitted>, NoMemory>
     requires outer { IsOutermost (fragment_of l.lowered.now.frag) k }
     requires typed { is_typed l.schema.now (fragment_of l.lowered.now.frag) ≡ true }
     requires known { AreKnownTo l.schema.now (fragment_of l.lowered.now.frag) (map plain_query l.lowered.now.known) l.lowered.now.known_args }
-    ensures { IfOk result (λ e. Some (emission_of e.value) ≡ specs.emitted_in (looped_in_code l.entry) k) }
+    ensures exact { IfOk result (λ e. Some (emission_of e.value) ≡ specs.emitted_in (looped_in_code l.entry) k) }
+    ensures grammar { IfOk result (λ e. IsQueryOf l.entry.schema.now (plain_query e.value.query)) }
 {
     let e = emit(
         alloc,
@@ -174,7 +176,8 @@ fn emitted(alloc: Global, l: Looped, k: u32) -> Result<Box<Emitted>, NoMemory>
 fn push_ask(alloc: Global, l: Looped, k: u32, x: &Name, all: &mut Vec<Stmt>) -> Result<(), NoMemory>
     requires typed { is_typed l.schema.now (fragment_of l.lowered.now.frag) ≡ true }
     requires known { AreKnownTo l.schema.now (fragment_of l.lowered.now.frag) (map plain_query l.lowered.now.known) l.lowered.now.known_args }
-    ensures { OnOk result (statements all.new.items ≡ and_then (statements all.old.items) (specs.asked_at (looped_in_code l.entry) k x.now)) }
+    ensures exact { OnOk result (statements all.new.items ≡ and_then (statements all.old.items) (specs.asked_at (looped_in_code l.entry) k x.now)) }
+    ensures valid { OnOk result (specs.IsValidAt (looped_in_code l.entry) k) }
 {
     match outermost(&l.lowered.frag, k) {
         None => Ok(()),
@@ -197,7 +200,8 @@ pub fn push_asks(
 ) -> Result<(), NoMemory>
     requires typed { is_typed l.schema.now (fragment_of l.lowered.now.frag) ≡ true }
     requires known { AreKnownTo l.schema.now (fragment_of l.lowered.now.frag) (map plain_query l.lowered.now.known) l.lowered.now.known_args }
-    ensures { OnOk result (statements all.new.items ≡ and_then (statements all.old.items) (specs.asked_from (looped_in_code l.entry) k names.now)) }
+    ensures exact { OnOk result (statements all.new.items ≡ and_then (statements all.old.items) (specs.asked_from (looped_in_code l.entry) k names.now)) }
+    ensures valid { OnOk result (specs.AreValidFrom (looped_in_code l.entry) k names.now) }
 {
     let Some((x, rest)) = names.split_first() else {
         return Ok(());

@@ -1,5 +1,5 @@
 // The program in which a loop gives way.
-ghost use Rattle.std.specs.Prelude.{◌≡◌, ◌≤◌, ℕ, true, IfOk, List, Some, map};
+ghost use Rattle.std.specs.Prelude.{◌≡◌, ◌≤◌, ℕ, true, IfOk, OnOk, List, Some, map};
 ghost use Rattle.std.specs.declared.option.Option.{Option};
 ghost use Rattle.qbs_base.specs.Values.{Schema as Tables};
 ghost use Rattle.java_ast.specs.Path.{and_then, last_of, replaced_at, statement_at};
@@ -10,8 +10,11 @@ ghost use Rattle.java_loops.specs.Kernel.Kernel.{setting_at};
 ghost use Rattle.java_loops.specs.Kernel.Setting.{Setting};
 ghost use Rattle.java_loops.specs.Lowering.Lowered.{Lowering};
 ghost use Rattle.java_loops.specs.Meant.Lowers.{IsLowered};
+ghost use Rattle.java_mean.specs.Keeps.{Keeps};
 ghost use Rattle.java_mean.specs.Numbers.{NumbersFit};
 ghost use Rattle.java_mean.specs.WellTyped.{IsWellTyped};
+ghost use Rattle.java_parser.specs.InGrammar.{IsInGrammar};
+ghost use Rattle.java_parser.specs.Written.{IsWritten};
 ghost use Rattle.java_types.specs.Texts.{read_by};
 ghost use Rattle.kernel_lang.specs.Pools.{IsCandidateOf};
 ghost use Rattle.kernel_lang.specs.Typed.{is_typed};
@@ -21,9 +24,10 @@ ghost use Rattle.loop_text.specs.Statements.KeptStatements.{with_numbers};
 ghost use Rattle.sql_ast.specs.Reading.{query};
 ghost use Rattle.sql_ast.specs.Tree.{PlainQuery};
 ghost use Rattle.sql_emit.specs.Given.{AreKnownTo};
+ghost use Rattle.vc_gen.specs.Soundness.{EndsAnywhere};
 ghost use Rattle.fragments.specs.Lowers.{lowering_in_code};
 ghost use Rattle.rewrite_core.specs.Asked.{replaced};
-ghost use Rattle.rewrite_core.specs.Looped.{looped_in_code, asked_from};
+ghost use Rattle.rewrite_core.specs.Looped.{looped_in_code, asked_from, AreValidFrom};
 
 use crate::asking::push_asks;
 use crate::looped::Looped;
@@ -64,11 +68,12 @@ fn place_there(program: &Program, path: &Path) -> Span
 fn in_place(alloc: Global, l: Looped) -> Result<Vec<Stmt>, NoMemory>
     requires typed { is_typed l.schema.now (fragment_of l.lowered.now.frag) ≡ true }
     requires known { AreKnownTo l.schema.now (fragment_of l.lowered.now.frag) (map query l.lowered.now.known) l.lowered.now.known_args }
-    ensures { IfOk result (λ all.
+    ensures exact { IfOk result (λ all.
         (schema : Tables) (read : List ℕ → Option PlainQuery) (z : Lowering) (w : Setting)
         → IsLowered schema read (plain_program l.entry.program.now) l.entry.path.now z l.entry.lowered.now.first l.entry.lowered.now.kept
         → setting_at schema read l.entry.path.now (plain_program l.entry.program.now) ≡ Some w
         → statements all.items ≡ and_then (with_numbers l.entry.lowered.now.kept l.entry.lowered.now.first w.fragment.run) (asked_from (looped_in_code l.entry) 0 l.entry.lowered.now.names)) }
+    ensures valid { OnOk result (AreValidFrom (looped_in_code l.entry) 0 l.entry.lowered.now.names) }
 {
     let mut all = kept_statements(alloc, l.program, l.path, l.lowered)?;
     push_asks(alloc, l, 0, l.lowered.names.as_slice(), &mut all)?;
@@ -103,10 +108,17 @@ fn replaced_in(
     requires numbers { NumbersFit (plain_program program.now) }
     requires lowered { IsLowered schema.now (read_by schema.now) (plain_program program.now) path.now (lowering_in_code lowered.now) lowered.now.first lowered.now.kept }
     requires known { AreKnownTo schema.now (fragment_of lowered.now.frag) (map query lowered.now.known) lowered.now.known_args }
-    ensures { IfOk result (λ q.
+    ensures exact { IfOk result (λ q.
         (w : Setting)
         → setting_at schema.now (read_by schema.now) path.now (plain_program program.now) ≡ Some w
         → plain_program q ≡ replaced (record { program = plain_program program.now; path = path.now; setting = w; candidate = candidate.now })) }
+    ensures typed { IfOk result (λ q. EndsAnywhere (fragment_of lowered.now.frag) candidate.now → IsWellTyped schema.now (read_by schema.now) (plain_program q)) }
+    ensures keeps { IfOk result (λ q. EndsAnywhere (fragment_of lowered.now.frag) candidate.now → Keeps (plain_program program.now) (plain_program q) schema.now) }
+    ensures written { IfOk result (λ q.
+        EndsAnywhere (fragment_of lowered.now.frag) candidate.now
+        → IsInGrammar (plain_program program.now)
+        → IsWritten (plain_program program.now)
+        → IsInGrammar (plain_program q) × IsWritten (plain_program q)) }
 {
     let l = Looped {
         schema,
@@ -124,6 +136,9 @@ fn replaced_in(
 /// The program in which a loop of a well-typed program gives way, where the loop has the kernel form and is lowered so: the kept
 /// statements of its run, and for each needed accumulator a statement that runs the query of what the candidate claims of it. What is
 /// asked of known queries is what `lower` says of them. Only want of memory is an error.
+///
+/// Where the candidate's postconditions say what the fragment ends with, the program is well typed and keeps what the first one
+/// does; and it is of the grammar and can be written, if the first one is.
 pub fn replace_loop(
     alloc: Global,
     schema: &Schema,
@@ -140,6 +155,13 @@ pub fn replace_loop(
         (w : Setting)
         → setting_at schema.now (read_by schema.now) path.now (plain_program typed.now.program) ≡ Some w
         → plain_program q ≡ replaced (record { program = plain_program typed.now.program; path = path.now; setting = w; candidate = candidate.now })) }
+    ensures typed { IfOk result (λ q. EndsAnywhere (fragment_of lowered.now.frag) candidate.now → IsWellTyped schema.now (read_by schema.now) (plain_program q)) }
+    ensures keeps { IfOk result (λ q. EndsAnywhere (fragment_of lowered.now.frag) candidate.now → Keeps (plain_program typed.now.program) (plain_program q) schema.now) }
+    ensures written { IfOk result (λ q.
+        EndsAnywhere (fragment_of lowered.now.frag) candidate.now
+        → IsInGrammar (plain_program typed.now.program)
+        → IsWritten (plain_program typed.now.program)
+        → IsInGrammar (plain_program q) × IsWritten (plain_program q)) }
 {
     replaced_in(alloc, schema, typed.program(), path, lowered, candidate)
 }
