@@ -23,7 +23,7 @@ use Rattle.java_loops.specs.Kernel.Setting.{Setting}
 use Rattle.java_loops.specs.Walks.Replacing.{Ask, asking, asked}
 use Rattle.rewrite_core.specs.Asked.{Place, asks_of}
 use Rattle.rewrite_core.specs.Asking as asking_specs
-use Rattle.rewrite_core.specs.Asking.{MayBeAsked, AgreeOnEntries, SeesEntries, IsFaultlessAsk, MayStand, AllMayStand}
+use Rattle.rewrite_core.specs.Asking.{HasAsks, AgreeOnEntries, SeesEntries, IsFaultlessAsk, MayStand, AllMayStand}
 use Rattle.rewrite_core.proofs.FaultlessAsks.{asks_are_faultless}
 use Rattle.rewrite_core.proofs.FaultlessCalls.{single_itself}
 use Rattle.rewrite_core.proofs.KeptFaultless.{seen_so}
@@ -87,5 +87,5 @@ module _ (schema : Schema) (read : List ℕ → Option PlainQuery) (r : Option S
       ∙ asked_fine ks (after schema us a) (types_after schema h a) seen (agree_behind h k.ty k.at k.name k.value m.0 agree) (λ vs e. (fine vs e).1) (all_stand_behind schema round w.types h k.ty k.at k.name k.value ks m.1 m.2)
 
 -- The asks for a loop break no rule where they may stand.
-pub asks_fine : (schema : Schema) (reader : Reader schema) (l : Place) (r : Option Spelled) (round : Around) (vs : Visible) (g : Types) → MayBeAsked schema reader.read l.program l.path l.setting l.candidate → asking_specs.Sees vs g → AgreeOnEntries l.setting g → AllMayStand schema round l.setting.types g (asks_of l) → faults_in schema reader.read r (in_first schema vs round false (asked (asks_of l))) ≡ []
+pub asks_fine : (schema : Schema) (reader : Reader schema) (l : Place) (r : Option Spelled) (round : Around) (vs : Visible) (g : Types) → HasAsks schema reader.read l.program l.path l.setting l.candidate → asking_specs.Sees vs g → AgreeOnEntries l.setting g → AllMayStand schema round l.setting.types g (asks_of l) → faults_in schema reader.read r (in_first schema vs round false (asked (asks_of l))) ≡ []
 asks_fine schema reader l r round vs g may s agree m = asked_fine schema reader.read r l.setting round (asks_of l) vs g (seen_so vs g s) agree (λ us e. asks_are_faultless schema reader l r us may e) m

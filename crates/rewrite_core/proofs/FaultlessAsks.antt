@@ -58,7 +58,7 @@ use Rattle.java_loops.proofs.Placing.PlaceSpelled.{spelled_there}
 use Rattle.fragments.specs.Asked.{queries_in}
 use Rattle.fragments.proofs.Known.KnownLoop.{known_to}
 use Rattle.rewrite_core.specs.Asked.{Place, value_by, arguments_of, table_taken, spelled_or_text, asks_of}
-use Rattle.rewrite_core.specs.Asking.{QueriesAreValid, MayBeAsked, SeesEntries, IsFaultlessAsk}
+use Rattle.rewrite_core.specs.Asking.{QueriesAreValid, HasAsks, SeesEntries, IsFaultlessAsk}
 use Rattle.rewrite_core.proofs.Answering.{canonical_read}
 use Rattle.rewrite_core.proofs.Asks.{emission_of, ask_of, asks_by, Follow, follow_first, follow_next, follow_here, asks_are}
 use Rattle.rewrite_core.proofs.FaultlessArguments.{AreFine, arguments_fine}
@@ -193,10 +193,10 @@ module _ (l : Place) (reader : Reader l.setting.schema) (r : Option Spelled) (vs
       (one_faultless x m k there a.0 v.0 query, all_faultless (suc k) (n + length b.pool) xs accs (follow_next l k n b accs h) o.2 a.1 v.1 (omega (arith, count)))
 
 -- The expressions of the asks for a loop break no rule where what the entry values read is visible.
-pub asks_are_faultless : (schema : Schema) (reader : Reader schema) (l : Place) (r : Option Spelled) (vs : Visible) → MayBeAsked schema reader.read l.program l.path l.setting l.candidate → SeesEntries l.setting vs → AllByRecursion (IsFaultlessAsk schema reader.read r l.setting vs) (asks_of l)
+pub asks_are_faultless : (schema : Schema) (reader : Reader schema) (l : Place) (r : Option Spelled) (vs : Visible) → HasAsks schema reader.read l.program l.path l.setting l.candidate → SeesEntries l.setting vs → AllByRecursion (IsFaultlessAsk schema reader.read r l.setting vs) (asks_of l)
 asks_are_faultless schema reader l r vs may sees =
     at_setting
-    (λ (z : Setting). MayBeAsked schema reader.read l.program l.path z l.candidate → SeesEntries z vs → AllByRecursion (IsFaultlessAsk schema reader.read r z vs) (asks_of (record { program = l.program; path = l.path; setting = z; candidate = l.candidate })))
+    (λ (z : Setting). HasAsks schema reader.read l.program l.path z l.candidate → SeesEntries z vs → AllByRecursion (IsFaultlessAsk schema reader.read r z vs) (asks_of (record { program = l.program; path = l.path; setting = z; candidate = l.candidate })))
     schema reader.read l.program l.path l.setting may.loop.typed may.loop.numbers
     (λ f h there rules may' sees'.
     let w : Setting = setting_of schema reader.read h f in

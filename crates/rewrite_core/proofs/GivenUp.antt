@@ -36,8 +36,9 @@ use Rattle.fragments.specs.Asked.{queries_in}
 use Rattle.fragments.specs.declared.lowering.lowered.Lowered.{Lowered}
 use Rattle.fragments.specs.Lowers.{lowering_in_code}
 use Rattle.rewrite_core.specs.Asked.{Place, asks_of, number_of, replaced}
-use Rattle.rewrite_core.specs.Asking.{MayBeAsked}
+use Rattle.rewrite_core.specs.Asking.{HasAsks, MayBeAsked}
 use Rattle.rewrite_core.specs.Looped.{Looped, asked_from, AreValidFrom}
+use Rattle.rewrite_core.proofs.HasAsks.{may_with}
 use Rattle.rewrite_core.proofs.Giving.{looped_at, all_asked, all_are_valid}
 
 queries_found : (qs : List Query) → queries_in (map (λ q. Some (query q)) qs) ≡ map query qs
@@ -129,9 +130,9 @@ module _ (schema : Schema) (read : List ℕ → Option PlainQuery) (p : PlainPro
         ∙ ap₂ (λ (ns : List ℕ) (ss : Statements). and_then (with_numbers ns l.first w.fragment.run) ss) kept_are (asks_are (made schema run at (lowering_in_code l) (map query l.known)) (found_looped run at run_is at_is)))
         ∙ ap (λ (n : ℕ). replaced_at path n (and_then (with_numbers (kept_numbers w.fragment (names_read (lowering w).entries) n w.fragment.run) n w.fragment.run) (asked (asks_of place))) p) (sym (ap number_of k.begins))
 
-    -- The loop may be asked for, where the candidate's postconditions say what the fragment ends with.
-    pub may_ask : (run : Statements) (at : Span) → ((f : Fragment) → fragment_at path p ≡ Some f → run ≡ f.run) → ((s : Statement) → statement_at path p ≡ Some s → at ≡ place_of s) → AreKnownTo schema (fragment_of l.frag) (map query l.known) l.known_args → AreValidFrom (made schema run at (lowering_in_code l) (map query l.known)) 0 l.names → EndsAnywhere (fragment_of l.frag) candidate → MayBeAsked schema read p path w candidate
-    may_ask run at run_is at_is known valid ends =
+    -- the loop has asks
+    pub has_there : (run : Statements) (at : Span) → ((f : Fragment) → fragment_at path p ≡ Some f → run ≡ f.run) → ((s : Statement) → statement_at path p ≡ Some s → at ≡ place_of s) → AreKnownTo schema (fragment_of l.frag) (map query l.known) l.known_args → AreValidFrom (made schema run at (lowering_in_code l) (map query l.known)) 0 l.names → HasAsks schema read p path w candidate
+    has_there run at run_is at_is known valid =
         let unbroken : broken w ≡ None = subst (λ (z : Setting). broken z ≡ None) same k.unbroken in
         let found : IsThere schema p path w = is_there schema read p path w there in
         let queries : map query l.known ≡ queries_in (lowering w).known = sym (ap (λ (z : Lowering). queries_in z.known) lowered_is ∙ queries_found l.known) in
@@ -140,5 +141,8 @@ module _ (schema : Schema) (read : List ℕ → Option PlainQuery) (p : PlainPro
           loop = record { typed = typed; numbers = numbers; there = there; unbroken = unbroken };
           known = subst (AllByRecursion (IsQueryOf schema)) queries (known_valid schema (fragment_of l.frag).entries (map query l.known) l.known_args known.each);
           emitted = all_are_valid place (needed_there schema read p path w typed numbers there unbroken) valid';
-          ends = subst (λ (z : Lowering). EndsAnywhere z.fragment candidate) (sym lowered_is) ends;
         }
+
+    -- It may be asked for, where the candidate's postconditions say what the fragment ends with.
+    pub may_there : HasAsks schema read p path w candidate → EndsAnywhere (fragment_of l.frag) candidate → MayBeAsked schema read p path w candidate
+    may_there has ends = may_with schema read p path w candidate has (subst (λ (z : Lowering). EndsAnywhere z.fragment candidate) (sym lowered_is) ends)

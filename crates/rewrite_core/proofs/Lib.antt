@@ -19,6 +19,7 @@ pub mod Fitting
 pub mod GivenThere
 pub mod GivenUp
 pub mod Giving
+pub mod HasAsks
 pub mod Keeping
 pub mod KeptFaultless
 pub mod Known

@@ -10,7 +10,7 @@ use Rattle.java_parser.specs.Written.{IsWritten}
 use Rattle.java_types.specs.Texts.{read_by}
 use Rattle.java_types.proofs.Found.{found_exactly}
 use Rattle.rewrite_core.specs.Asked.{Place, replaced}
-use Rattle.rewrite_core.specs.Asking.{MayBeAsked}
+use Rattle.rewrite_core.specs.Asking.{HasAsks, MayBeAsked}
 use Rattle.rewrite_core.proofs.StaysTyped.{replaced_well, loops_give_way}
 use Rattle.rewrite_core.proofs.Writable.Asks.{replaced_fine}
 
@@ -24,5 +24,6 @@ module _ (schema : Schema) (l : Place) (may : MayBeAsked schema (read_by schema)
   pub stands_kept : Keeps l.program q schema
   stands_kept = subst (λ (z : PlainProgram). Keeps l.program z schema) (sym is) (loops_give_way schema (reader_of schema) l may)
 
-  pub stands_written : IsInGrammar l.program → IsWritten l.program → IsInGrammar q × IsWritten q
-  stands_written grammar written = subst (λ (z : PlainProgram). IsInGrammar z × IsWritten z) (sym is) (replaced_fine schema (reader_of schema) l may (grammar, written))
+-- so it can be written, if the first program can
+pub stands_written : (schema : Schema) (l : Place) (has : HasAsks schema (read_by schema) l.program l.path l.setting l.candidate) (q : PlainProgram) (is : q ≡ replaced l) → IsInGrammar l.program → IsWritten l.program → IsInGrammar q × IsWritten q
+stands_written schema l has q is grammar written = subst (λ (z : PlainProgram). IsInGrammar z × IsWritten z) (sym is) (replaced_fine schema (reader_of schema) l has (grammar, written))

@@ -55,6 +55,7 @@ use Rattle.java_loops.proofs.Walks.PlacedPrograms.{MethodAt, method_at}
 use Rattle.rewrite_core.specs.Asked.{Place, asks_of, number_of, replaced}
 use Rattle.rewrite_core.specs.Asking as asking
 use Rattle.rewrite_core.specs.Asking.{MayBeAsked, AgreeOnEntries, AllMayStand}
+use Rattle.rewrite_core.proofs.HasAsks.{has_asks}
 use Rattle.rewrite_core.proofs.Asked.{asks_for_loop}
 use Rattle.rewrite_core.proofs.AskedFaultless.{asks_fine}
 use Rattle.rewrite_core.proofs.EachName.{each_mentioned, each_declared}
@@ -190,7 +191,7 @@ module _ (schema : Schema) (reader : Reader schema) (p : PlainProgram) (path : L
       all_stand schema reader.read m.result round vs before g r w sees (extends_statements (frame_of schema reader.read m) there.typed.loop before g f.run there.typed.run) parts.left (needed_in_order w) ks asks.starts started stands.fits stands.types
 
   asks_none : faults_in schema reader.read m.result (in_first schema (visible_past schema vs run_kept) round false (asked ks)) ≡ []
-  asks_none = asks_fine schema reader l m.result round (visible_past schema vs run_kept) (types_past schema before run_kept) may (sees_so (visible_past schema vs run_kept) (types_past schema before run_kept) sees_kept) agree asks_may_stand
+  asks_none = asks_fine schema reader l m.result round (visible_past schema vs run_kept) (types_past schema before run_kept) (has_asks schema reader.read l.program l.path l.setting l.candidate may) (sees_so (visible_past schema vs run_kept) (types_past schema before run_kept) sees_kept) agree asks_may_stand
 
   -- ---- Both
 

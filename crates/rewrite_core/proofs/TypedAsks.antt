@@ -49,7 +49,7 @@ use Rattle.java_loops.proofs.Typing.TypedAccumulators.{accumulators_there as nee
 use Rattle.fragments.specs.Asked.{queries_in, IsKernelLoop}
 use Rattle.fragments.proofs.Known.KnownLoop.{known_to}
 use Rattle.rewrite_core.specs.Asked.{Place, value_by, arguments_of, table_taken, spelled_or_text, asks_of}
-use Rattle.rewrite_core.specs.Asking.{QueriesAreValid, MayBeAsked, AgreeOnEntries, IsTypedAsk}
+use Rattle.rewrite_core.specs.Asking.{QueriesAreValid, HasAsks, AgreeOnEntries, IsTypedAsk}
 use Rattle.rewrite_core.proofs.Answering.{canonical_read}
 use Rattle.rewrite_core.proofs.Asks.{emission_of, ask_of, asks_by, Follow, follow_first, follow_next, follow_here, asks_are}
 use Rattle.rewrite_core.proofs.Outer.{AreOuter, accumulators_there}
@@ -162,10 +162,10 @@ module _ (l : Place) (schema : Schema) (reader : Reader schema) (same : l.settin
       (one_typed x m a.0 v.0 query, all_typed (suc k) (n + length b.pool) xs accs (follow_next l k n b accs h) o.2 a.1 v.1 (omega (arith, count)))
 
 -- The asks for a loop are typed where the types agree on what the entry values read.
-pub asks_are_typed : (schema : Schema) (reader : Reader schema) (l : Place) (method : PlainMethod) (g : Types) → MayBeAsked schema reader.read l.program l.path l.setting l.candidate → AgreeOnEntries l.setting g → AllByRecursion (IsTypedAsk (frame_of schema reader.read method) l.setting g) (asks_of l)
+pub asks_are_typed : (schema : Schema) (reader : Reader schema) (l : Place) (method : PlainMethod) (g : Types) → HasAsks schema reader.read l.program l.path l.setting l.candidate → AgreeOnEntries l.setting g → AllByRecursion (IsTypedAsk (frame_of schema reader.read method) l.setting g) (asks_of l)
 asks_are_typed schema reader l method g may agree =
     at_setting
-    (λ (z : Setting). MayBeAsked schema reader.read l.program l.path z l.candidate → AgreeOnEntries z g → AllByRecursion (IsTypedAsk (frame_of schema reader.read method) z g) (asks_of (record { program = l.program; path = l.path; setting = z; candidate = l.candidate })))
+    (λ (z : Setting). HasAsks schema reader.read l.program l.path z l.candidate → AgreeOnEntries z g → AllByRecursion (IsTypedAsk (frame_of schema reader.read method) z g) (asks_of (record { program = l.program; path = l.path; setting = z; candidate = l.candidate })))
     schema reader.read l.program l.path l.setting may.loop.typed may.loop.numbers
     (λ f h there rules may' agree'.
     let w : Setting = setting_of schema reader.read h f in

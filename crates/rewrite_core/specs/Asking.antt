@@ -35,6 +35,12 @@ use Rattle.rewrite_core.specs.Asked.{emitted_for}
 abbrev pub QueriesAreValid : Setting → List ℕ → Type 0
 QueriesAreValid w candidate = (k : ℕ) (e : Emission) → k < length (needed_in_order w) → emitted_for w candidate k ≡ Some e → IsQueryOf w.schema e.query
 
+-- a loop of the kernel form, whose known queries and the queries that are emitted for this candidate are of the schema
+pub record HasAsks (schema : Schema) (read : List ℕ → Option PlainQuery) (p : PlainProgram) (path : List ℕ) (w : Setting) (candidate : List ℕ) : Type 0 where
+  pub loop : IsKernelLoop schema read p path w
+  pub known : HasQueriesOf schema (lowering w)
+  pub emitted : QueriesAreValid w candidate
+
 -- A loop of the kernel form, whose known queries and emitted queries are of the schema, with a candidate whose postconditions
 -- say what the lowered fragment ends with, wherever it ends.
 pub record MayBeAsked (schema : Schema) (read : List ℕ → Option PlainQuery) (p : PlainProgram) (path : List ℕ) (w : Setting) (candidate : List ℕ) : Type 0 where

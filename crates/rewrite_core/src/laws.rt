@@ -36,7 +36,7 @@ ghost use Rattle.java_loops.specs.Walks.Replacing.{Ask, asked, is_asked, replace
 ghost use Rattle.java_loops.specs.Walks.Runs.{kept, KeptRead};
 ghost use Rattle.fragments.specs.Asked.{queries_in, IsKernelLoop, HasQueriesOf};
 ghost use Rattle.rewrite_core.specs.Asked.{Place, asks_of, replaced};
-ghost use Rattle.rewrite_core.specs.Asking.{IsGivenThere, QueriesAreValid, MayBeAsked, AgreeOnEntries, IsTypedAsk, SeesEntries, IsFaultlessAsk, Sees, AlikeOn, AllMayStand};
+ghost use Rattle.rewrite_core.specs.Asking.{IsGivenThere, QueriesAreValid, HasAsks, MayBeAsked, AgreeOnEntries, IsTypedAsk, SeesEntries, IsFaultlessAsk, Sees, AlikeOn, AllMayStand};
 
 /// At a loop of the kernel form, in a world of its method's frame, entry values and whole answers of the known queries are
 /// what emission asks for: the known lists are what the known queries answer to the entry values.
@@ -91,7 +91,7 @@ pub fn emitted_queries_of_loops_are_valid()
 /// and its arguments have the types of its parameters.
 pub fn asks_have_the_types_of_their_variables()
     ensures { (schema : Schema) (reader : Reader schema) (l : Place) (method : PlainMethod) (g : Types)
-        → MayBeAsked schema reader.read l.program l.path l.setting l.candidate
+        → HasAsks schema reader.read l.program l.path l.setting l.candidate
         → AgreeOnEntries l.setting g
         → AllByRecursion (IsTypedAsk (frame_of schema reader.read method) l.setting g) (asks_of l) }
 {}
@@ -102,7 +102,7 @@ pub fn asks_have_the_types_of_their_variables()
 /// the type of the ask's variable.
 pub fn asks_break_no_rule()
     ensures { (schema : Schema) (reader : Reader schema) (l : Place) (result : Option Spelled) (vs : Visible)
-        → MayBeAsked schema reader.read l.program l.path l.setting l.candidate
+        → HasAsks schema reader.read l.program l.path l.setting l.candidate
         → SeesEntries l.setting vs
         → AllByRecursion (IsFaultlessAsk schema reader.read result l.setting vs) (asks_of l) }
 {}
@@ -111,7 +111,7 @@ pub fn asks_break_no_rule()
 /// what they declare isn't, and what they assign is.
 pub fn asking_statements_break_no_rule()
     ensures { (schema : Schema) (reader : Reader schema) (l : Place) (result : Option Spelled) (round : Around) (vs : Visible) (g : Types)
-        → MayBeAsked schema reader.read l.program l.path l.setting l.candidate
+        → HasAsks schema reader.read l.program l.path l.setting l.candidate
         → Sees vs g
         → AgreeOnEntries l.setting g
         → AllMayStand schema round l.setting.types g (asks_of l)

@@ -115,8 +115,7 @@ fn replaced_in(
     ensures typed { IfOk result (λ q. EndsAnywhere (fragment_of lowered.now.frag) candidate.now → IsWellTyped schema.now (read_by schema.now) (plain_program q)) }
     ensures keeps { IfOk result (λ q. EndsAnywhere (fragment_of lowered.now.frag) candidate.now → Keeps (plain_program program.now) (plain_program q) schema.now) }
     ensures written { IfOk result (λ q.
-        EndsAnywhere (fragment_of lowered.now.frag) candidate.now
-        → IsInGrammar (plain_program program.now)
+        IsInGrammar (plain_program program.now)
         → IsWritten (plain_program program.now)
         → IsInGrammar (plain_program q) × IsWritten (plain_program q)) }
 {
@@ -137,8 +136,8 @@ fn replaced_in(
 /// statements of its run, and for each needed accumulator a statement that runs the query of what the candidate claims of it. What is
 /// asked of known queries is what `lower` says of them. Only want of memory is an error.
 ///
-/// Where the candidate's postconditions say what the fragment ends with, the program is well typed and keeps what the first one
-/// does; and it is of the grammar and can be written, if the first one is.
+/// The program is of the grammar and can be written, if the first one is. Where the candidate's postconditions say what the
+/// fragment ends with, it is well typed and keeps what the first one does.
 pub fn replace_loop(
     alloc: Global,
     schema: &Schema,
@@ -158,8 +157,7 @@ pub fn replace_loop(
     ensures typed { IfOk result (λ q. EndsAnywhere (fragment_of lowered.now.frag) candidate.now → IsWellTyped schema.now (read_by schema.now) (plain_program q)) }
     ensures keeps { IfOk result (λ q. EndsAnywhere (fragment_of lowered.now.frag) candidate.now → Keeps (plain_program typed.now.program) (plain_program q) schema.now) }
     ensures written { IfOk result (λ q.
-        EndsAnywhere (fragment_of lowered.now.frag) candidate.now
-        → IsInGrammar (plain_program typed.now.program)
+        IsInGrammar (plain_program typed.now.program)
         → IsWritten (plain_program typed.now.program)
         → IsInGrammar (plain_program q) × IsWritten (plain_program q)) }
 {

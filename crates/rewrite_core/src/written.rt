@@ -4,7 +4,7 @@ ghost use Rattle.java_mean.specs.Queries.{Reader};
 ghost use Rattle.java_parser.specs.InGrammar.{IsInGrammar};
 ghost use Rattle.java_parser.specs.Written.{IsWritten};
 ghost use Rattle.rewrite_core.specs.Asked.{Place, replaced};
-ghost use Rattle.rewrite_core.specs.Asking.{MayBeAsked};
+ghost use Rattle.rewrite_core.specs.Asking.{HasAsks};
 ghost use Rattle.rewrite_core.specs.Worked.{asking_once};
 
 /// A program in which a loop gives way to the asks that stand for it is a program of the grammar that can be written as a text,
@@ -13,7 +13,7 @@ ghost use Rattle.rewrite_core.specs.Worked.{asking_once};
 /// are UTF-8.
 pub fn replaced_programs_are_written()
     ensures { (schema : Schema) (reader : Reader schema) (l : Place)
-        → MayBeAsked schema reader.read l.program l.path l.setting l.candidate
+        → HasAsks schema reader.read l.program l.path l.setting l.candidate
         → IsInGrammar l.program
         → IsWritten l.program
         → IsInGrammar (replaced l) × IsWritten (replaced l) }

@@ -51,7 +51,7 @@ use Rattle.java_loops.proofs.Placing.Place.{IsPlacedIn}
 use Rattle.java_loops.proofs.Placing.PlaceSpelled.{spelled_there}
 use Rattle.fragments.specs.Asked.{queries_in}
 use Rattle.rewrite_core.specs.Asked.{Place, entry_at, arguments_of, value_by, type_started, start_type, table_taken, spelled_or_text, asks_of, first_of_run, replaced}
-use Rattle.rewrite_core.specs.Asking.{QueriesAreValid, MayBeAsked}
+use Rattle.rewrite_core.specs.Asking.{QueriesAreValid, HasAsks}
 use Rattle.rewrite_core.proofs.Asks.{emission_of, ask_of, asks_by, Follow, follow_first, follow_next, follow_here, asks_are}
 use Rattle.rewrite_core.proofs.Outer.{AreOuter, accumulators_there}
 use Rattle.rewrite_core.proofs.SpelledElements.{list_element, table_is}
@@ -236,13 +236,13 @@ module _ (l : Place) (fine : IsFineProgram l.program) (run : AreFineStatements l
 
 -- ---- Programs
 
-fragment_leads : (schema : Schema) (read : List ℕ → Option PlainQuery) (l : Place) (may : MayBeAsked schema read l.program l.path l.setting l.candidate) → fragment_at l.path l.program ≡ Some l.setting.fragment
+fragment_leads : (schema : Schema) (read : List ℕ → Option PlainQuery) (l : Place) (may : HasAsks schema read l.program l.path l.setting l.candidate) → fragment_at l.path l.program ≡ Some l.setting.fragment
 fragment_leads schema read l may = setting_fragment schema read l.program l.path l.setting (types_at schema l.path l.program) (fragment_at l.path l.program) refl may.loop.there
 
 -- The asks that stand for a loop are of the grammar and can be written.
-asks_fine : (schema : Schema) (reader : Reader schema) (l : Place) → MayBeAsked schema reader.read l.program l.path l.setting l.candidate → IsFineProgram l.program → IsFineFragment l.setting.fragment → AllByRecursion IsFineAsk (asks_of l)
+asks_fine : (schema : Schema) (reader : Reader schema) (l : Place) → HasAsks schema reader.read l.program l.path l.setting l.candidate → IsFineProgram l.program → IsFineFragment l.setting.fragment → AllByRecursion IsFineAsk (asks_of l)
 asks_fine schema reader l may fine parts =
-    at_setting (λ (z : Setting). MayBeAsked schema reader.read l.program l.path z l.candidate → IsFineFragment z.fragment → AllByRecursion IsFineAsk (asks_of (record { program = l.program; path = l.path; setting = z; candidate = l.candidate })))
+    at_setting (λ (z : Setting). HasAsks schema reader.read l.program l.path z l.candidate → IsFineFragment z.fragment → AllByRecursion IsFineAsk (asks_of (record { program = l.program; path = l.path; setting = z; candidate = l.candidate })))
     schema reader.read l.program l.path l.setting may.loop.typed may.loop.numbers
     (λ f g there rules may' parts'.
     let w : Setting = setting_of schema reader.read g f in
@@ -259,7 +259,7 @@ asks_fine schema reader l may fine parts =
 
 -- The program in which the kept statements and the asks stand in place of the run and the loop is of the grammar and can be
 -- written.
-pub replaced_fine : (schema : Schema) (reader : Reader schema) (l : Place) → MayBeAsked schema reader.read l.program l.path l.setting l.candidate → IsFineProgram l.program → IsFineProgram (replaced l)
+pub replaced_fine : (schema : Schema) (reader : Reader schema) (l : Place) → HasAsks schema reader.read l.program l.path l.setting l.candidate → IsFineProgram l.program → IsFineProgram (replaced l)
 replaced_fine schema reader l may fine =
     let parts : IsFineFragment l.setting.fragment = fine_fragment l.path l.program l.setting.fragment fine (fragment_leads schema reader.read l may) in
     let numbers : List ℕ = kept_numbers l.setting.fragment (names_read (lowering l.setting).entries) (first_of_run l) l.setting.fragment.run in

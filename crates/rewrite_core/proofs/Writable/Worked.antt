@@ -9,6 +9,7 @@ use Rattle.java_parser.specs.Written.{IsWritten}
 use Rattle.fragments.specs.AskedWorked.{asked_text, asking}
 use Rattle.rewrite_core.specs.Asked.{Place}
 use Rattle.rewrite_core.specs.Worked.{loop_at, known_asks, asking_once, GivesWayTo}
+use Rattle.rewrite_core.proofs.HasAsks.{has_asks}
 use Rattle.rewrite_core.proofs.Computed.{known}
 use Rattle.rewrite_core.proofs.Writable.Asks.{replaced_fine}
 use Rattle.rewrite_core.proofs.Writable.Replaced.{IsFineProgram}
@@ -57,4 +58,4 @@ knowing = loop_at asking (0 ∷ 2 ∷ []) (0 ∷ [])
 -- The program that asks once is of the grammar and can be written.
 pub asking_once_fine : IsFineProgram asking_once
 asking_once_fine =
-    let way : GivesWayTo knowing known_asks asking_once = known in subst IsFineProgram way.becomes (replaced_fine staff_schema (record { read = read_by staff_schema; exact = found_exactly staff_schema }) knowing way.may (asking_grammar, asking_written))
+    let way : GivesWayTo knowing known_asks asking_once = known in subst IsFineProgram way.becomes (replaced_fine staff_schema (record { read = read_by staff_schema; exact = found_exactly staff_schema }) knowing (has_asks staff_schema (read_by staff_schema) knowing.program knowing.path knowing.setting knowing.candidate way.may) (asking_grammar, asking_written))

@@ -30,5 +30,5 @@ returns-clause-keeps c =
 pub returns-clause-written : goal.returns-clause-written
 returns-clause-written c =
     subst
-    (λ (p : Program). IfOk c.replaced_in.result (λ q. EndsAnywhere (fragment_of c.args.lowered.now.frag) c.args.candidate.now → IsInGrammar (program p) → IsWritten (program p) → IsInGrammar (program q) × IsWritten (program q)))
+    (λ (p : Program). IfOk c.replaced_in.result (λ q. IsInGrammar (program p) → IsWritten (program p) → IsInGrammar (program q) × IsWritten (program q)))
     c.program.ensures c.replaced_in.ensures.written

@@ -2,7 +2,7 @@ use Rattle.std.proofs.lemmas.Result.{IfOk-weaker}
 use Rattle.java_ast.specs.Reading.{statements, program}
 use Rattle.java_types.specs.Texts.{read_by}
 use Rattle.fragments.specs.Lowers.{lowering_in_code}
-use Rattle.rewrite_core.proofs.GivenUp.{first_before, fits_schema, replaced_is, may_ask}
+use Rattle.rewrite_core.proofs.GivenUp.{first_before, fits_schema, replaced_is, has_there, may_there}
 use Rattle.rewrite_core.proofs.Standings.{stands_typed, stands_kept, stands_written}
 use Rattle.rewrite_core.proofs.replacing.replaced_in.Goals as goal
 
@@ -24,8 +24,9 @@ pub returns-clause-typed : goal.returns-clause-typed
 returns-clause-typed c =
     IfOk-weaker c.copy_with.result _ _
     (λ q e ends. stands_typed c.args.schema.now (record { program = program c.args.program.now; path = c.args.path.now; setting = c.requires.lowered.setting; candidate = c.args.candidate.now })
-    (may_ask c.args.schema.now (read_by c.args.schema.now) (program c.args.program.now) c.args.path.now c.args.lowered.now c.requires.typed c.requires.numbers c.requires.lowered c.args.candidate.now c.requires.lowered.setting c.requires.lowered.there
-    (statements c.run_there.result.now) c.place_there.result c.run_there.ensures c.place_there.ensures c.requires.known c.in_ok-others.ensures.valid ends)
+    (may_there c.args.schema.now (read_by c.args.schema.now) (program c.args.program.now) c.args.path.now c.args.lowered.now c.requires.typed c.requires.numbers c.requires.lowered c.args.candidate.now c.requires.lowered.setting c.requires.lowered.there
+    (has_there c.args.schema.now (read_by c.args.schema.now) (program c.args.program.now) c.args.path.now c.args.lowered.now c.requires.typed c.requires.numbers c.requires.lowered c.args.candidate.now c.requires.lowered.setting c.requires.lowered.there
+    (statements c.run_there.result.now) c.place_there.result c.run_there.ensures c.place_there.ensures c.requires.known c.in_ok-others.ensures.valid) ends)
     (program q)
     (replaced_is c.args.schema.now (read_by c.args.schema.now) (program c.args.program.now) c.args.path.now c.args.lowered.now c.requires.typed c.requires.numbers c.requires.lowered c.args.candidate.now c.requires.lowered.setting c.requires.lowered.there
     (statements c.run_there.result.now) c.place_there.result c.run_there.ensures c.place_there.ensures (program q) (statements c.in_ok-others.others.items)
@@ -36,8 +37,9 @@ pub returns-clause-keeps : goal.returns-clause-keeps
 returns-clause-keeps c =
     IfOk-weaker c.copy_with.result _ _
     (λ q e ends. stands_kept c.args.schema.now (record { program = program c.args.program.now; path = c.args.path.now; setting = c.requires.lowered.setting; candidate = c.args.candidate.now })
-    (may_ask c.args.schema.now (read_by c.args.schema.now) (program c.args.program.now) c.args.path.now c.args.lowered.now c.requires.typed c.requires.numbers c.requires.lowered c.args.candidate.now c.requires.lowered.setting c.requires.lowered.there
-    (statements c.run_there.result.now) c.place_there.result c.run_there.ensures c.place_there.ensures c.requires.known c.in_ok-others.ensures.valid ends)
+    (may_there c.args.schema.now (read_by c.args.schema.now) (program c.args.program.now) c.args.path.now c.args.lowered.now c.requires.typed c.requires.numbers c.requires.lowered c.args.candidate.now c.requires.lowered.setting c.requires.lowered.there
+    (has_there c.args.schema.now (read_by c.args.schema.now) (program c.args.program.now) c.args.path.now c.args.lowered.now c.requires.typed c.requires.numbers c.requires.lowered c.args.candidate.now c.requires.lowered.setting c.requires.lowered.there
+    (statements c.run_there.result.now) c.place_there.result c.run_there.ensures c.place_there.ensures c.requires.known c.in_ok-others.ensures.valid) ends)
     (program q)
     (replaced_is c.args.schema.now (read_by c.args.schema.now) (program c.args.program.now) c.args.path.now c.args.lowered.now c.requires.typed c.requires.numbers c.requires.lowered c.args.candidate.now c.requires.lowered.setting c.requires.lowered.there
     (statements c.run_there.result.now) c.place_there.result c.run_there.ensures c.place_there.ensures (program q) (statements c.in_ok-others.others.items)
@@ -47,9 +49,9 @@ returns-clause-keeps c =
 pub returns-clause-written : goal.returns-clause-written
 returns-clause-written c =
     IfOk-weaker c.copy_with.result _ _
-    (λ q e ends. stands_written c.args.schema.now (record { program = program c.args.program.now; path = c.args.path.now; setting = c.requires.lowered.setting; candidate = c.args.candidate.now })
-    (may_ask c.args.schema.now (read_by c.args.schema.now) (program c.args.program.now) c.args.path.now c.args.lowered.now c.requires.typed c.requires.numbers c.requires.lowered c.args.candidate.now c.requires.lowered.setting c.requires.lowered.there
-    (statements c.run_there.result.now) c.place_there.result c.run_there.ensures c.place_there.ensures c.requires.known c.in_ok-others.ensures.valid ends)
+    (λ q e. stands_written c.args.schema.now (record { program = program c.args.program.now; path = c.args.path.now; setting = c.requires.lowered.setting; candidate = c.args.candidate.now })
+    (has_there c.args.schema.now (read_by c.args.schema.now) (program c.args.program.now) c.args.path.now c.args.lowered.now c.requires.typed c.requires.numbers c.requires.lowered c.args.candidate.now c.requires.lowered.setting c.requires.lowered.there
+    (statements c.run_there.result.now) c.place_there.result c.run_there.ensures c.place_there.ensures c.requires.known c.in_ok-others.ensures.valid)
     (program q)
     (replaced_is c.args.schema.now (read_by c.args.schema.now) (program c.args.program.now) c.args.path.now c.args.lowered.now c.requires.typed c.requires.numbers c.requires.lowered c.args.candidate.now c.requires.lowered.setting c.requires.lowered.there
     (statements c.run_there.result.now) c.place_there.result c.run_there.ensures c.place_there.ensures (program q) (statements c.in_ok-others.others.items)
