@@ -39,6 +39,13 @@ impl Typed {
     {
         &self.program
     }
+
+    /// The program that was checked, taken out.
+    pub fn into_program(self) -> Program
+        ensures { result ≡ self.program }
+    {
+        self.program
+    }
 }
 
 // The fault that is kept of some methods.
