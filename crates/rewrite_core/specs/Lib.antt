@@ -1,6 +1,8 @@
 pub mod Asked
 pub mod Asking
 pub mod Looped
+pub mod Pruned
+pub mod Rewriting
 pub mod TriedAsking
 pub mod Trying
 pub mod Worked

@@ -5,6 +5,8 @@ mod asking;
 pub mod laws;
 mod looped;
 mod replacing;
+mod rewriting;
+mod rewritten;
 mod spelling;
 pub mod tried;
 mod values;
@@ -12,3 +14,5 @@ pub mod worked;
 pub mod written;
 
 pub use replacing::replace_loop;
+pub use rewriting::{rewrite, rewrite_with};
+pub use rewritten::{LoopVerdict, Rewritten, Said, Verdicts};

@@ -1,0 +1,98 @@
+// The loops of a program in text order, each tried on the program as it stands.
+ghost use Rattle.std.specs.Prelude.{◌≡◌, ◌≤◌, IfOk};
+ghost use Rattle.deriv_check.specs.Bundles.{entries_of};
+ghost use Rattle.java_ast.specs.Reading.{program as plain_program};
+ghost use Rattle.java_mean.specs.Keeps.{Keeps};
+ghost use Rattle.java_mean.specs.WellTyped.{IsWellTyped};
+ghost use Rattle.java_parser.specs.InGrammar.{IsInGrammar};
+ghost use Rattle.java_parser.specs.Written.{IsWritten};
+ghost use Rattle.java_types.specs.Texts.{read_by};
+ghost use Rattle.kernel_lang.specs.declared.prune.PruneAnswer.TheVariants as answers;
+ghost use Rattle.kernel_lang.specs.Pools.{IsCandidateOf};
+ghost use Rattle.kernel_lang.specs.Refuted.{IsRefuted};
+ghost use Rattle.kernel_lang.specs.Whole.{fragment_of};
+ghost use Rattle.rewrite_core.specs.Pruned.{ArePruned, OneDrops, AllKeep, SomeDrops, EachKeeps};
+ghost use Rattle.rewrite_core.specs.Rewriting.{verdicts_of, bundle_of, StandAsTried};
+ghost use Rattle.rewrite_core.specs.Trying.{all_tried, rewritten};
+
+use crate::rewritten::Rewritten;
+use java_types::Typed;
+use kernel_lang::{Candidate, KFragment};
+use qbs_base::NoMemory;
+use query_search::{Extra, PruneAnswer, Pruner};
+use schema::Schema;
+use std::alloc::Global;
+
+/// The loops of a well-typed program are tried in text order, an outer one before those inside it, each on the program as it stands:
+/// the search judges candidates of at most `size` formulas, as many as the budget. A loop with an accepted candidate gives way to its queries
+/// and vanishes with all inside it. Only want of memory is an error.
+///
+/// The program after all tries is well typed, keeps what the first one does, and is of the grammar and can be written if the first one
+/// is. The loops that stand are those that were tried and found no candidate. `dropped` is the sum over the loops of the candidates
+/// that the pruners or the further call dropped, which may drop none but refuted ones.
+pub fn rewrite_with<F: Fn(&KFragment, &Candidate) -> PruneAnswer>(
+    alloc: Global,
+    schema: &Schema,
+    typed: &Typed,
+    size: u32,
+    budget: u64,
+    pruners: &[Pruner],
+    extra: &Extra<F>,
+) -> Result<Rewritten, NoMemory>
+    requires typed { IsWellTyped schema.now (read_by schema.now) (plain_program typed.now.program) }
+    requires size { size ≤ 8 }
+    requires budget { budget ≤ 1000000 }
+    requires callable { (f : _) (c : _) → IsCandidateOf (fragment_of f.now) c.now → F.pre extra.now.call f c }
+    requires justified { (f : _) (c : _)
+        → IsCandidateOf (fragment_of f.now) c.now
+        → F.post extra.now.call f c answers.Drop
+        → ∥ IsRefuted (fragment_of f.now) c.now ∥₁ }
+    ensures exact { IfOk result (λ r. plain_program r.program ≡ rewritten schema.now size budget (plain_program typed.now.program)) }
+    ensures verdicts { IfOk result (λ r. r.verdicts ≡ verdicts_of (all_tried schema.now size budget (plain_program typed.now.program))) }
+    ensures bundle { IfOk result (λ r. entries_of r.bundle ≡ bundle_of (all_tried schema.now size budget (plain_program typed.now.program))) }
+    ensures dropped { IfOk result (λ r.
+        ArePruned
+        (SomeDrops (λ p. ⟦<Box<dyn Fn(&KFragment, &Candidate) -> PruneAnswer> as Fn(&KFragment, &Candidate) -> PruneAnswer>⟧.post p.call) pruners.now (F.post extra.now.call))
+        (EachKeeps (λ p. ⟦<Box<dyn Fn(&KFragment, &Candidate) -> PruneAnswer> as Fn(&KFragment, &Candidate) -> PruneAnswer>⟧.post p.call) pruners.now (F.post extra.now.call))
+        size (all_tried schema.now size budget (plain_program typed.now.program)) r.dropped) }
+    ensures typed { IfOk result (λ r. IsWellTyped schema.now (read_by schema.now) (plain_program r.program)) }
+    ensures keeps { IfOk result (λ r. Keeps (plain_program typed.now.program) (plain_program r.program) schema.now) }
+    ensures written { IfOk result (λ r.
+        IsInGrammar (plain_program typed.now.program)
+        → IsWritten (plain_program typed.now.program)
+        → IsInGrammar (plain_program r.program) × IsWritten (plain_program r.program)) }
+    ensures standing { IfOk result (λ r. StandAsTried (all_tried schema.now size budget (plain_program typed.now.program)) (plain_program r.program)) }
+{
+    Err(NoMemory)
+}
+
+/// As `rewrite_with`, with no further call.
+pub fn rewrite(
+    alloc: Global,
+    schema: &Schema,
+    typed: &Typed,
+    size: u32,
+    budget: u64,
+    pruners: &[Pruner],
+) -> Result<Rewritten, NoMemory>
+    requires typed { IsWellTyped schema.now (read_by schema.now) (plain_program typed.now.program) }
+    requires size { size ≤ 8 }
+    requires budget { budget ≤ 1000000 }
+    ensures exact { IfOk result (λ r. plain_program r.program ≡ rewritten schema.now size budget (plain_program typed.now.program)) }
+    ensures verdicts { IfOk result (λ r. r.verdicts ≡ verdicts_of (all_tried schema.now size budget (plain_program typed.now.program))) }
+    ensures bundle { IfOk result (λ r. entries_of r.bundle ≡ bundle_of (all_tried schema.now size budget (plain_program typed.now.program))) }
+    ensures dropped { IfOk result (λ r.
+        ArePruned
+        (OneDrops (λ p. ⟦<Box<dyn Fn(&KFragment, &Candidate) -> PruneAnswer> as Fn(&KFragment, &Candidate) -> PruneAnswer>⟧.post p.call) pruners.now)
+        (AllKeep (λ p. ⟦<Box<dyn Fn(&KFragment, &Candidate) -> PruneAnswer> as Fn(&KFragment, &Candidate) -> PruneAnswer>⟧.post p.call) pruners.now)
+        size (all_tried schema.now size budget (plain_program typed.now.program)) r.dropped) }
+    ensures typed { IfOk result (λ r. IsWellTyped schema.now (read_by schema.now) (plain_program r.program)) }
+    ensures keeps { IfOk result (λ r. Keeps (plain_program typed.now.program) (plain_program r.program) schema.now) }
+    ensures written { IfOk result (λ r.
+        IsInGrammar (plain_program typed.now.program)
+        → IsWritten (plain_program typed.now.program)
+        → IsInGrammar (plain_program r.program) × IsWritten (plain_program r.program)) }
+    ensures standing { IfOk result (λ r. StandAsTried (all_tried schema.now size budget (plain_program typed.now.program)) (plain_program r.program)) }
+{
+    Err(NoMemory)
+}
