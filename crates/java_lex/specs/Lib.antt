@@ -6,5 +6,4 @@ pub mod Lexing
 pub mod Kept
 pub mod Cutting
 pub mod Spans
-pub mod Words
 pub mod RuleNames

@@ -10,8 +10,6 @@ mod lexer;
 mod literals;
 mod piece;
 mod token;
-mod words;
 
 pub use lexer::lex;
 pub use token::{LexFault, LexRule, Token, TokenList, TokenNode, Tokens};
-pub use words::{is_among, is_reserved_word, is_type_word};

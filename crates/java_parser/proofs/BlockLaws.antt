@@ -9,7 +9,7 @@ use Rattle.java_ast.specs.Tree.{Spelled, Expression, Statement, Statements, Decl
 use Rattle.java_parser.specs.Marks.{Tok, extent}
 use Rattle.java_parser.specs.Rules.{Rule, Empty, One, Word, Sign, Seq, Then, Or, Made, Placed, Many}
 use Rattle.java_parser.specs.Words.{is_name, by_word, name_in, word_type, collection, collection_of}
-use Rattle.java_lex.specs.Words.{is_among, reserved_words}
+use Rattle.java_words.specs.Words.{is_among, reserved_words}
 use Rattle.java_parser.specs.Types.{Element}
 use Rattle.java_parser.specs.Statements.{Parenthesised, Walk, Condition, Value, Plain, Declaration, IfHead, WhileHead, ForHead, HasStatement, plain as bare, if_alone, if_else, for_each, while, HasBody, HasBlock, HasStatements, none, declared, stated}
 use Rattle.java_parser.specs.Reading.{Reader, then_at, seq_at, empty_at, first_is, or_at, is_word, word_at}

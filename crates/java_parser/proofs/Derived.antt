@@ -17,7 +17,7 @@ use Rattle.java_lex.specs.declared.token.TokenNode.TheVariants as nodes
 use Rattle.java_parser.specs.Marks.{Tok, nowhere, extent}
 use Rattle.java_parser.specs.Rules.{One, Or}
 use Rattle.java_parser.specs.Words.{is_name, is_table, is_variable, variable_in, name_in, table_in, text_in, literal_in, natural_in, by_word, word_if, is_number_type, element_type}
-use Rattle.java_lex.specs.Words.{is_among, type_words}
+use Rattle.java_words.specs.Words.{is_among, type_words}
 use Rattle.java_parser.specs.Expressions.{limit, Limit, Negative, Variable, Creation, created, Call, EqualTo, SizeOf, GetFrom, ContainedIn, FetchFrom, QueryOf, QueryOfLong, QueryOfBoolean, query_of, call_of, left_behind, TableClass, ElementQuery, QueryStart, operator_in, ranks, longest, HasAtom, literal, grouped, creation, HasSource, no_source, source, HasCall, equal_to, size_of, get_from, contained_in, fetch_from, query_of_element, query_of_long, query_of_truth, HasArguments, no_more, one_more, HasSuffix, field, called, HasParts, atom, dotted, further, HasUnary, variable, parts, negation, HasChain, operand, joined, HasRank, unary, chain}
 use Rattle.java_parser.specs.Printed.{word, sign, integer, literal_tokens, type_tokens, operator_tokens, open_unless, close_unless, call, dot_class, creation as creation_tokens, expression_tokens, argument_tokens}
 use Rattle.java_ast.specs.Unplaced.{unplaced, unplaced_all}

@@ -11,7 +11,7 @@ use Rattle.java_ast.specs.Tree.{Lit, Var, Binary, Statement, Assign, Add, Sort, 
 use Rattle.java_parser.specs.Marks.{Tok}
 use Rattle.java_parser.specs.Rules.{Rule, One, Word, Sign, Opening, Seq, Or, Made, Many}
 use Rattle.java_parser.specs.Words.{name_in, is_name, is_variable, is_number_type}
-use Rattle.java_lex.specs.Words.{is_among, reserved_words}
+use Rattle.java_words.specs.Words.{is_among, reserved_words}
 use Rattle.java_parser.specs.Types.{Key}
 use Rattle.java_parser.specs.Expressions.{ranks}
 use Rattle.java_parser.specs.Statements.{Parenthesised, Condition, Value, Where, Assignment, Increase, Increment, Addition, Printing, Further, keys_in, downs_in, Keys, Sorting, MemberCall, NamedRest, Named, Returning, Breaking, Plain}

@@ -8,7 +8,7 @@ use Rattle.java_lex.specs.declared.token.TokenNode.TheVariants as tokens
 use Rattle.java_parser.specs.Marks.{Tok, nowhere}
 use Rattle.java_parser.specs.Rules.{One, This, Word, Sign, Opening}
 use Rattle.java_parser.specs.Words.{is_name, word_if, by_word}
-use Rattle.java_lex.specs.Words.{is_among, reserved_words}
+use Rattle.java_words.specs.Words.{is_among, reserved_words}
 use Rattle.java_parser.specs.Reading.{passing, is_word, is_sign, word_at, sign_at, opening_at}
 use Rattle.java_parser.proofs.Sound.{Sound, one_sound, Held, held_sound, turned_sound}
 use Rattle.java_parser.proofs.Again.{Again, Any, one_again, held_again, turned_again, Heads}

@@ -4,7 +4,7 @@ ghost use Rattle.java_ast.specs.Reading.{spelled};
 ghost use Rattle.java_parser.specs.Words.{is_name as may_be_name, is_table as may_be_table, is_number_type as names_numbers, is_variable as may_be_variable, scalar_type as scalar_of, table_type as table_of, word_type as type_of_word, element_type as element_of, collection as collection_of_word, collection_of, truth_of as truth_of_word, operator_of as operator_of_sign};
 
 use java_ast::{JTy, Op};
-use java_lex::{is_among, is_reserved_word, is_type_word};
+use java_words::{is_among, is_reserved_word, is_type_word};
 use qbs_base::{Name, Scalar};
 use std::alloc::{AllocError, Global};
 

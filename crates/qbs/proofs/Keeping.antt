@@ -23,7 +23,7 @@ use Rattle.schema.specs.Bytes.{begins_with}
 use Rattle.schema.specs.Rules.{AreColumns, IsSchema}
 use Rattle.schema.specs.Schemas.{schema_of}
 use Rattle.schema.specs.Words.{spells, is_among, query_words, is_reserved, is_reserved_table}
-use Rattle.java_lex.specs.Words.{is_reserved_word, is_type_word}
+use Rattle.java_words.specs.Words.{is_reserved_word, is_type_word}
 use Rattle.schema.proofs.Judged.{is_schema}
 use Rattle.sql_ast.specs.declared.tree.Cmp.TheVariants as tests
 use Rattle.sql_ast.specs.declared.tree.FromItem.{FromItem}

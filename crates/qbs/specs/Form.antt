@@ -9,7 +9,7 @@ use Rattle.std.specs.declared.option.Option.TheVariants.{Some, None}
 use Rattle.java_lex.specs.declared.token.Token.{Token}
 use Rattle.java_lex.specs.declared.token.TokenNode.{TokenNode}
 use Rattle.java_lex.specs.declared.token.TokenNode.TheVariants as tokens
-use Rattle.java_lex.specs.Words.{is_among}
+use Rattle.java_words.specs.Words.{is_among}
 use Rattle.java_parser.specs.Words.{is_name}
 use Rattle.qbs.specs.declared.form.FirstForm.{FirstForm}
 

@@ -1,7 +1,7 @@
 -- Keywords and reserved names.
 use Rattle.std.specs.Prelude.{Bool, false, ◌||◌, ℕ, List, [], ◌∷◌, codes}
 use Rattle.std.specs.Str.{str_eq_ignore_ascii_case}
-pub use Rattle.java_lex.specs.Words.{is_reserved_word, is_type_word}
+pub use Rattle.java_words.specs.Words.{is_reserved_word, is_type_word}
 use Rattle.schema.specs.Bytes.{begins_with}
 
 -- a word is a keyword in any letter case

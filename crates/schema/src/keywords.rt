@@ -2,7 +2,7 @@
 ghost use Rattle.std.specs.Prelude.{◌≡◌, map, codes};
 ghost use Rattle.schema.specs.Words.{spells as word_spells, is_among, query_words, is_reserved as is_reserved_name, is_reserved_table as is_reserved_table_name};
 
-use java_lex::{is_reserved_word, is_type_word};
+use java_words::{is_reserved_word, is_type_word};
 
 /// The words of queries, which are reserved in any letter case.
 const QUERY_WORDS: [&str; 17] = [

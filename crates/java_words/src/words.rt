@@ -1,6 +1,6 @@
 // Words that have a meaning of their own.
 ghost use Rattle.std.specs.Prelude.{◌≡◌, map};
-ghost use Rattle.java_lex.specs.Words as specs;
+ghost use Rattle.java_words.specs.Words as specs;
 
 const RESERVED_WORDS: [&str; 19] = [
     "class", "public", "private", "static", "void", "int", "long", "boolean", "if", "else", "for",
