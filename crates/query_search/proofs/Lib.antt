@@ -1,6 +1,6 @@
 mod Alone
 mod Choosing
-mod Counts
+pub mod Counts
 pub mod Firsts
 mod Hits
 mod Judged
