@@ -1,2 +1,3 @@
 CREATE TABLE User (id BIGINT, name TEXT, roleId BIGINT, age BIGINT, active BOOLEAN);
 CREATE TABLE Role (id BIGINT, label TEXT);
+CREATE TABLE Pay (id BIGINT, userId BIGINT, amount BIGINT);
