@@ -1,5 +1,5 @@
 //! Laws of fragments, for the crates above. They do nothing.
-ghost use Rattle.std.specs.Prelude.{◌≡◌, ℕ, List, map, Bool, true};
+ghost use Rattle.std.specs.Prelude.{◌≡◌, ℕ, List, map, Bool, true, slice_get};
 ghost use Rattle.std.specs.declared.option.Option.TheVariants.{Some};
 ghost use Rattle.qbs_base.specs.declared.scalar.Scalar.{Scalar};
 ghost use Rattle.qbs_base.specs.Scalar.{scalar_same};
@@ -16,6 +16,7 @@ ghost use Rattle.java_loops.specs.Meant.Members.{HaveSameMembers, SameButForOrde
 ghost use Rattle.loop_text.specs.Statements.Names.{Names};
 ghost use Rattle.loop_text.specs.Statements.Fragment.{Fragment, IsWanted, IsClosed, drops, live_or, are_simple, before_run, run_of, fragment_at};
 ghost use Rattle.loop_text.specs.Statements.KeptStatements.{first_at};
+ghost use Rattle.loop_text.specs.Statements.Loops.{loops_of};
 ghost use Rattle.loop_text.specs.Statements.Walking.{IsLoopOf};
 
 /// The wanted variables of a fragment are in each closed set.
@@ -37,6 +38,11 @@ pub fn runs_are_the_longest()
 pub fn loops_are_found_by_their_paths()
     ensures fragment { (p : PlainProgram) (path : List ℕ) → IsLoopOf p path → (f : Fragment) × (fragment_at path p ≡ Some f) }
     ensures first { (p : PlainProgram) (path : List ℕ) → IsLoopOf p path → (n : ℕ) × (first_at path p ≡ Some n) }
+{}
+
+/// A path in the list of a program's loops is that of a loop.
+pub fn listed_paths_are_of_loops()
+    ensures { (p : PlainProgram) (n : ℕ) (path : List ℕ) → slice_get (loops_of p) n ≡ Some path → IsLoopOf p path }
 {}
 
 /// What a fragment ends with, and whether its parts fit what it is given, depends on a known list by membership alone. The first

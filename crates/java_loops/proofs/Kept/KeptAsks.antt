@@ -16,12 +16,12 @@ use Rattle.java_mean.proofs.Puts.{names_equal, name_same}
 use Rattle.java_mean.proofs.TypedRuns.{extends_statements}
 use Rattle.java_loops.specs.Walks.Reads.{Set, Reads}
 use Rattle.java_loops.specs.Walks.Replacing.{Ask, is_asked, IsThere, AllFit, HasSameType, HaveSameTypes}
-use Rattle.java_loops.specs.Walks.Runs.{Gives, declares, assigns}
+use Rattle.java_loops.specs.Walks.Runs.{Gives, declares, assigns, KeptRead}
 use Rattle.java_loops.proofs.Walks.Names.{reads_wider}
 use Rattle.java_loops.proofs.Walks.Visibility.{TypedNext, next_of}
-use Rattle.java_loops.specs.Meant.Asking.{spelled_by, IsForStarted, AskForLoop}
+use Rattle.java_loops.specs.Meant.Asking.{spelled_by, IsForStarted, AskForNeeded}
 use Rattle.loop_text.specs.Statements.Fragment.{Fragment, are_simple, accumulators, needed_of, mentioned_behind, is_live, counter, is_name, set_by, drops}
-use Rattle.java_loops.specs.Meant.GivesWay.{MayStandForLoop}
+use Rattle.java_loops.specs.Meant.GivesWay.{AnswersItsFragment, MayStandForLoop}
 use Rattle.java_loops.specs.Kernel.Kernel.{broken, lowering}
 use Rattle.java_loops.specs.Lowering.Lowered.{set_in_order, needed_in_order, names_read}
 use Rattle.java_loops.specs.Meant.Members.{AreMatched}
@@ -32,7 +32,6 @@ use Rattle.loop_text.specs.Statements.Setting.{touches, first_touching, is_found
 use Rattle.loop_text.specs.Sites.Sites.{is_some}
 use Rattle.java_loops.proofs.Typing.BoundTyping.{TypedDeclare, typed_declare, TypedAssign, typed_assign}
 use Rattle.java_loops.proofs.Kept.KeptAlone.{given_sets, untouched_parts, dropped_started, kept_read, live_uncounted}
-use Rattle.java_loops.proofs.Kept.KeptMeant.{meant_there}
 use Rattle.java_loops.specs.Meant.KeptNumbers.{kept_set}
 use Rattle.java_loops.proofs.Kept.Least.{live_wanted, read_wanted}
 use Rattle.java_loops.proofs.Kept.KeptRuns.{IsKeptSet, is_kept_set}
@@ -229,9 +228,9 @@ entries_steady w [] all x h = absurd cc
 entries_steady w (e ∷ es) all x h =
     ⊎_elim (λ i. entry_steady w e all.0 x i) (λ i. entries_steady w es all.1 x i) (among_either (names_in e) (names_read es) x h)
 
--- ---- The asks for a loop
+-- ---- The asks for what a loop is needed for
 
-module _ (schema : Schema) (read : List ℕ → Option PlainQuery) (p : PlainProgram) (path : List ℕ) (f : Fragment) (g : Types) (well : IsWellTyped schema read p) (there : FragmentThere schema read p path f g) (rules : broken (setting_of schema read g f) ≡ None) (ks : List Ask) (asks : AskForLoop schema read p path (setting_of schema read g f) ks) where
+module _ (schema : Schema) (read : List ℕ → Option PlainQuery) (p : PlainProgram) (path : List ℕ) (f : Fragment) (g : Types) (well : IsWellTyped schema read p) (there : FragmentThere schema read p path f g) (rules : broken (setting_of schema read g f) ≡ None) (ks : List Ask) (asks : AskForNeeded (setting_of schema read g f) ks) where
   abbrev w : Setting
   w = setting_of schema read g f
 
@@ -292,15 +291,27 @@ module _ (schema : Schema) (read : List ℕ → Option PlainQuery) (p : PlainPro
       or_left (r x) (is_asked ks x)
       (set.holds x (or_from (is_among (accumulators f) x) (is_name (counter f.loop) x) a (live_uncounted w unbroken.loop x l)) (live_wanted f further x l))
 
-  -- The kept statements and the asks may stand for the loop.
-  pub asks_stand : MayStandForLoop (frame_of schema read there.place.method) (types_before schema p path f there.place) (setting_of schema read g f) (kept_set f (names_read (lowering (setting_of schema read g f)).entries)) ks
-  asks_stand =
+  -- kept statements read kept variables alone
+  pub run_read : KeptRead (kept_set f (names_read (lowering (setting_of schema read g f)).entries)) f.run
+  run_read = kept_read w unbroken further
+
+  -- each ask is for a variable of its own, which is there to be assigned where no ask declares it
+  pub asks_fit : AllFit (kept_set f (names_read (lowering (setting_of schema read g f)).entries)) (types_before schema p path f there.place) ks
+  asks_fit = all_fit w schema before r (needed_in_order w) ks asks.starts (order_apart (needed_of f) f.run (λ x h. inl (needed_started x h))) all_ready asks_read
+
+  -- each ask declares its variable with the type that it has at the loop
+  pub asks_typed : HaveSameTypes schema g ks
+  asks_typed = all_same w schema before r (needed_in_order w) ks asks.starts all_ready
+
+  -- The kept statements and the asks may stand for the loop, where the asks answer what the fragment ends with.
+  pub asks_stand : AnswersItsFragment (frame_of schema read there.place.method) (types_before schema p path f there.place) (setting_of schema read g f) ks → MayStandForLoop (frame_of schema read there.place.method) (types_before schema p path f there.place) (setting_of schema read g f) (kept_set f (names_read (lowering (setting_of schema read g f)).entries)) ks
+  asks_stand answers =
       record {
-        reads = kept_read w unbroken further;
-        fits = all_fit w schema before r (needed_in_order w) ks asks.starts (order_apart (needed_of f) f.run (λ x h. inl (needed_started x h))) all_ready asks_read;
-        types = all_same w schema before r (needed_in_order w) ks asks.starts all_ready;
+        reads = run_read;
+        fits = asks_fit;
+        types = asks_typed;
         known = λ x k seen. live_known x (is_among (accumulators f) x) refl (before_live x k seen);
         no_accumulator = λ x h. (or_parts (is_among (accumulators f) x) (is_name (counter f.loop) x) (set.not_dropped x h)).0;
         no_counter = λ x h. (or_parts (is_among (accumulators f) x) (is_name (counter f.loop) x) (set.not_dropped x h)).1;
-        answers = asks.answers (meant_there schema read p path f g well there rules);
+        answers = answers;
       }

@@ -27,6 +27,7 @@ use Rattle.loop_text.specs.Statements.Names.{Names, with_names, declared_among, 
 use Rattle.java_loops.specs.Kernel.Setting.{Setting, setting_of}
 use Rattle.java_loops.proofs.Kept.KeptAsks.{asks_stand}
 use Rattle.java_loops.specs.Meant.KeptNumbers.{kept_set}
+use Rattle.java_loops.proofs.Kept.KeptMeant.{meant_there}
 use Rattle.java_loops.proofs.Kept.KeptRuns.{is_kept_set, numbers_keep}
 use Rattle.java_loops.proofs.Lowering.LowerChains.{at_setting}
 use Rattle.java_loops.proofs.Lowering.LowerKeeps.{fragment_text_keeps}
@@ -143,7 +144,7 @@ module _ (schema : Schema) (reader : Reader schema) (p : PlainProgram) (path : L
   rewritten_keeps : AskForLoop schema reader.read p path w ks → IsWellTyped schema reader.read (rewritten_at path first kept w ks p) → NumbersFit (rewritten_at path first kept w ks p) → Keeps p (rewritten_at path first kept w ks p) schema
   rewritten_keeps asks well' fits' =
       subst (λ z. Keeps p z schema) (sym rewritten_is)
-      (fragment_text_keeps schema reader p path f g well fits there rules r ks (asks_stand schema reader.read p path f g well there rules ks asks) (subst (IsWellTyped schema reader.read) rewritten_is well') (subst NumbersFit rewritten_is fits'))
+      (fragment_text_keeps schema reader p path f g well fits there rules r ks (asks_stand schema reader.read p path f g well there rules ks asks.needed (asks.answers (meant_there schema reader.read p path f g well there rules))) (subst (IsWellTyped schema reader.read) rewritten_is well') (subst NumbersFit rewritten_is fits'))
 
 -- ---- By the path to the loop
 

@@ -2,6 +2,7 @@
 use Rattle.std.specs.Prelude.{ℕ, zero, suc, Bool, true, false, ◌||◌, List, [], ◌∷◌, ◌++◌, slice_get}
 use Rattle.std.specs.List.{AllByRecursion, list_any}
 use Rattle.std.proofs.Common.{◌≡◌, ◌+◌, Option, Some, None, refl, sym, ap, ◌∙◌, subst, append_assoc, arith}
+use Rattle.std.proofs.lemmas.Bool.{or_left, or_right}
 use Rattle.std.proofs.lemmas.List.{append-nil}
 use Rattle.tor_terms.specs.Same.{same_numbers}
 use Rattle.java_ast.specs.Path.{found_in, numbered, branch_of, first_of, behind_of, statement_in}
@@ -12,7 +13,7 @@ use Rattle.loop_text.specs.Statements.KeptStatements.{how_many, first_in, first_
 use Rattle.loop_text.specs.Statements.Loops.{is_loop, loops_in, loops_among, loops_of_methods, loops_of}
 use Rattle.loop_text.specs.Statements.Names.{Names, with_names, declared_among, walking, names_of_params}
 use Rattle.loop_text.specs.Statements.Walking.{IsLoopOf}
-use Rattle.java_loops.proofs.Valid.ValidNumbers.{numbers_true}
+use Rattle.java_loops.proofs.Valid.ValidNumbers.{numbers_self, numbers_true}
 
 -- ---- From the statement at a path to the fragment there
 
@@ -250,3 +251,14 @@ loop_has_first p path h =
     let k : LeadsFrom path 0 p.methods = leads p path h in
     let there = first_lies k.rest k.first k.method.body k.loop k.there in
     (there.0, ap (λ (q : List ℕ). first_at q p) k.is ∙ ap (found_in (λ (m : PlainMethod). first_in k.rest k.first m.body)) (at_place path p.methods k) ∙ there.1)
+
+-- ---- From the list of a program's loops
+
+listed : (paths : List (List ℕ)) (n : ℕ) (path : List ℕ) → slice_get paths n ≡ Some path → list_any (same_numbers path) paths ≡ true
+listed [] n path e = absurd cc
+listed (q ∷ qs) zero path e = let same : q ≡ path = cc in or_left (same_numbers path q) (list_any (same_numbers path) qs) (ap (same_numbers path) same ∙ numbers_self path)
+listed (q ∷ qs) (suc n) path e = or_right (same_numbers path q) (list_any (same_numbers path) qs) (listed qs n path e)
+
+-- A path in the list is that of a loop.
+pub listed_is_loop : (p : PlainProgram) (n : ℕ) (path : List ℕ) → slice_get (loops_of p) n ≡ Some path → IsLoopOf p path
+listed_is_loop p n path e = listed (loops_of p) n path e

@@ -34,10 +34,14 @@ pub record IsForStarted (w : Setting) (x : List ℕ) (k : Ask) : Type 0 where
   pub ty : k.ty ≡ spelled_by start
 
 -- One ask for each needed accumulator, in the order of their start statements. Their expressions read what the
--- fragment's entry values read, and have what the fragment ends with.
-pub record AskForLoop (schema : Schema) (read : List ℕ → Option PlainQuery) (p : PlainProgram) (path : List ℕ) (w : Setting) (ks : List Ask) : Type 0 where
+-- fragment's entry values read.
+pub record AskForNeeded (w : Setting) (ks : List Ask) : Type 0 where
   pub starts : AreMatched (IsForStarted w) (needed_in_order w) ks
   pub reads : AllByRecursion (λ (k : Ask). Reads (is_among (names_read (lowering w).entries)) k.value) ks
+
+-- such asks, whose expressions have what the fragment ends with
+pub record AskForLoop (schema : Schema) (read : List ℕ → Option PlainQuery) (p : PlainProgram) (path : List ℕ) (w : Setting) (ks : List Ask) : Type 0 where
+  pub needed : AskForNeeded w ks
   pub answers : (there : MeansItsLoopThere schema read p path w) → AnswersItsFragment (frame_of schema read there.method) (seen_at schema there.method there.hole) w ks
 
 -- the program with the kept statements and the asks in place of the run and the loop to which the path leads
