@@ -50,9 +50,10 @@ use Rattle.fragments.proofs.Known.KnownLoop.{known_to}
 use Rattle.rewrite_core.specs.Asked.{Place, asks_of}
 use Rattle.rewrite_core.specs.Asking.{MayBeAsked}
 use Rattle.rewrite_core.proofs.AllAnswer.{all_answer}
-use Rattle.rewrite_core.proofs.Asks.{emission_of, follow_first, asks_are, starts_asked, asks_read}
+use Rattle.rewrite_core.proofs.Asks.{emission_of, follow_first, asks_are}
 use Rattle.rewrite_core.proofs.GivenThere.{given_there}
 use Rattle.rewrite_core.proofs.Outer.{AreOuter, accumulators_there}
+use Rattle.rewrite_core.proofs.StartedAsks.{asks_for_needed}
 
 module _ (schema : Schema) (reader : Reader schema) (p : PlainProgram) (path : List ℕ) (f : Fragment) (g : Types) (well : IsWellTyped schema reader.read p) (numbers : NumbersFit p) (there : FragmentThere schema reader.read p path f g) (rules : broken (setting_of schema reader.read g f) ≡ None) (candidate : List ℕ) (may : MayBeAsked schema reader.read p path (setting_of schema reader.read g f) candidate) where
   abbrev w : Setting
@@ -85,9 +86,6 @@ module _ (schema : Schema) (reader : Reader schema) (p : PlainProgram) (path : L
   columns =
       all_more (AccumulatorIsValid (lowering w).fragment) (λ a. takes_a_column a.update ≡ true) (λ a h. column_taken (lowering w).fragment a h) (lowering w).fragment.accs (valid (lowering w).fragment unbroken_fragment).accs
 
-  started : (x : List ℕ) → IsNeeded (needed_of f) x → IsStarted w.sites x f.run
-  started x h = accumulator_started w unbroken.starts x (among_filtered _ (accumulators f) x h).0
-
   -- ---- At the loop
 
   module _ (here : MeansItsLoopThere schema reader.read p path w) (world : World) (is_world : IsWorld (frame_of schema reader.read here.method) world) (s t : State) (from : IsTyped schema (seen_at schema here.method here.hole) s.store) (passes : meanings f.run world s ≡ Ok (GoesOn t)) where
@@ -109,10 +107,8 @@ module _ (schema : Schema) (reader : Reader schema) (p : PlainProgram) (path : L
 
   pub asks_for_loop : AskForLoop schema reader.read p path w (asks_of l)
   asks_for_loop =
-      let are = asks_are l 0 0 (needed_in_order w) (lowering w).fragment.accs (follow_first l) outer in
       record {
-        starts = subst (AreMatched _ (needed_in_order w)) (sym are) (starts_asked l 0 (needed_in_order w) (lowering w).fragment.accs outer (all_more (IsNeeded (needed_of f)) (λ x. IsStarted w.sites x f.run) started (needed_in_order w) (all_needed (needed_of f) f.run)));
-        reads = subst (AllByRecursion _) (sym are) (asks_read l 0 (needed_in_order w) (lowering w).fragment.accs);
+        needed = asks_for_needed schema reader.read p path f g well there rules candidate;
         answers = λ here. answers_suffice (frame_of schema reader.read here.method) (seen_at schema here.method here.hole) w (asks_of l) (answer_whole here);
       }
 

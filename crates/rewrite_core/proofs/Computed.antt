@@ -34,6 +34,7 @@ use Rattle.rewrite_core.specs.Asked.{Place, asks_of, replaced}
 use Rattle.rewrite_core.specs.Asking.{MayBeAsked}
 use Rattle.rewrite_core.specs.Worked.{GivesWayTo, Worked, loop_at, giving, selection_asks, greatest_asks, class_C_asking, count_asks, names_asks, known_asks, asking_once}
 use Rattle.rewrite_core.proofs.Asked.{asks_are_for_loops}
+use Rattle.rewrite_core.proofs.HasAsks.{has_asks}
 use Rattle.rewrite_core.proofs.May.{accepted_may, emitted_valid}
 use Rattle.rewrite_core.proofs.StaysTyped.{replaced_well, loops_give_way}
 
@@ -92,7 +93,7 @@ gives_way l asks q may are becomes =
       asks_are = are;
       answer = subst (λ ks. AskForLoop staff_schema (read_by staff_schema) l.program l.path l.setting ks) are (asks_are_for_loops staff_schema staff_reader l may);
       becomes = becomes;
-      typed = subst (IsWellTyped staff_schema (read_by staff_schema)) becomes (replaced_well staff_schema staff_reader l may);
+      typed = subst (IsWellTyped staff_schema (read_by staff_schema)) becomes (replaced_well staff_schema staff_reader l (has_asks staff_schema (read_by staff_schema) l.program l.path l.setting l.candidate may));
       keeps = subst (λ z. Keeps l.program z staff_schema) becomes (loops_give_way staff_schema staff_reader l may);
     }
 

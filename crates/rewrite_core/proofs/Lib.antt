@@ -32,6 +32,7 @@ pub mod Pushed
 pub mod SpelledElements
 pub mod Standing
 pub mod Standings
+pub mod StartedAsks
 pub mod Starting
 pub mod StaysTyped
 pub mod Turns

@@ -17,13 +17,14 @@ use Rattle.rewrite_core.proofs.Writable.Asks.{replaced_fine}
 abbrev reader_of : (schema : Schema) → Reader schema
 reader_of schema = record { read = read_by schema; exact = found_exactly schema }
 
-module _ (schema : Schema) (l : Place) (may : MayBeAsked schema (read_by schema) l.program l.path l.setting l.candidate) (q : PlainProgram) (is : q ≡ replaced l) where
-  pub stands_typed : IsWellTyped schema (read_by schema) q
-  stands_typed = subst (IsWellTyped schema (read_by schema)) (sym is) (replaced_well schema (reader_of schema) l may)
+module _ (schema : Schema) (l : Place) (q : PlainProgram) (is : q ≡ replaced l) where
+  module _ (has : HasAsks schema (read_by schema) l.program l.path l.setting l.candidate) where
+    pub stands_typed : IsWellTyped schema (read_by schema) q
+    stands_typed = subst (IsWellTyped schema (read_by schema)) (sym is) (replaced_well schema (reader_of schema) l has)
 
-  pub stands_kept : Keeps l.program q schema
-  stands_kept = subst (λ (z : PlainProgram). Keeps l.program z schema) (sym is) (loops_give_way schema (reader_of schema) l may)
+    -- it can be written, if the first program can
+    pub stands_written : IsInGrammar l.program → IsWritten l.program → IsInGrammar q × IsWritten q
+    stands_written grammar written = subst (λ (z : PlainProgram). IsInGrammar z × IsWritten z) (sym is) (replaced_fine schema (reader_of schema) l has (grammar, written))
 
--- so it can be written, if the first program can
-pub stands_written : (schema : Schema) (l : Place) (has : HasAsks schema (read_by schema) l.program l.path l.setting l.candidate) (q : PlainProgram) (is : q ≡ replaced l) → IsInGrammar l.program → IsWritten l.program → IsInGrammar q × IsWritten q
-stands_written schema l has q is grammar written = subst (λ (z : PlainProgram). IsInGrammar z × IsWritten z) (sym is) (replaced_fine schema (reader_of schema) l has (grammar, written))
+  pub stands_kept : MayBeAsked schema (read_by schema) l.program l.path l.setting l.candidate → Keeps l.program q schema
+  stands_kept may = subst (λ (z : PlainProgram). Keeps l.program z schema) (sym is) (loops_give_way schema (reader_of schema) l may)

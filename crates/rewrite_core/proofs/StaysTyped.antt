@@ -32,13 +32,12 @@ use Rattle.java_loops.specs.Kernel.Kernel as kernel
 use Rattle.java_loops.specs.Kernel.Kernel.{broken, lowering}
 use Rattle.java_loops.specs.Kernel.Setting.{Setting, setting_of}
 use Rattle.java_loops.specs.Lowering.Lowered.{needed_in_order, names_read}
-use Rattle.java_loops.specs.Meant.Asking.{AskForLoop, rewritten_at}
-use Rattle.java_loops.specs.Meant.GivesWay.{MayStandForLoop}
+use Rattle.java_loops.specs.Meant.Asking.{AskForNeeded, rewritten_at}
 use Rattle.java_loops.specs.Meant.KeptNumbers.{kept_set, kept_numbers}
 use Rattle.java_loops.specs.Walks.Reads.{Set}
 use Rattle.java_loops.specs.Walks.Replacing.{Ask, asked, is_asked, replacement, run_and_loop}
 use Rattle.java_loops.specs.Walks.Runs.{kept}
-use Rattle.java_loops.proofs.Kept.KeptAsks.{asks_stand, needed_started, entries_kept, live_known, before_live}
+use Rattle.java_loops.proofs.Kept.KeptAsks.{run_read, asks_fit, asks_typed, needed_started, entries_kept, live_known, before_live}
 use Rattle.java_loops.proofs.Kept.KeptPath.{rewritten_is, setting_fragment}
 use Rattle.java_loops.proofs.Kept.KeptRuns.{kept_numbers_kept}
 use Rattle.java_loops.proofs.Known.KnownNumbers.{IsGoodEntry, entries_good}
@@ -54,16 +53,17 @@ use Rattle.java_loops.proofs.Placing.PlaceTyped.{types_before, FragmentThere}
 use Rattle.java_loops.proofs.Walks.PlacedPrograms.{MethodAt, method_at}
 use Rattle.rewrite_core.specs.Asked.{Place, asks_of, number_of, replaced}
 use Rattle.rewrite_core.specs.Asking as asking
-use Rattle.rewrite_core.specs.Asking.{MayBeAsked, AgreeOnEntries, AllMayStand}
+use Rattle.rewrite_core.specs.Asking.{HasAsks, MayBeAsked, AgreeOnEntries, AllMayStand}
 use Rattle.rewrite_core.proofs.HasAsks.{has_asks}
-use Rattle.rewrite_core.proofs.Asked.{asks_for_loop}
 use Rattle.rewrite_core.proofs.AskedFaultless.{asks_fine}
 use Rattle.rewrite_core.proofs.EachName.{each_mentioned, each_declared}
 use Rattle.rewrite_core.proofs.KeptFaultless.{kept_fine}
 use Rattle.rewrite_core.proofs.Keeping.{replaced_keeps}
 use Rattle.rewrite_core.proofs.NoReturns.{run_returns}
-use Rattle.rewrite_core.proofs.NumbersStay.{asks_fit, replacement_fits, part_still_fits}
+use Rattle.rewrite_core.proofs.NumbersStay.{replacement_fits, part_still_fits}
+use Rattle.rewrite_core.proofs.NumbersStay as literals
 use Rattle.rewrite_core.proofs.Standing.{past_both, kept_leave, asks_leave, left_alike}
+use Rattle.rewrite_core.proofs.StartedAsks.{asks_for_needed}
 use Rattle.rewrite_core.proofs.Starting.{kept_unset, all_stand}
 
 -- ---- Places
@@ -93,7 +93,7 @@ pub record Fits (schema : Schema) (read : List ℕ → Option PlainQuery) (p : P
 
 -- ---- The loop of a program
 
-module _ (schema : Schema) (reader : Reader schema) (p : PlainProgram) (path : List ℕ) (f : Fragment) (g : Types) (well : IsWellTyped schema reader.read p) (numbers : NumbersFit p) (there : FragmentThere schema reader.read p path f g) (rules : broken (setting_of schema reader.read g f) ≡ None) (candidate : List ℕ) (may : MayBeAsked schema reader.read p path (setting_of schema reader.read g f) candidate) where
+module _ (schema : Schema) (reader : Reader schema) (p : PlainProgram) (path : List ℕ) (f : Fragment) (g : Types) (well : IsWellTyped schema reader.read p) (numbers : NumbersFit p) (there : FragmentThere schema reader.read p path f g) (rules : broken (setting_of schema reader.read g f) ≡ None) (candidate : List ℕ) (has : HasAsks schema reader.read p path (setting_of schema reader.read g f) candidate) where
   abbrev w : Setting
   w = setting_of schema reader.read g f
 
@@ -136,11 +136,8 @@ module _ (schema : Schema) (reader : Reader schema) (p : PlainProgram) (path : L
   abbrev ends : Bool
   ends = is_nothing (behind hole)
 
-  asks : AskForLoop schema reader.read p path w ks
-  asks = asks_for_loop schema reader p path f g well numbers there rules candidate may
-
-  stands : MayStandForLoop (frame_of schema reader.read m) before w r ks
-  stands = asks_stand schema reader.read p path f g well there rules ks asks
+  asks : AskForNeeded w ks
+  asks = asks_for_needed schema reader.read p path f g well there rules candidate
 
   -- ---- The program, by the place
 
@@ -172,7 +169,7 @@ module _ (schema : Schema) (reader : Reader schema) (p : PlainProgram) (path : L
   -- ---- The kept statements
 
   kept_none : faults_in schema reader.read m.result (in_first schema vs round false run_kept) ≡ []
-  kept_none = kept_fine schema reader.read m.result round r f.run vs vs before before sees sees (λ x h. refl) there.place.placed.simple stands.reads parts.left
+  kept_none = kept_fine schema reader.read m.result round r f.run vs vs before before sees sees (λ x h. refl) there.place.placed.simple (run_read schema reader.read p path f g well there rules ks asks) parts.left
 
   sees_kept : Sees (visible_past schema vs run_kept) (types_past schema before run_kept)
   sees_kept = sees_past schema reader.read m.result run_kept vs before round false sees kept_none
@@ -188,10 +185,10 @@ module _ (schema : Schema) (reader : Reader schema) (p : PlainProgram) (path : L
 
   asks_may_stand : AllMayStand schema round g (types_past schema before run_kept) ks
   asks_may_stand =
-      all_stand schema reader.read m.result round vs before g r w sees (extends_statements (frame_of schema reader.read m) there.typed.loop before g f.run there.typed.run) parts.left (needed_in_order w) ks asks.starts started stands.fits stands.types
+      all_stand schema reader.read m.result round vs before g r w sees (extends_statements (frame_of schema reader.read m) there.typed.loop before g f.run there.typed.run) parts.left (needed_in_order w) ks asks.starts started (asks_fit schema reader.read p path f g well there rules ks asks) (asks_typed schema reader.read p path f g well there rules ks asks)
 
   asks_none : faults_in schema reader.read m.result (in_first schema (visible_past schema vs run_kept) round false (asked ks)) ≡ []
-  asks_none = asks_fine schema reader l m.result round (visible_past schema vs run_kept) (types_past schema before run_kept) (has_asks schema reader.read l.program l.path l.setting l.candidate may) (sees_so (visible_past schema vs run_kept) (types_past schema before run_kept) sees_kept) agree asks_may_stand
+  asks_none = asks_fine schema reader l m.result round (visible_past schema vs run_kept) (types_past schema before run_kept) has (sees_so (visible_past schema vs run_kept) (types_past schema before run_kept) sees_kept) agree asks_may_stand
 
   -- ---- Both
 
@@ -258,7 +255,7 @@ module _ (schema : Schema) (reader : Reader schema) (p : PlainProgram) (path : L
   new_fits : NumbersFit (with_statements p there.place.number hole new)
   new_fits =
       subst NumbersFit (sym new_is)
-      (part_still_fits p method.before method.after m hole old new (replacement_fits r f.run (Then f.loop Nothing) ks (asks_fit l good 0 (needed_in_order w))) (subst NumbersFit old_is numbers))
+      (part_still_fits p method.before method.after m hole old new (replacement_fits r f.run (Then f.loop Nothing) ks (literals.asks_fit l good 0 (needed_in_order w))) (subst NumbersFit old_is numbers))
 
   -- The program with the kept statements and the asks is well typed, and its literals have 64 bits.
   rewritten_fits : (first : ℕ) → fragment_at path p ≡ Some f → first_at path p ≡ Some first → Fits schema reader.read (rewritten_at path first (kept_numbers f further first f.run) w ks p)
@@ -295,27 +292,28 @@ first_there (i ∷ n ∷ path) p f h = first_in_method path n f (slice_get p.met
 
 -- ---- By the path to the loop
 
--- the path of a loop that may be asked for leads to its fragment
-pub leads_there : (schema : Schema) (reader : Reader schema) (l : Place) → MayBeAsked schema reader.read l.program l.path l.setting l.candidate → fragment_at l.path l.program ≡ Some l.setting.fragment
-leads_there schema reader l may = setting_fragment schema reader.read l.program l.path l.setting (kernel.types_at schema l.path l.program) (fragment_at l.path l.program) refl may.loop.there
+-- the path of a loop that has asks leads to its fragment
+leads_there : (schema : Schema) (reader : Reader schema) (l : Place) → HasAsks schema reader.read l.program l.path l.setting l.candidate → fragment_at l.path l.program ≡ Some l.setting.fragment
+leads_there schema reader l has = setting_fragment schema reader.read l.program l.path l.setting (kernel.types_at schema l.path l.program) (fragment_at l.path l.program) refl has.loop.there
 
--- The program in which asks stand for a loop is well typed, and its literals have 64 bits.
-pub replaced_fits : (schema : Schema) (reader : Reader schema) (l : Place) → MayBeAsked schema reader.read l.program l.path l.setting l.candidate → Fits schema reader.read (replaced l)
-replaced_fits schema reader l may =
-    let begins = first_there l.path l.program l.setting.fragment (leads_there schema reader l may) in
+-- The program in which asks stand for a loop is well typed, and its literals have 64 bits, whatever the candidate claims.
+replaced_fits : (schema : Schema) (reader : Reader schema) (l : Place) → HasAsks schema reader.read l.program l.path l.setting l.candidate → Fits schema reader.read (replaced l)
+replaced_fits schema reader l has =
+    let begins = first_there l.path l.program l.setting.fragment (leads_there schema reader l has) in
     subst (λ n. Fits schema reader.read (rewritten_at l.path n (kept_numbers l.setting.fragment (names_read (lowering l.setting).entries) n l.setting.fragment.run) l.setting (asks_of l) l.program)) (sym (ap number_of begins.1))
-    (at_setting (λ (z : Setting). fragment_at l.path l.program ≡ Some z.fragment → MayBeAsked schema reader.read l.program l.path z l.candidate → Fits schema reader.read (rewritten_at l.path begins.0 (kept_numbers z.fragment (names_read (lowering z).entries) begins.0 z.fragment.run) z (asks_of (record { program = l.program; path = l.path; setting = z; candidate = l.candidate })) l.program)) schema reader.read l.program l.path l.setting may.loop.typed may.loop.numbers
-    (λ f g there rules leads k. rewritten_fits schema reader l.program l.path f g may.loop.typed may.loop.numbers there rules l.candidate k begins.0 leads begins.1) may.loop.there may.loop.unbroken (leads_there schema reader l may) may)
+    (at_setting (λ (z : Setting). fragment_at l.path l.program ≡ Some z.fragment → HasAsks schema reader.read l.program l.path z l.candidate → Fits schema reader.read (rewritten_at l.path begins.0 (kept_numbers z.fragment (names_read (lowering z).entries) begins.0 z.fragment.run) z (asks_of (record { program = l.program; path = l.path; setting = z; candidate = l.candidate })) l.program)) schema reader.read l.program l.path l.setting has.loop.typed has.loop.numbers
+    (λ f g there rules leads k. rewritten_fits schema reader l.program l.path f g has.loop.typed has.loop.numbers there rules l.candidate k begins.0 leads begins.1) has.loop.there has.loop.unbroken (leads_there schema reader l has) has)
 
-pub replaced_well : (schema : Schema) (reader : Reader schema) (l : Place) → MayBeAsked schema reader.read l.program l.path l.setting l.candidate → IsWellTyped schema reader.read (replaced l)
-replaced_well schema reader l may = (replaced_fits schema reader l may).typed
+pub replaced_well : (schema : Schema) (reader : Reader schema) (l : Place) → HasAsks schema reader.read l.program l.path l.setting l.candidate → IsWellTyped schema reader.read (replaced l)
+replaced_well schema reader l has = (replaced_fits schema reader l has).typed
 
-pub replaced_numbers_fit : (schema : Schema) (reader : Reader schema) (l : Place) → MayBeAsked schema reader.read l.program l.path l.setting l.candidate → NumbersFit (replaced l)
-replaced_numbers_fit schema reader l may = (replaced_fits schema reader l may).numbers
+pub replaced_numbers_fit : (schema : Schema) (reader : Reader schema) (l : Place) → HasAsks schema reader.read l.program l.path l.setting l.candidate → NumbersFit (replaced l)
+replaced_numbers_fit schema reader l has = (replaced_fits schema reader l has).numbers
 
 -- The program with asks in place of a loop keeps what the program does.
 pub loops_give_way : (schema : Schema) (reader : Reader schema) (l : Place) → MayBeAsked schema reader.read l.program l.path l.setting l.candidate → Keeps l.program (replaced l) schema
 loops_give_way schema reader l may =
-    let begins = first_there l.path l.program l.setting.fragment (leads_there schema reader l may) in
-    let fits = replaced_fits schema reader l may in
+    let has = has_asks schema reader.read l.program l.path l.setting l.candidate may in
+    let begins = first_there l.path l.program l.setting.fragment (leads_there schema reader l has) in
+    let fits = replaced_fits schema reader l has in
     replaced_keeps schema reader l begins.0 may begins.1 fits.typed fits.numbers

@@ -15,6 +15,7 @@ use Rattle.java_loops.specs.Kernel.Kernel.{broken, setting_at}
 use Rattle.java_loops.specs.Kernel.Setting.{Setting}
 use Rattle.rewrite_core.specs.Trying.{Answer, Outside, Searched, answer_unless, Tried, tried_in, tried_at, program_by, program_after, standing_after, and_further, trying, left_of, rewritten, all_tried}
 use Rattle.rewrite_core.specs.TriedAsking.{MayBeAskedBy, AllMayBeAsked}
+use Rattle.rewrite_core.proofs.HasAsks.{has_asks}
 use Rattle.rewrite_core.proofs.StaysTyped.{replaced_well, replaced_numbers_fit, loops_give_way}
 
 -- the second program keeps what the first does, and is as well typed
@@ -38,8 +39,8 @@ module _ (schema : Schema) where
   one_follows t (Searched f (Found h)) may =
       record {
         keeps = loops_give_way schema reader (record { program = t.program; path = t.path; setting = t.setting; candidate = h.candidate }) may;
-        typed = λ old. replaced_well schema reader (record { program = t.program; path = t.path; setting = t.setting; candidate = h.candidate }) may;
-        numbers = λ old. replaced_numbers_fit schema reader (record { program = t.program; path = t.path; setting = t.setting; candidate = h.candidate }) may;
+        typed = λ old. replaced_well schema reader (record { program = t.program; path = t.path; setting = t.setting; candidate = h.candidate }) (has_asks schema reader.read t.program t.path t.setting h.candidate may);
+        numbers = λ old. replaced_numbers_fit schema reader (record { program = t.program; path = t.path; setting = t.setting; candidate = h.candidate }) (has_asks schema reader.read t.program t.path t.setting h.candidate may);
       }
   one_follows t (Searched f (NoneOf n)) may = itself t.program
   one_follows t (Searched f (Budget b n)) may = itself t.program

@@ -1,11 +1,8 @@
 -- After all tries of a program's loops, those that stand are those that were tried and found no candidate.
-use Rattle.std.proofs.Common.{◌≡◌, ℕ, zero, suc, ◌+◌, ◌≤◌, ◌<◌, true, List, [], ◌∷◌, ◌++◌, length, take, slice_get, Option, Some, None, refl, sym, ap, ap₂, ◌∙◌, arith, append_assoc, append-nil}
-use Rattle.std.specs.List.{list_any}
-use Rattle.std.proofs.lemmas.Bool.{eq-eqb, or_left, or_right}
+use Rattle.std.proofs.Common.{◌≡◌, ℕ, zero, suc, ◌+◌, ◌≤◌, ◌<◌, List, [], ◌∷◌, ◌++◌, length, take, slice_get, Option, Some, None, refl, sym, ap, ap₂, ◌∙◌, arith, append_assoc, append-nil}
 use Rattle.std.proofs.lemmas.List.{length-take-le}
 use Rattle.std.proofs.Math.Seq.{take-length}
 use Rattle.qbs_base.specs.Values.{Schema}
-use Rattle.tor_terms.specs.Same.{same_numbers}
 use Rattle.query_search.specs.Verdicts.{Found, NoneOf, Budget}
 use Rattle.java_ast.specs.Path.{found_in}
 use Rattle.java_ast.specs.Tree as tree
@@ -21,7 +18,7 @@ use Rattle.loop_text.specs.Statements.Walking.{IsLoopOf}
 use Rattle.java_loops.specs.Kernel.Kernel as kernel
 use Rattle.java_loops.specs.Kernel.Kernel.{types_in_method, setting_there, setting_at, broken}
 use Rattle.java_loops.specs.Kernel.Setting.{Setting, setting_of}
-use Rattle.java_loops.proofs.Placing.PathsLead.{loop_has_fragment}
+use Rattle.java_loops.proofs.Placing.PathsLead.{loop_has_fragment, listed_is_loop}
 use Rattle.java_loops.proofs.Placing.Place.{behind_all, fill_behind, IsPlacedIn, placed_at}
 use Rattle.rewrite_core.specs.Asked.{Place, replaced}
 use Rattle.rewrite_core.specs.TriedAsking.{MayBeAskedBy, AllMayBeAsked, standing_path, standing_paths, standing_left}
@@ -45,15 +42,6 @@ one_more [] n x e = absurd cc
 one_more (y ∷ []) zero x e = let same : y ≡ x = cc in ap (λ z. z ∷ []) same
 one_more (y ∷ z ∷ zs) zero x e = let same : y ≡ x = cc in ap (λ z. z ∷ []) same
 one_more (y ∷ ys) (suc n) x e = ap (λ zs. y ∷ zs) (one_more ys n x e)
-
-numbers_self : (js : List ℕ) → same_numbers js js ≡ true
-numbers_self [] = refl
-numbers_self (j ∷ js) = rw (eq-eqb j j refl, numbers_self js) refl
-
-listed : (paths : List (List ℕ)) (n : ℕ) (path : List ℕ) → slice_get paths n ≡ Some path → list_any (same_numbers path) paths ≡ true
-listed [] n path e = absurd cc
-listed (q ∷ qs) zero path e = let same : q ≡ path = cc in or_left (same_numbers path q) (list_any (same_numbers path) qs) (ap (same_numbers path) same ∙ numbers_self path)
-listed (q ∷ qs) (suc n) path e = or_right (same_numbers path q) (list_any (same_numbers path) qs) (listed qs n path e)
 
 -- ---- Settings of loops
 
@@ -97,7 +85,7 @@ module _ (schema : Schema) where
   -- each loop of a program has a setting
   setting_found : (p : PlainProgram) (path : List ℕ) (n : ℕ) → slice_get (loops_of p) n ≡ Some path → (w : Setting) × (setting_at schema (read_by schema) path p ≡ Some w)
   setting_found p path n e =
-      let is : IsLoopOf p path = listed (loops_of p) n path e in
+      let is : IsLoopOf p path = listed_is_loop p n path e in
       let f = loop_has_fragment p path is in
       let g = types_there p path f.0 (placed_at path p f.0 f.1) in
       (setting_of schema (read_by schema) g.0 f.0, ap₂ (setting_there schema (read_by schema)) g.1 f.1)

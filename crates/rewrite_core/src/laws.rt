@@ -26,7 +26,6 @@ ghost use Rattle.java_mean.specs.Visible.{Visible};
 ghost use Rattle.java_mean.specs.WellTyped.{IsWellTyped, faults_in};
 ghost use Rattle.loop_text.specs.Statements.Fragment.{are_simple};
 ghost use Rattle.loop_text.specs.Statements.Loops.{is_loop};
-ghost use Rattle.loop_text.specs.Statements.KeptStatements.{first_at};
 ghost use Rattle.java_loops.specs.Kernel.Kernel.{lowering};
 ghost use Rattle.java_loops.specs.Kernel.Setting.{Setting};
 ghost use Rattle.java_loops.specs.Meant.Asking.{AskForLoop};
@@ -153,26 +152,15 @@ pub fn replacements_leave_types_alike()
         → types_past schema g (run_and_loop run loop_statement) x ≡ types_past schema g (replacement r run ks) x }
 {}
 
-/// A program keeps what it does where a loop gives way to the asks that stand for it, if it stays well typed and its literals
-/// have 64 bits.
-pub fn asked_programs_keep()
-    ensures { (schema : Schema) (reader : Reader schema) (l : Place) (first : ℕ)
-        → MayBeAsked schema reader.read l.program l.path l.setting l.candidate
-        → first_at l.path l.program ≡ Some first
-        → IsWellTyped schema reader.read (replaced l)
-        → NumbersFit (replaced l)
-        → Keeps l.program (replaced l) schema }
-{}
-
 /// The program in which the asks stand for a loop, behind the kept statements of its run, is well typed, and its literals have
-/// 64 bits: what the asks declare was declared by the run, and what is mentioned or declared behind the loop is left as the run and
-/// the loop leave it.
+/// 64 bits: what the asks declare was declared by the run, and what is mentioned or declared behind the loop is left with the types
+/// with which the run and the loop leave it. This holds whatever the candidate claims.
 pub fn replaced_programs_are_well_typed()
     ensures typed { (schema : Schema) (reader : Reader schema) (l : Place)
-        → MayBeAsked schema reader.read l.program l.path l.setting l.candidate
+        → HasAsks schema reader.read l.program l.path l.setting l.candidate
         → IsWellTyped schema reader.read (replaced l) }
     ensures numbers { (schema : Schema) (reader : Reader schema) (l : Place)
-        → MayBeAsked schema reader.read l.program l.path l.setting l.candidate
+        → HasAsks schema reader.read l.program l.path l.setting l.candidate
         → NumbersFit (replaced l) }
 {}
 

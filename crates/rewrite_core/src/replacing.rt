@@ -112,7 +112,7 @@ fn replaced_in(
         (w : Setting)
         → setting_at schema.now (read_by schema.now) path.now (plain_program program.now) ≡ Some w
         → plain_program q ≡ replaced (record { program = plain_program program.now; path = path.now; setting = w; candidate = candidate.now })) }
-    ensures typed { IfOk result (λ q. EndsAnywhere (fragment_of lowered.now.frag) candidate.now → IsWellTyped schema.now (read_by schema.now) (plain_program q)) }
+    ensures typed { IfOk result (λ q. IsWellTyped schema.now (read_by schema.now) (plain_program q)) }
     ensures keeps { IfOk result (λ q. EndsAnywhere (fragment_of lowered.now.frag) candidate.now → Keeps (plain_program program.now) (plain_program q) schema.now) }
     ensures written { IfOk result (λ q.
         IsInGrammar (plain_program program.now)
@@ -136,8 +136,8 @@ fn replaced_in(
 /// statements of its run, and for each needed accumulator a statement that runs the query of what the candidate claims of it. What is
 /// asked of known queries is what `lower` says of them. Only want of memory is an error.
 ///
-/// The program is of the grammar and can be written, if the first one is. Where the candidate's postconditions say what the
-/// fragment ends with, it is well typed and keeps what the first one does.
+/// The program is well typed, and of the grammar and can be written if the first one is, whatever the candidate claims. Where the
+/// candidate's postconditions say what the fragment ends with, it keeps what the first one does.
 pub fn replace_loop(
     alloc: Global,
     schema: &Schema,
@@ -154,7 +154,7 @@ pub fn replace_loop(
         (w : Setting)
         → setting_at schema.now (read_by schema.now) path.now (plain_program typed.now.program) ≡ Some w
         → plain_program q ≡ replaced (record { program = plain_program typed.now.program; path = path.now; setting = w; candidate = candidate.now })) }
-    ensures typed { IfOk result (λ q. EndsAnywhere (fragment_of lowered.now.frag) candidate.now → IsWellTyped schema.now (read_by schema.now) (plain_program q)) }
+    ensures typed { IfOk result (λ q. IsWellTyped schema.now (read_by schema.now) (plain_program q)) }
     ensures keeps { IfOk result (λ q. EndsAnywhere (fragment_of lowered.now.frag) candidate.now → Keeps (plain_program typed.now.program) (plain_program q) schema.now) }
     ensures written { IfOk result (λ q.
         IsInGrammar (plain_program typed.now.program)

@@ -23,37 +23,36 @@ returns-clause-exact c =
 pub returns-clause-typed : goal.returns-clause-typed
 returns-clause-typed c =
     IfOk-weaker c.copy_with.result _ _
-    (λ q e ends. stands_typed c.args.schema.now (record { program = program c.args.program.now; path = c.args.path.now; setting = c.requires.lowered.setting; candidate = c.args.candidate.now })
-    (may_there c.args.schema.now (read_by c.args.schema.now) (program c.args.program.now) c.args.path.now c.args.lowered.now c.requires.typed c.requires.numbers c.requires.lowered c.args.candidate.now c.requires.lowered.setting c.requires.lowered.there
-    (has_there c.args.schema.now (read_by c.args.schema.now) (program c.args.program.now) c.args.path.now c.args.lowered.now c.requires.typed c.requires.numbers c.requires.lowered c.args.candidate.now c.requires.lowered.setting c.requires.lowered.there
-    (statements c.run_there.result.now) c.place_there.result c.run_there.ensures c.place_there.ensures c.requires.known c.in_ok-others.ensures.valid) ends)
+    (λ q e. stands_typed c.args.schema.now (record { program = program c.args.program.now; path = c.args.path.now; setting = c.requires.lowered.setting; candidate = c.args.candidate.now })
     (program q)
     (replaced_is c.args.schema.now (read_by c.args.schema.now) (program c.args.program.now) c.args.path.now c.args.lowered.now c.requires.typed c.requires.numbers c.requires.lowered c.args.candidate.now c.requires.lowered.setting c.requires.lowered.there
     (statements c.run_there.result.now) c.place_there.result c.run_there.ensures c.place_there.ensures (program q) (statements c.in_ok-others.others.items)
-    (c.in_ok-others.ensures.exact c.args.schema.now (read_by c.args.schema.now) (lowering_in_code c.args.lowered.now) c.requires.lowered.setting c.requires.lowered c.requires.lowered.there) e))
+    (c.in_ok-others.ensures.exact c.args.schema.now (read_by c.args.schema.now) (lowering_in_code c.args.lowered.now) c.requires.lowered.setting c.requires.lowered c.requires.lowered.there) e)
+    (has_there c.args.schema.now (read_by c.args.schema.now) (program c.args.program.now) c.args.path.now c.args.lowered.now c.requires.typed c.requires.numbers c.requires.lowered c.args.candidate.now c.requires.lowered.setting c.requires.lowered.there
+    (statements c.run_there.result.now) c.place_there.result c.run_there.ensures c.place_there.ensures c.requires.known c.in_ok-others.ensures.valid))
     c.copy_with.ensures
 
 pub returns-clause-keeps : goal.returns-clause-keeps
 returns-clause-keeps c =
     IfOk-weaker c.copy_with.result _ _
     (λ q e ends. stands_kept c.args.schema.now (record { program = program c.args.program.now; path = c.args.path.now; setting = c.requires.lowered.setting; candidate = c.args.candidate.now })
-    (may_there c.args.schema.now (read_by c.args.schema.now) (program c.args.program.now) c.args.path.now c.args.lowered.now c.requires.typed c.requires.numbers c.requires.lowered c.args.candidate.now c.requires.lowered.setting c.requires.lowered.there
-    (has_there c.args.schema.now (read_by c.args.schema.now) (program c.args.program.now) c.args.path.now c.args.lowered.now c.requires.typed c.requires.numbers c.requires.lowered c.args.candidate.now c.requires.lowered.setting c.requires.lowered.there
-    (statements c.run_there.result.now) c.place_there.result c.run_there.ensures c.place_there.ensures c.requires.known c.in_ok-others.ensures.valid) ends)
     (program q)
     (replaced_is c.args.schema.now (read_by c.args.schema.now) (program c.args.program.now) c.args.path.now c.args.lowered.now c.requires.typed c.requires.numbers c.requires.lowered c.args.candidate.now c.requires.lowered.setting c.requires.lowered.there
     (statements c.run_there.result.now) c.place_there.result c.run_there.ensures c.place_there.ensures (program q) (statements c.in_ok-others.others.items)
-    (c.in_ok-others.ensures.exact c.args.schema.now (read_by c.args.schema.now) (lowering_in_code c.args.lowered.now) c.requires.lowered.setting c.requires.lowered c.requires.lowered.there) e))
+    (c.in_ok-others.ensures.exact c.args.schema.now (read_by c.args.schema.now) (lowering_in_code c.args.lowered.now) c.requires.lowered.setting c.requires.lowered c.requires.lowered.there) e)
+    (may_there c.args.schema.now (read_by c.args.schema.now) (program c.args.program.now) c.args.path.now c.args.lowered.now c.requires.typed c.requires.numbers c.requires.lowered c.args.candidate.now c.requires.lowered.setting c.requires.lowered.there
+    (has_there c.args.schema.now (read_by c.args.schema.now) (program c.args.program.now) c.args.path.now c.args.lowered.now c.requires.typed c.requires.numbers c.requires.lowered c.args.candidate.now c.requires.lowered.setting c.requires.lowered.there
+    (statements c.run_there.result.now) c.place_there.result c.run_there.ensures c.place_there.ensures c.requires.known c.in_ok-others.ensures.valid) ends))
     c.copy_with.ensures
 
 pub returns-clause-written : goal.returns-clause-written
 returns-clause-written c =
     IfOk-weaker c.copy_with.result _ _
     (λ q e. stands_written c.args.schema.now (record { program = program c.args.program.now; path = c.args.path.now; setting = c.requires.lowered.setting; candidate = c.args.candidate.now })
-    (has_there c.args.schema.now (read_by c.args.schema.now) (program c.args.program.now) c.args.path.now c.args.lowered.now c.requires.typed c.requires.numbers c.requires.lowered c.args.candidate.now c.requires.lowered.setting c.requires.lowered.there
-    (statements c.run_there.result.now) c.place_there.result c.run_there.ensures c.place_there.ensures c.requires.known c.in_ok-others.ensures.valid)
     (program q)
     (replaced_is c.args.schema.now (read_by c.args.schema.now) (program c.args.program.now) c.args.path.now c.args.lowered.now c.requires.typed c.requires.numbers c.requires.lowered c.args.candidate.now c.requires.lowered.setting c.requires.lowered.there
     (statements c.run_there.result.now) c.place_there.result c.run_there.ensures c.place_there.ensures (program q) (statements c.in_ok-others.others.items)
-    (c.in_ok-others.ensures.exact c.args.schema.now (read_by c.args.schema.now) (lowering_in_code c.args.lowered.now) c.requires.lowered.setting c.requires.lowered c.requires.lowered.there) e))
+    (c.in_ok-others.ensures.exact c.args.schema.now (read_by c.args.schema.now) (lowering_in_code c.args.lowered.now) c.requires.lowered.setting c.requires.lowered c.requires.lowered.there) e)
+    (has_there c.args.schema.now (read_by c.args.schema.now) (program c.args.program.now) c.args.path.now c.args.lowered.now c.requires.typed c.requires.numbers c.requires.lowered c.args.candidate.now c.requires.lowered.setting c.requires.lowered.there
+    (statements c.run_there.result.now) c.place_there.result c.run_there.ensures c.place_there.ensures c.requires.known c.in_ok-others.ensures.valid))
     c.copy_with.ensures
