@@ -8,12 +8,12 @@ use Rattle.readers.specs.declared.fault.Fault.TheVariants.{Unexpected, TooDeep}
 use Rattle.readers.specs.declared.fault.ReadError.{ReadError}
 use Rattle.readers.specs.declared.fault.ReadError.TheVariants as errors
 use Rattle.readers.specs.Reading.{Fails, whole}
-use Rattle.java_parser.specs.Marks.{Tok, all_strict}
-use Rattle.java_parser.specs.Rules.{Rule}
-use Rattle.java_parser.specs.Reading.{Reader}
+use Rattle.java_grammar.specs.Marks.{Tok, all_strict}
+use Rattle.java_grammar.specs.Rules.{Rule}
+use Rattle.java_grammar.specs.Reading.{Reader}
 use Rattle.java_parser.specs.Kept.{kept, IsKept}
-use Rattle.java_parser.proofs.Laws.{Reads}
-use Rattle.java_parser.proofs.Whole.{whole_only, first_unexpected, first_too_deep}
+use Rattle.java_grammar.proofs.Laws.{Reads}
+use Rattle.java_grammar.proofs.Whole.{whole_only, first_unexpected, first_too_deep}
 
 abbrev done : {A : Type 0} → A → Result A Fault
 done x = Ok x

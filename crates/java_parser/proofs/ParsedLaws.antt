@@ -12,15 +12,15 @@ use Rattle.java_lex.specs.declared.token.Tokens.{Tokens}
 use Rattle.java_ast.specs.Tree.{PlainProgram}
 use Rattle.java_parser.specs.declared.fault.ParseFault.{ParseFault}
 use Rattle.java_parser.specs.declared.fault.ParseRule.TheVariants as rules
-use Rattle.java_parser.specs.Grammar.{HasProgram, IsReadable}
+use Rattle.java_grammar.specs.Grammar.{HasProgram, IsReadable}
 use Rattle.java_parser.specs.Kept.{fault_at, kept, IsKept}
-use Rattle.java_parser.specs.Marks.{all_strict}
+use Rattle.java_grammar.specs.Marks.{all_strict}
 use Rattle.qbs_base.specs.Memory.{AnswersBy}
 use Rattle.java_parser.specs.Parsed.{parsed, with_place}
-use Rattle.java_parser.specs.ReadingPrograms.{program_at}
-use Rattle.java_parser.proofs.Again.{Any}
-use Rattle.java_parser.proofs.ProgramLaws.{program_reads}
-use Rattle.java_parser.proofs.Whole.{whole_found, whole_only}
+use Rattle.java_grammar.specs.ReadingPrograms.{program_at}
+use Rattle.java_grammar.proofs.Again.{Any}
+use Rattle.java_grammar.proofs.ProgramLaws.{program_reads}
+use Rattle.java_grammar.proofs.Whole.{whole_found, whole_only}
 use Rattle.java_parser.proofs.KeptLaws.{is_kept}
 
 parsed_is : (tokens : Tokens) → parsed tokens ≡ with_place tokens (whole program_at (all_strict tokens.list))

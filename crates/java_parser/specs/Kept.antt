@@ -11,8 +11,8 @@ use Rattle.readers.specs.declared.fault.ReadError.TheVariants as errors
 use Rattle.java_parser.specs.declared.fault.ParseRule.{ParseRule}
 use Rattle.java_parser.specs.declared.fault.ParseRule.TheVariants as rules
 use Rattle.java_parser.specs.declared.fault.ParseFault.{ParseFault}
-use Rattle.java_parser.specs.Rules.{Rule}
-use Rattle.java_parser.specs.Faults.{IsUnexpected, IsTooDeep}
+use Rattle.java_grammar.specs.Rules.{Rule}
+use Rattle.java_grammar.specs.Faults.{IsUnexpected, IsTooDeep}
 
 -- the place of a token, or the end where there is none
 abbrev pub place_or : Span → Option Token → Span

@@ -8,8 +8,8 @@ use Rattle.java_lex.specs.declared.token.Tokens.{Tokens}
 use Rattle.java_parser.specs.declared.fault.ParseFault.{ParseFault}
 use Rattle.java_parser.specs.declared.fault.ParseRule.TheVariants as rules
 use Rattle.java_parser.specs.Kept.{fault_at}
-use Rattle.java_parser.specs.Marks.{all_strict}
-use Rattle.java_parser.specs.ReadingPrograms.{program_at}
+use Rattle.java_grammar.specs.Marks.{all_strict}
+use Rattle.java_grammar.specs.ReadingPrograms.{program_at}
 
 abbrev pub with_place : Tokens → Result PlainProgram Fault → Result PlainProgram ParseFault
 with_place tokens (Ok p) = Ok p

@@ -1,18 +1,12 @@
-//! Tokens have one program at most, and it is what is parsed. These do nothing.
-ghost use Rattle.std.specs.Prelude.{◌≡◌, List, Ok, Err};
+//! What is parsed is the program that tokens have. This does nothing.
+ghost use Rattle.std.specs.Prelude.{◌≡◌, Ok, Err};
 ghost use Rattle.qbs_base.specs.declared.memory.Fail.TheVariants.{Fault};
-ghost use Rattle.java_lex.specs.declared.token.Token.{Token};
 ghost use Rattle.java_lex.specs.declared.token.Tokens.{Tokens};
 ghost use Rattle.java_ast.specs.Tree.{PlainProgram};
+ghost use Rattle.java_grammar.specs.Grammar.{HasProgram, IsReadable};
 ghost use Rattle.java_parser.specs.declared.fault.ParseFault.{ParseFault};
-ghost use Rattle.java_parser.specs.Grammar.{HasProgram, IsReadable};
 ghost use Rattle.java_parser.specs.Kept.{IsKept};
 ghost use Rattle.java_parser.specs.Parsed.{parsed};
-
-/// Tokens of which none is too deep have one program at most, places and all.
-pub fn tokens_have_one_program()
-    ensures { (ts : List Token) (p q : PlainProgram) → IsReadable ts p → IsReadable ts q → p ≡ q }
-{}
 
 /// What is parsed is the program that the tokens have, and what they have is parsed; a fault is the one
 /// that is kept.

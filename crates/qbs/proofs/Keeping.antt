@@ -37,7 +37,7 @@ use Rattle.sql_ast.specs.Valid.{IsFromItem, IsColOf, IsQueryOf}
 use Rattle.sql_ast.proofs.CanonicalQuery.{canonical_has_query}
 use Rattle.qbs.specs.declared.form.FirstForm.{FirstForm}
 use Rattle.qbs.specs.Form.{with, nodes_of, form_nodes, word, integer, is_variable, is_named_well, HasFirstForm}
-use Rattle.java_parser.specs.Words as parsed
+use Rattle.java_grammar.specs.Words as parsed
 use Rattle.qbs.specs.Made.{form_places, query_places, method_with, first_program, rewritten, selection_text}
 use Rattle.qbs.specs.Program.{long_column, is_long_type, is_long_column, is_long_at}
 use Rattle.qbs.proofs.Forms.{with_some}

@@ -10,7 +10,7 @@ use Rattle.java_lex.specs.declared.token.Token.{Token}
 use Rattle.java_lex.specs.declared.token.TokenNode.{TokenNode}
 use Rattle.java_lex.specs.declared.token.TokenNode.TheVariants as tokens
 use Rattle.java_words.specs.Words.{is_among}
-use Rattle.java_parser.specs.Words.{is_name}
+use Rattle.java_grammar.specs.Words.{is_name}
 use Rattle.qbs.specs.declared.form.FirstForm.{FirstForm}
 
 abbrev pub word : List ℕ → TokenNode

@@ -20,7 +20,7 @@ use Rattle.java_mean.specs.declared.rule.TypeRule.TheVariants as types
 use Rattle.java_mean.specs.Outcome.{Outcome, Done, Faulted, OutOfTurns, outcome, world_with}
 use Rattle.java_mean.specs.WellTyped.{all_faults, IsWellTyped, IsLeast}
 use Rattle.java_parser.specs.declared.fault.ParseFault.{ParseFault}
-use Rattle.java_parser.specs.Grammar.{HasProgram, IsReadable}
+use Rattle.java_grammar.specs.Grammar.{HasProgram, IsReadable}
 use Rattle.java_parser.specs.Kept.{IsKept}
 use Rattle.java_types.specs.Texts.{read_by}
 use Rattle.qbs.specs.Lines.{lex_text, parse_text, type_text, word_text, data_text, fault_text}

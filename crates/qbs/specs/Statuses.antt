@@ -17,7 +17,7 @@ use Rattle.java_mean.specs.Keeps.{Keeps}
 use Rattle.java_mean.specs.Outcome.{Stuck}
 use Rattle.java_mean.specs.WellTyped.{all_faults, IsWellTyped, IsLeast}
 use Rattle.java_parser.specs.declared.fault.ParseFault.{ParseFault}
-use Rattle.java_parser.specs.Grammar.{HasProgram, IsReadable}
+use Rattle.java_grammar.specs.Grammar.{HasProgram, IsReadable}
 use Rattle.java_parser.specs.Kept.{IsKept}
 use Rattle.java_types.specs.Texts.{read_by}
 use Rattle.schema.specs.declared.fault.SchemaFault.{SchemaFault}

@@ -2,7 +2,7 @@
 // in a column.
 ghost use Rattle.std.specs.Prelude.{◌≡◌, IfOk, Some};
 ghost use Rattle.std.specs.Option.{option_copied};
-ghost use Rattle.java_parser.specs.Words.{is_name as may_be_name};
+ghost use Rattle.java_grammar.specs.Words.{is_name as may_be_name};
 ghost use Rattle.qbs.specs.Form.{word as word_node, sign as sign_node, integer as integer_node, heading as heading_nodes, listed as listed_nodes, declaration as declaration_nodes, walk as walk_nodes, test as test_nodes, adding as adding_nodes, ending as ending_nodes, after, after_all, after_form, none_left, Leaves, nodes_of, word_of as word_in_node, word_in, integer_of as integer_in_node, integer_in, proposed as proposed_form, is_variable as may_be_variable, is_named_well as form_is_named_well, first_form, FindsFirstForm};
 
 use java_lex::{Token, TokenNode};

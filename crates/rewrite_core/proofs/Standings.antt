@@ -5,8 +5,8 @@ use Rattle.java_ast.specs.Tree.{PlainProgram}
 use Rattle.java_mean.specs.Keeps.{Keeps}
 use Rattle.java_mean.specs.Queries.{Reader}
 use Rattle.java_mean.specs.WellTyped.{IsWellTyped}
-use Rattle.java_parser.specs.InGrammar.{IsInGrammar}
-use Rattle.java_parser.specs.Written.{IsWritten}
+use Rattle.java_grammar.specs.InGrammar.{IsInGrammar}
+use Rattle.java_grammar.specs.Written.{IsWritten}
 use Rattle.java_types.specs.Texts.{read_by}
 use Rattle.java_types.proofs.Found.{found_exactly}
 use Rattle.rewrite_core.specs.Asked.{Place, replaced}

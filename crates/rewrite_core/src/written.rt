@@ -1,8 +1,8 @@
 //! That rewritten programs are of the grammar and can be written as texts, as laws. They do nothing.
 ghost use Rattle.qbs_base.specs.Values.{Schema};
 ghost use Rattle.java_mean.specs.Queries.{Reader};
-ghost use Rattle.java_parser.specs.InGrammar.{IsInGrammar};
-ghost use Rattle.java_parser.specs.Written.{IsWritten};
+ghost use Rattle.java_grammar.specs.InGrammar.{IsInGrammar};
+ghost use Rattle.java_grammar.specs.Written.{IsWritten};
 ghost use Rattle.rewrite_core.specs.Asked.{Place, replaced};
 ghost use Rattle.rewrite_core.specs.Asking.{HasAsks};
 ghost use Rattle.rewrite_core.specs.Worked.{asking_once};

@@ -22,8 +22,8 @@ use Rattle.java_ast.specs.Path.{and_then, found_in}
 use Rattle.java_ast.specs.Placed.{placed, placed_all}
 use Rattle.java_ast.specs.Tree.{Spelled, Table, Expression, Expressions, NoMore, And, Statement, Declare, Assign, Add, Sort, If, IfElse, ForEach, While, Print, Return, Break, Statements, Nothing, Then}
 use Rattle.java_ast.specs.Tree as tree
-use Rattle.java_parser.specs.InGrammar.{IsName, IsQuery}
-use Rattle.java_parser.specs.Written.{IsWord}
+use Rattle.java_grammar.specs.InGrammar.{IsName, IsQuery}
+use Rattle.java_grammar.specs.Written.{IsWord}
 use Rattle.java_mean.specs.declared.types.JavaType.{JavaType}
 use Rattle.java_mean.specs.declared.types.JavaType.TheVariants.{Listed}
 use Rattle.java_mean.specs.declared.types.Single.{Single}

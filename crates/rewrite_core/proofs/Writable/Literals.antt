@@ -14,7 +14,7 @@ use Rattle.java_ast.specs.declared.tree.Op.{Op}
 use Rattle.java_ast.specs.declared.tree.Op.TheVariants as ops
 use Rattle.java_ast.specs.Tree.{Expression, Expressions, NoMore, And, Statement, Declare, Assign, Add, Sort, If, IfElse, ForEach, While, Print, Return, Break, Statements, Nothing, Then}
 use Rattle.java_ast.specs.Tree as tree
-use Rattle.java_parser.specs.Written.{WrittenScalar}
+use Rattle.java_grammar.specs.Written.{WrittenScalar}
 use Rattle.java_mean.specs.Queries.{Reader}
 use Rattle.loop_text.specs.declared.sites.bindings.Binding.{Binding}
 use Rattle.loop_text.specs.declared.sites.bindings.Binding.TheVariants.{Row, Local, Outer}

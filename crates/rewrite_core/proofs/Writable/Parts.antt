@@ -4,8 +4,8 @@ use Rattle.std.proofs.Common.{◌≡◌, ℕ, zero, suc, Bool, true, false, cond
 use Rattle.java_ast.specs.Path.{found_in, numbered, branch_of, first_of, behind_of}
 use Rattle.java_ast.specs.Tree.{Spelled, ListOf, SetOf, Expression, Statement, Declare, Assign, Add, Sort, If, IfElse, ForEach, While, Print, Return, Break, Statements, Nothing, Then, PlainParam, PlainMethod, PlainProgram}
 use Rattle.java_ast.specs.Tree as tree
-use Rattle.java_parser.specs.InGrammar.{IsElement, IsType, IsScalarType, InParams, InMethod, InMethods, IsInGrammar}
-use Rattle.java_parser.specs.Written.{WrittenType, WrittenParams, WrittenMethods, IsWritten}
+use Rattle.java_grammar.specs.InGrammar.{IsElement, IsType, IsScalarType, InParams, InMethod, InMethods, IsInGrammar}
+use Rattle.java_grammar.specs.Written.{WrittenType, WrittenParams, WrittenMethods, IsWritten}
 use Rattle.loop_text.specs.Sites.Sites.{has_number}
 use Rattle.loop_text.specs.Statements.Fragment.{are_simple, run_of, Fragment, fragment_of, fragment_where, fragment_here, fragment_in, fragment_at}
 use Rattle.loop_text.specs.Statements.KeptStatements.{with_numbers}

@@ -3,8 +3,8 @@
 use Rattle.std.proofs.Common.{ℕ, zero, suc, Bool, true, false, cond, ◌==◌, List, [], ◌∷◌}
 use Rattle.java_ast.specs.Path.{and_then, first_of, behind_of, with_range, with_numbered, with_branch, replaced_in, with_body, with_method, replaced_at}
 use Rattle.java_ast.specs.Tree.{Expression, Expressions, Statement, Declare, Assign, Add, Sort, If, IfElse, ForEach, While, Print, Return, Break, Statements, Nothing, Then, Spelled, PlainMethod, PlainProgram}
-use Rattle.java_parser.specs.InGrammar.{IsType, InExpression, InExpressions, InStatement, InStatements, InMethod, InMethods, IsInGrammar}
-use Rattle.java_parser.specs.Written.{WrittenType, WrittenExpression, WrittenExpressions, WrittenStatement, WrittenStatements, WrittenMethods, IsWritten}
+use Rattle.java_grammar.specs.InGrammar.{IsType, InExpression, InExpressions, InStatement, InStatements, InMethod, InMethods, IsInGrammar}
+use Rattle.java_grammar.specs.Written.{WrittenType, WrittenExpression, WrittenExpressions, WrittenStatement, WrittenStatements, WrittenMethods, IsWritten}
 
 -- ---- Of the grammar, and can be written
 

@@ -2,14 +2,14 @@ use Rattle.std.proofs.Common.{◌≡◌, List, Ok, subst}
 use Rattle.java_lex.specs.declared.token.Token.{Token}
 use Rattle.readers.specs.Reading.{Fails, whole}
 use Rattle.java_ast.specs.Reading.{program}
-use Rattle.java_parser.specs.Marks.{all_strict}
-use Rattle.java_parser.specs.Grammar.{HasProgram}
-use Rattle.java_parser.specs.ReadingPrograms.{program_at}
+use Rattle.java_grammar.specs.Marks.{all_strict}
+use Rattle.java_grammar.specs.Grammar.{HasProgram}
+use Rattle.java_grammar.specs.ReadingPrograms.{program_at}
 use Rattle.java_parser.proofs.ParsedLaws.{answers_program, answers_fault}
 use Rattle.java_parser.specs.Parsed.{parsed}
-use Rattle.java_parser.proofs.Again.{Any}
-use Rattle.java_parser.proofs.ProgramLaws.{program_reads}
-use Rattle.java_parser.proofs.Whole.{whole_found}
+use Rattle.java_grammar.proofs.Again.{Any}
+use Rattle.java_grammar.proofs.ProgramLaws.{program_reads}
+use Rattle.java_grammar.proofs.Whole.{whole_found}
 use Rattle.java_parser.proofs.KeptLaws.{is_only, is_refused, is_kept}
 use Rattle.java_parser.proofs.parser.parse.Goals as goal
 

@@ -2,12 +2,12 @@ use Rattle.std.proofs.Common.{◌≡◌, List, Ok, refl, subst}
 use Rattle.java_lex.specs.declared.token.Token.{Token}
 use Rattle.readers.specs.Reading.{Fails, whole}
 use Rattle.java_ast.specs.Reading.{expression}
-use Rattle.java_parser.specs.Marks.{all_strict}
-use Rattle.java_parser.specs.Expressions.{ranks, HasExpression}
-use Rattle.java_parser.specs.ReadingExpressions.{expression_at}
-use Rattle.java_parser.proofs.ExpressionLaws.{Follow}
-use Rattle.java_parser.proofs.NestLaws.{expression_reads}
-use Rattle.java_parser.proofs.Whole.{whole_found}
+use Rattle.java_grammar.specs.Marks.{all_strict}
+use Rattle.java_grammar.specs.Expressions.{ranks, HasExpression}
+use Rattle.java_grammar.specs.ReadingExpressions.{expression_at}
+use Rattle.java_grammar.proofs.ExpressionLaws.{Follow}
+use Rattle.java_grammar.proofs.NestLaws.{expression_reads}
+use Rattle.java_grammar.proofs.Whole.{whole_found}
 use Rattle.java_parser.proofs.KeptLaws.{is_only, is_refused, is_kept}
 use Rattle.java_parser.proofs.parser.parse_expression.Goals as goal
 

@@ -6,9 +6,9 @@ use Rattle.readers.specs.declared.fault.ReadError.TheVariants as errors
 use Rattle.readers.specs.Reading.{Fails, whole}
 use Rattle.readers.proofs.Tools.{failed}
 use Rattle.java_ast.specs.Reading.{program}
-use Rattle.java_parser.specs.Marks.{all_strict}
-use Rattle.java_parser.specs.ReadingPrograms.{program_in}
-use Rattle.java_parser.proofs.GrammarLaws.{grammar_found, grammar_only, grammar_none}
+use Rattle.java_grammar.specs.Marks.{all_strict}
+use Rattle.java_grammar.specs.ReadingPrograms.{program_in}
+use Rattle.java_grammar.proofs.GrammarLaws.{grammar_found, grammar_only, grammar_none}
 use Rattle.java_parser.proofs.parser.parse_grammar.Goals as goal
 
 pub returns-in-Ok-clause-found : goal.returns-in-Ok-clause-found

@@ -1,12 +1,12 @@
 use Rattle.std.proofs.Common.{◌≡◌, List, Ok, subst}
 use Rattle.java_lex.specs.declared.token.Token.{Token}
 use Rattle.readers.specs.Reading.{Fails, whole}
-use Rattle.java_parser.specs.Marks.{all_strict}
-use Rattle.java_parser.specs.Types.{Key}
-use Rattle.java_parser.specs.ReadingTypes.{key_at}
-use Rattle.java_parser.proofs.Again.{Any}
-use Rattle.java_parser.proofs.TypeLaws.{key_reads}
-use Rattle.java_parser.proofs.Whole.{whole_found}
+use Rattle.java_grammar.specs.Marks.{all_strict}
+use Rattle.java_grammar.specs.Types.{Key}
+use Rattle.java_grammar.specs.ReadingTypes.{key_at}
+use Rattle.java_grammar.proofs.Again.{Any}
+use Rattle.java_grammar.proofs.TypeLaws.{key_reads}
+use Rattle.java_grammar.proofs.Whole.{whole_found}
 use Rattle.java_parser.proofs.KeptLaws.{is_only, is_refused, is_kept}
 use Rattle.java_parser.proofs.parser.parse_key.Goals as goal
 

@@ -2,12 +2,12 @@ use Rattle.std.proofs.Common.{◌≡◌, List, Ok, subst}
 use Rattle.java_lex.specs.declared.token.Token.{Token}
 use Rattle.readers.specs.Reading.{Fails, whole}
 use Rattle.java_ast.specs.Reading.{spelled}
-use Rattle.java_parser.specs.Marks.{all_strict}
-use Rattle.java_parser.specs.Types.{Spelling}
-use Rattle.java_parser.specs.ReadingTypes.{spelling_at}
-use Rattle.java_parser.proofs.Again.{Any}
-use Rattle.java_parser.proofs.TypeLaws.{spelling_reads}
-use Rattle.java_parser.proofs.Whole.{whole_found}
+use Rattle.java_grammar.specs.Marks.{all_strict}
+use Rattle.java_grammar.specs.Types.{Spelling}
+use Rattle.java_grammar.specs.ReadingTypes.{spelling_at}
+use Rattle.java_grammar.proofs.Again.{Any}
+use Rattle.java_grammar.proofs.TypeLaws.{spelling_reads}
+use Rattle.java_grammar.proofs.Whole.{whole_found}
 use Rattle.java_parser.proofs.KeptLaws.{is_only, is_refused, is_kept}
 use Rattle.java_parser.proofs.parser.parse_type.Goals as goal
 

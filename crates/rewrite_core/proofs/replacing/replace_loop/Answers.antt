@@ -4,8 +4,8 @@ use Rattle.java_ast.specs.Reading.{program}
 use Rattle.java_loops.specs.Kernel.Kernel.{setting_at}
 use Rattle.java_loops.specs.Kernel.Setting.{Setting}
 use Rattle.java_mean.specs.Keeps.{Keeps}
-use Rattle.java_parser.specs.InGrammar.{IsInGrammar}
-use Rattle.java_parser.specs.Written.{IsWritten}
+use Rattle.java_grammar.specs.InGrammar.{IsInGrammar}
+use Rattle.java_grammar.specs.Written.{IsWritten}
 use Rattle.java_types.specs.Texts.{read_by}
 use Rattle.kernel_lang.specs.Whole.{fragment_of}
 use Rattle.vc_gen.specs.Soundness.{EndsAnywhere}

@@ -1,6 +1,0 @@
-use Rattle.std.proofs.Common.{rules}
-use Rattle.java_parser.proofs.Gathered.{query_boolean_node}
-use Rattle.java_parser.proofs.nodes.query_boolean.Goals as goal
-
-pub returns-clause-ok : goal.returns-clause-ok
-returns-clause-ok c = query_boolean_node c.in_ok-text.text c.args.text.now c.args.arguments (search rules)

@@ -1,9 +1,0 @@
-use Rattle.java_parser.specs.Grammar.{HasProgram}
-use Rattle.java_parser.specs.ReadingPrograms.{program_at}
-use Rattle.java_parser.proofs.Again.{Any}
-use Rattle.java_parser.proofs.OneTree.{one_tree}
-use Rattle.java_parser.proofs.ProgramLaws.{program_reads}
-use Rattle.java_parser.proofs.once.tokens_have_one_program.Goals as goal
-
-pub returns : goal.returns
-returns c = one_tree HasProgram Any program_at program_reads tt

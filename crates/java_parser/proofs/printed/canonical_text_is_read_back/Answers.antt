@@ -1,5 +1,0 @@
-use Rattle.java_parser.proofs.Methods.{text_is_read_back}
-use Rattle.java_parser.proofs.printed.canonical_text_is_read_back.Goals as goal
-
-pub returns : goal.returns
-returns c = text_is_read_back

@@ -1,7 +1,0 @@
-use Rattle.std.proofs.Common.{◌≡◌, drop}
-use Rattle.java_parser.specs.Statements.{is_turned}
-use Rattle.java_parser.proofs.Turns.{turned_with}
-use Rattle.java_parser.proofs.sorts.is_turned.Given as goal
-
-abbrev pub invariant-loop-part : goal.invariant-loop-part
-invariant-loop-part l = turned_with l.turned (is_turned (drop l.part-index l.parts)) ≡ is_turned l.parts
