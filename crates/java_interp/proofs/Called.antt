@@ -17,7 +17,7 @@ use Rattle.java_types.specs.declared.checking.Typed.{Typed}
 use Rattle.java_types.specs.Texts.{read_by}
 use Rattle.java_types.proofs.Checked.{checked_never}
 use Rattle.java_mean.specs.Store.{Store, put, plainly}
-use Rattle.java_interp.proofs.Columns.{next_item}
+use Rattle.java_steps.proofs.Columns.{next_item}
 
 pub store_none : (ps : List Param) (xs : List Scalar) (n : ℕ) → n ≡ min (length ps) (length xs) → store_of (map param (drop n ps)) (drop n xs) ≡ []
 store_none [] xs n e = grind arith

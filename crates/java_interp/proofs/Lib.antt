@@ -1,13 +1,3 @@
-pub mod Answerable
 pub mod Called
-pub mod Changed
-pub mod Columns
-pub mod Placing
-pub mod Readings
-pub mod Occurring
-pub mod Seen
-pub mod Sorted
 pub mod Stacked
-pub mod Stopped
-pub mod Stored
 pub mod Turns

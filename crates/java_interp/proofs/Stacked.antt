@@ -1,50 +1,36 @@
 -- Pushes and pops of the stack of what is left to do.
-use Rattle.std.proofs.Common.{◌≡◌, ℕ, ◌+◌, ◌<◌, ◌≤◌, true, false, List, [], ◌∷◌, ◌++◌, length, drop, get_or, Option, Some, None, Result, Ok, Err, OnOk, IfOk, refl, sym, ap, ◌∙◌, subst, arith}
-use Rattle.std.specs.Prelude.{Vec}
+use Rattle.std.proofs.Common.{◌≡◌, ℕ, ◌+◌, ◌<◌, ◌≤◌, true, false, List, [], ◌∷◌, ◌++◌, length, drop, get_or, Option, Result, Ok, Err, OnOk, IfOk, refl, sym, ap, ◌∙◌, subst, arith}
 use Rattle.std.specs.Borrow.{Bor}
 use Rattle.std.specs.Option.{option_map}
-use Rattle.std.specs.declared.alloc.Global.{Global}
 use Rattle.std.proofs.lemmas.Grind.{common_steps}
 use Rattle.qbs_base.specs.declared.scalar.Row.{Row}
 use Rattle.qbs_base.specs.declared.scalar.Value.{Value}
 use Rattle.java_ast.specs.declared.tree.Expr.{Expr}
-use Rattle.java_ast.specs.declared.tree.Stmt.{Stmt, out-Stmt}
-use Rattle.java_ast.specs.declared.tree.StmtNode as stmts
+use Rattle.java_ast.specs.declared.tree.Stmt.{Stmt}
 use Rattle.java_ast.specs.Reading.{expression, statement, statements}
 use Rattle.java_mean.specs.declared.ending.Ending.{Ending}
 use Rattle.java_mean.specs.Expression.{element}
 use Rattle.java_mean.specs.Statement.{State, Passed, GoesOn, Leaves, Returns, Does, then_do, then_turn, turn, with_variable, each, test_of, meaning, meanings}
 use Rattle.java_mean.specs.Store.{plainly}
 use Rattle.java_mean.specs.World.{World}
-use Rattle.java_ast.proofs.Nodes.{if_is, if_else_is}
-use Rattle.java_interp.proofs.Columns.{next_item}
-use Rattle.java_interp.specs.declared.frame.Frame.{Frame}
-use Rattle.java_interp.specs.declared.frame.Frame.TheVariants as frames
-use Rattle.java_interp.specs.declared.frame.Next.{Next}
-use Rattle.java_interp.specs.declared.frame.Next.TheVariants as nexts
-use Rattle.java_interp.specs.declared.frame.Went.{Went}
-use Rattle.java_interp.specs.declared.frame.Went.TheVariants as wents
-use Rattle.java_interp.specs.declared.held.List as Held
-use Rattle.java_interp.specs.declared.held.Held as CodeHeld
-use Rattle.java_interp.specs.declared.numbers.Slot.{Slot}
-use Rattle.java_interp.specs.declared.stop.Stop.{Stop}
-use Rattle.java_interp.specs.declared.stop.Stop.TheVariants as stops
-use Rattle.java_interp.specs.Gives.{Stops}
-use Rattle.java_interp.specs.Held.{rows_in, value_in}
-use Rattle.java_interp.specs.Stack.{into, after, entered, went, Moves, IfStill, IfTurned, is_loop_frame, count, count_all, weight, weight_all}
-use Rattle.java_interp.proofs.Stopped.{stops_same}
+use Rattle.java_steps.proofs.Columns.{next_item}
+use Rattle.java_steps.specs.declared.frame.Frame.{Frame}
+use Rattle.java_steps.specs.declared.frame.Frame.TheVariants as frames
+use Rattle.java_steps.specs.declared.frame.Next.{Next}
+use Rattle.java_steps.specs.declared.frame.Next.TheVariants as nexts
+use Rattle.java_interp.specs.declared.went.Went.{Went}
+use Rattle.java_interp.specs.declared.went.Went.TheVariants as wents
+use Rattle.java_steps.specs.declared.held.List as Held
+use Rattle.java_steps.specs.declared.held.Held as CodeHeld
+use Rattle.java_steps.specs.declared.numbers.Slot.{Slot}
+use Rattle.java_steps.specs.declared.stop.Stop.{Stop}
+use Rattle.java_steps.specs.declared.stop.Stop.TheVariants as stops
+use Rattle.java_steps.specs.Gives.{Stops}
+use Rattle.java_steps.specs.Held.{rows_in, value_in}
+use Rattle.java_steps.specs.Frames.{into, entered, count, count_all, weight}
+use Rattle.java_interp.specs.Stack.{after, went, IfStill, IfTurned, is_loop_frame, weight_all}
+use Rattle.java_steps.proofs.Stopped.{stops_same}
 use Rattle.java_interp.proofs.Turns.{repeat_unrolled, repeat_over, repeat_out, repeat_stops}
-use Rattle.java_interp.specs.Chosen.{chosen, count_other}
-
--- ---- Branches
-
-pub meaning_if : (s : Stmt) (cond : Expr) (v : Vec Stmt Global) (o : Option (Vec Stmt Global)) (w : World) (st : State) → (out-Stmt s).node ≡ stmts.If cond v o → meaning (statement s) w st ≡ chosen (expression cond) (statements v.items) o w st
-meaning_if s cond v None w st is = ap (λ a. meaning a w st) (if_is s cond v None is refl)
-meaning_if s cond v (Some u) w st is = ap (λ a. meaning a w st) (if_else_is s cond v u (Some u) is refl)
-
-pub count_if : (s : Stmt) (cond : Expr) (v : Vec Stmt Global) (o : Option (Vec Stmt Global)) → (out-Stmt s).node ≡ stmts.If cond v o → count (statement s) ≡ count_all (statements v.items) + count_other o
-count_if s cond v None is = ap count (if_is s cond v None is refl) ∙ omega arith
-count_if s cond v (Some u) is = ap count (if_else_is s cond v u (Some u) is refl)
 
 -- ---- Frames
 
@@ -181,10 +167,6 @@ loop_over w fs cond body s t = goes_over w fs (into w (frames.Loop cond body) (O
 
 pub list_over : (w : World) (fs : List Frame) (x : Slot) (list : Held.List) (i : ℕ) (body : Bor (List Stmt)) (s : State) → length (rows_in list) ≤ i → after w fs (into w (frames.Each x list i body) (Ok (GoesOn s))) ≡ after w fs (Ok (GoesOn s))
 list_over w fs x list i body s le = goes_over w fs (into w (frames.Each x list i body) (Ok (GoesOn s))) s (each_over (rows_in list) i x.name.now (meanings (statements body.now) w) s le)
-
-pub moves_same : (w : World) (r : Result Next Stop) (s : State) (run other : Result Passed Ending) → other ≡ run → Moves w r s run → Moves w r s other
-moves_same w (Ok next) s run other e m = e ∙ m
-moves_same w (Err stop) s run other e m = stops_same stop other run e m
 
 pub settled_returned : (w : World) (fs : List Frame) (s : State) (v : Option CodeHeld.Held) → after w fs (entered w (nexts.Return v) s) ≡ went w (wents.Returned v) s fs
 settled_returned w fs s v = after_returned w fs s (option_map value_in v)

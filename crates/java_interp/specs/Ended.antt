@@ -5,9 +5,9 @@ use Rattle.java_mean.specs.declared.ending.Ending.{Ending}
 use Rattle.java_mean.specs.Statement.{State, Passed, GoesOn, Leaves, Returns}
 use Rattle.java_interp.specs.declared.stack.Ended.{Ended}
 use Rattle.java_interp.specs.declared.stack.Ended.TheVariants.{Behind, Astray, Returned}
-use Rattle.java_interp.specs.declared.stop.Stop.{Stop}
-use Rattle.java_interp.specs.Gives.{Stops}
-use Rattle.java_interp.specs.Held.{value_in}
+use Rattle.java_steps.specs.declared.stop.Stop.{Stop}
+use Rattle.java_steps.specs.Gives.{Stops}
+use Rattle.java_steps.specs.Held.{value_in}
 
 abbrev pub passed : Ended → State → Passed
 passed Behind s = GoesOn s

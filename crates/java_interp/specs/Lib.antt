@@ -1,11 +1,3 @@
-pub mod Chosen
 pub mod Ended
-pub mod Gives
-pub mod Held
-pub mod IsRead
-pub mod Met
-pub mod Placed
 pub mod Reached
-pub mod Running
 pub mod Stack
-pub mod Words

@@ -1,9 +1,9 @@
 use Rattle.std.proofs.Common.{◌≡◌, ◌∙◌, sym, ap, Ok, []}
 use Rattle.java_mean.specs.Statement.{GoesOn}
-use Rattle.java_interp.specs.declared.frame.Frame.TheVariants.{Run}
-use Rattle.java_interp.specs.declared.frame.Went.{Went}
+use Rattle.java_steps.specs.declared.frame.Frame.TheVariants.{Run}
+use Rattle.java_interp.specs.declared.went.Went.{Went}
 use Rattle.java_interp.specs.Stack.{went}
-use Rattle.java_interp.specs.Running.{state, world}
+use Rattle.java_steps.specs.Running.{state, world}
 use Rattle.java_interp.proofs.Stacked.{after_one, after_none, at_still}
 use Rattle.java_interp.proofs.stack.run_all.Goals as goal
 

@@ -1,7 +1,7 @@
 use Rattle.std.proofs.Common.{◌≡◌, Ok}
 use Rattle.java_ast.specs.Reading.{statements}
 use Rattle.java_mean.specs.Statement.{GoesOn, meanings}
-use Rattle.java_interp.specs.Running.{state, world}
+use Rattle.java_steps.specs.Running.{state, world}
 use Rattle.java_interp.specs.Stack.{after}
 use Rattle.java_interp.proofs.stack.run_all.Given as goal
 

@@ -4,8 +4,8 @@ use Rattle.qbs_base.specs.declared.scalar.Row.{Row}
 use Rattle.qbs_base.specs.declared.scalar.Value.{Value}
 use Rattle.java_mean.specs.Statement.{State}
 use Rattle.java_mean.specs.Store.{Store, put, plainly}
-use Rattle.java_interp.specs.Held.{rows_in}
-use Rattle.java_interp.specs.Running.{state, world}
+use Rattle.java_steps.specs.Held.{rows_in}
+use Rattle.java_steps.specs.Running.{state, world}
 use Rattle.java_interp.proofs.Stacked.{each_stops, each_began}
 use Rattle.java_interp.proofs.stack.step_each.Goals as goal
 

@@ -2,7 +2,7 @@ use Rattle.std.proofs.Common.{◌≡◌, ◌∙◌, ap, true, Ok}
 use Rattle.std.proofs.lemmas.Result.{err_from_is_err_and}
 use Rattle.java_ast.specs.Reading.{expression}
 use Rattle.java_mean.specs.Statement.{test_of}
-use Rattle.java_interp.specs.Running.{state, world}
+use Rattle.java_steps.specs.Running.{state, world}
 use Rattle.java_interp.proofs.Stacked.{test_stops, loop_stops, loop_began}
 use Rattle.java_interp.proofs.stack.step_loop.Goals as goal
 

@@ -2,10 +2,11 @@ use Rattle.std.proofs.Common.{◌∙◌, refl}
 use Rattle.std.proofs.lemmas.Result.{err_from_is_err_and}
 use Rattle.java_ast.specs.Reading.{statement, statements}
 use Rattle.java_mean.specs.Statement.{meaning, meanings}
-use Rattle.java_interp.specs.Running.{state, world}
-use Rattle.java_interp.specs.Stack.{after, weight_next}
+use Rattle.java_steps.specs.Running.{state, world}
+use Rattle.java_steps.specs.Frames.{weight_next}
+use Rattle.java_interp.specs.Stack.{after}
 use Rattle.java_interp.proofs.Stacked.{begun, begun_on, begun_stops, lighter_begun}
-use Rattle.java_interp.proofs.Stopped.{stops_same}
+use Rattle.java_steps.proofs.Stopped.{stops_same}
 use Rattle.java_interp.proofs.stack.step_run.Goals as goal
 
 pub returns-in_err-next-in-Some-clause-leads : goal.returns-in_err-next-in-Some-clause-leads

@@ -1,10 +1,11 @@
 use Rattle.std.proofs.Common.{◌≡◌, ◌∙◌, ◌+◌, ◌<◌, ap, Ok}
 use Rattle.std.proofs.lemmas.Result.{err_from_is_err_and}
 use Rattle.java_mean.specs.Statement.{GoesOn}
-use Rattle.java_interp.specs.declared.frame.Went.{Went}
-use Rattle.java_interp.specs.declared.frame.Went.TheVariants as wents
-use Rattle.java_interp.specs.Running.{state, world}
-use Rattle.java_interp.specs.Stack.{after, went, weight, weight_all}
+use Rattle.java_interp.specs.declared.went.Went.{Went}
+use Rattle.java_interp.specs.declared.went.Went.TheVariants as wents
+use Rattle.java_steps.specs.Running.{state, world}
+use Rattle.java_steps.specs.Frames.{weight}
+use Rattle.java_interp.specs.Stack.{after, went, weight_all}
 use Rattle.java_interp.proofs.Stacked.{resumed, resumed_stops, goes_on, lighter_popped, at_still}
 use Rattle.java_interp.proofs.stack.until_turn.Goals as goal
 

@@ -1,6 +1,6 @@
 use Rattle.std.proofs.Common.{◌≡◌, Ok}
 use Rattle.java_mean.specs.Statement.{GoesOn}
-use Rattle.java_interp.specs.Running.{state, world}
+use Rattle.java_steps.specs.Running.{state, world}
 use Rattle.java_interp.specs.Stack.{after, weight_all}
 use Rattle.java_interp.proofs.stack.until_turn.Given as goal
 

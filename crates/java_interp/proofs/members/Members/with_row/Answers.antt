@@ -1,8 +1,0 @@
-use Rattle.java_interp.proofs.Seen.{met_new, met_again}
-use Rattle.java_interp.proofs.members.Members.with_row.Goals as goal
-
-pub invariant_of-result : goal.invariant_of-result
-invariant_of-result c = met_new c.self.inside.met c.meet.new.met c.args.row c.in_ok-meet.field-0 c.in_ok-meet.ensures c.self.inside.rows.items c.push.new.self.items c.self.invariant c.in_ok-push.ensures.items
-
-pub invariant_of-result-2 : goal.invariant_of-result-2
-invariant_of-result-2 c = met_again c.self.inside.met c.meet.new.met c.args.row c.in_ok-meet.field-0 c.in_ok-meet.ensures c.self.inside.rows.items c.self.invariant c.if-branch.false

@@ -1,0 +1,11 @@
+pub mod Answerable
+pub mod Branches
+pub mod Changed
+pub mod Columns
+pub mod Occurring
+pub mod Placing
+pub mod Readings
+pub mod Seen
+pub mod Sorted
+pub mod Stopped
+pub mod Stored

@@ -1,0 +1,58 @@
+-- Values that stand at places.
+use Rattle.std.proofs.Common.{◌≡◌, ℕ, zero, suc, List, [], ◌∷◌, ◌<◌, length, Bool, true, false, cond, Some, Bor, slice_get, arith, sym, ap, ◌∙◌}
+use Rattle.std.specs.Prelude.{bytes_eq, if◌then◌else◌}
+use Rattle.std.specs.List.{AllByRecursion, IsDistinct}
+use Rattle.std.specs.Map.{lookup, keys_of}
+use Rattle.indexmap.specs.IndexMap.{insert_entry, set_value_at}
+use Rattle.java_mean.proofs.Puts.{names_equal}
+use Rattle.java_steps.specs.Placed.{test, same, Stands}
+use Rattle.java_steps.proofs.Stored.{back}
+
+module _ {V : Type 0} where
+  -- the key at a place is not one before it
+  apart : (j : Bor (List ℕ)) (es : List (Bor (List ℕ) × V)) (i : ℕ) (k : Bor (List ℕ)) (v : V) → AllByRecursion (λ y. same j y ≡ false) (keys_of es) → slice_get es i ≡ Some (k, v) → same j k ≡ false
+  apart j [] i k v all at = absurd cc
+  apart j (e ∷ es) zero k v all at = let h : e ≡ (k, v) = cc in ap (λ (p : Bor (List ℕ) × V). same j p.0) (sym h) ∙ all.0
+  apart j (e ∷ es) (suc i) k v all at = apart j es i k v all.1 at
+
+  -- a value written at the place of its key
+  put_there : (es : List (Bor (List ℕ) × V)) (i : ℕ) (k key : Bor (List ℕ)) (v w : V) → IsDistinct same (keys_of es) → slice_get es i ≡ Some (k, v) → bytes_eq k.now key.now ≡ true → set_value_at es i w ≡ insert_entry same es key w
+  unfolding IsDistinct
+  put_there [] i k key v w d at e = absurd cc
+  put_there (f ∷ es) zero k key v w d at e =
+      let h : f ≡ (k, v) = cc in
+      let s : bytes_eq key.now f.0.now ≡ true = back key.now f.0.now ∙ ap (λ (p : Bor (List ℕ) × V). bytes_eq p.0.now key.now) h ∙ e in
+      ap (λ (b : Bool). if b then ((f.0, w) ∷ es) else (f ∷ insert_entry same es key w)) (sym s)
+  put_there (f ∷ es) (suc i) k key v w d at e =
+      let s : bytes_eq key.now f.0.now ≡ false = back key.now f.0.now ∙ ap (bytes_eq f.0.now) (sym (names_equal k.now key.now e)) ∙ apart f.0 es i k v d.0 at in
+      ap (λ (l : List (Bor (List ℕ) × V)). f ∷ l) (put_there es i k key v w d.1 at e) ∙ ap (λ (b : Bool). if b then ((f.0, w) ∷ es) else (f ∷ insert_entry same es key w)) (sym s)
+
+  -- a look-up of a key that stands at a place
+  found_there : (es : List (Bor (List ℕ) × V)) (i : ℕ) (k : Bor (List ℕ)) (x : List ℕ) (v : V) → IsDistinct same (keys_of es) → slice_get es i ≡ Some (k, v) → bytes_eq k.now x ≡ true → Some v ≡ lookup (test x) es
+  unfolding IsDistinct
+  found_there [] i k x v d at e = absurd cc
+  found_there (f ∷ es) zero k x v d at e =
+      let h : f ≡ (k, v) = cc in
+      let s : bytes_eq x f.0.now ≡ true = back x f.0.now ∙ ap (λ (p : Bor (List ℕ) × V). bytes_eq p.0.now x) h ∙ e in
+      ap (λ (p : Bor (List ℕ) × V). Some p.1) (sym h) ∙ ap (λ (b : Bool). cond b (Some f.1) (lookup (test x) es)) (sym s)
+  found_there (f ∷ es) (suc i) k x v d at e =
+      let s : bytes_eq x f.0.now ≡ false = back x f.0.now ∙ ap (bytes_eq f.0.now) (sym (names_equal k.now x e)) ∙ apart f.0 es i k v d.0 at in
+      found_there es i k x v d.1 at e ∙ ap (λ (b : Bool). cond b (Some f.1) (lookup (test x) es)) (sym s)
+
+  within : (es : List (Bor (List ℕ) × V)) (i : ℕ) (p : Bor (List ℕ) × V) → slice_get es i ≡ Some p → i < length es
+  within [] i p at = absurd cc
+  within (f ∷ es) zero p at = omega arith
+  within (f ∷ es) (suc i) p at = let h = within es i p at in omega arith
+
+  module _ (es : List (Bor (List ℕ) × V)) (i : ℕ) (x : List ℕ) (s : Stands es i x) where
+    pub stands_within : i < length es
+    stands_within = within es i (s.key, s.value) s.at
+
+    pub stands_old : (k : Bor (List ℕ)) (v : V) → IsDistinct same (keys_of es) → slice_get es i ≡ Some (k, v) → Some v ≡ lookup (test x) es
+    stands_old k v d at =
+        let h : Some (s.key, s.value) ≡ Some (k, v) = sym s.at ∙ at in
+        let g : (s.key, s.value) ≡ (k, v) = cc in
+        found_there es i k x v d at (ap (λ (p : Bor (List ℕ) × V). bytes_eq p.0.now x) (sym g) ∙ s.is)
+
+  pub stands_put : (es : List (Bor (List ℕ) × V)) (i : ℕ) (key : Bor (List ℕ)) (w : V) → Stands es i key.now → IsDistinct same (keys_of es) → set_value_at es i w ≡ insert_entry same es key w
+  stands_put es i key w s d = put_there es i s.key key s.value w d s.at s.is

@@ -1,0 +1,5 @@
+use Rattle.std.proofs.Common.{◌≡◌}
+use Rattle.java_steps.proofs.gather.+gather_block.Given as goal
+
+abbrev pub invariant-gather-loop-s : goal.invariant-gather-loop-s
+invariant-gather-loop-s l = l.queries ≡ l.initial.queries

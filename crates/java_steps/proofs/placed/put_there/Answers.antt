@@ -1,0 +1,10 @@
+use Rattle.std.proofs.Common.{◌∙◌, ap, Some}
+use Rattle.indexmap.specs.IndexMap.{set_value_at}
+use Rattle.java_steps.proofs.Placing.{stands_old, stands_put}
+use Rattle.java_steps.proofs.placed.put_there.Goals as goal
+
+pub returns-clause-old : goal.returns-clause-old
+returns-clause-old g c = ap Some c.replace.ensures.value ∙ stands_old c.args.map.now.entries c.args.place c.args.key.now c.requires _ _ c.pair_mut-there.ensures.unique c.pair_mut-there.ensures.value
+
+pub returns-clause-entries : goal.returns-clause-entries
+returns-clause-entries g c = ap (set_value_at c.args.map.now.entries c.args.place) c.replace.ensures.after ∙ stands_put c.args.map.now.entries c.args.place c.args.key c.args.value c.requires c.pair_mut-there.ensures.unique

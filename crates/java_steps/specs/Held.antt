@@ -1,0 +1,24 @@
+-- The values that the interpreter's values stand for.
+use Rattle.std.specs.Prelude.{List as Items}
+use Rattle.qbs_base.specs.declared.scalar.Row.{Row}
+use Rattle.qbs_base.specs.declared.scalar.Value.{Value}
+use Rattle.qbs_base.specs.declared.scalar.Value.TheVariants as values
+use Rattle.java_mean.specs.Store as meant
+use Rattle.java_steps.specs.declared.held.List.{List}
+use Rattle.java_steps.specs.declared.held.List.TheVariants.{Lent, Shared, Distinct}
+use Rattle.java_steps.specs.declared.held.Held.{Held}
+use Rattle.java_steps.specs.declared.held.Held.TheVariants.{One, Whole, Many}
+use Rattle.java_steps.specs.declared.held.Variable.{Variable}
+
+abbrev pub rows_in : List → Items Row
+rows_in (Lent rows) = rows.now
+rows_in (Shared rows) = rows.value
+rows_in (Distinct members) = members.value
+
+abbrev pub value_in : Held → Value
+value_in (One x) = values.One x
+value_in (Whole row) = values.Whole row
+value_in (Many list) = values.Many (rows_in list)
+
+abbrev pub variable_in : Variable → meant.Variable
+variable_in v = record { value = value_in v.held; is_set = v.is_set }

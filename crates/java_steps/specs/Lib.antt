@@ -1,0 +1,9 @@
+pub mod Chosen
+pub mod Frames
+pub mod Gives
+pub mod Held
+pub mod IsRead
+pub mod Met
+pub mod Placed
+pub mod Running
+pub mod Words

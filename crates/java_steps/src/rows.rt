@@ -1,0 +1,94 @@
+// Rows: their cells, and which are members of a list.
+ghost use Rattle.std.specs.Prelude.{◌≡◌, ℤ, IfOk, option_copied};
+ghost use Rattle.std.specs.List.{list_any};
+ghost use Rattle.qbs_base.specs.Columns.{column_number};
+ghost use Rattle.qbs_base.specs.Scalar as scalars;
+ghost use Rattle.java_mean.specs.Expression as meant;
+ghost use Rattle.java_steps.specs.Held.{value_in};
+
+use crate::held::Held;
+use crate::operators::same;
+use qbs_base::{Column, Kind, Name, NoMemory, Row, Scalar, columns_at, copy_row, copy_scalar};
+use schema::Schema;
+use std::alloc::Global;
+
+fn columns_of(schema: &Schema, kind: Kind) -> &[Column]
+    ensures { result.now ≡ meant.columns_of schema.now kind }
+{
+    match kind {
+        Kind::Plain => &[],
+        Kind::Table(n) => columns_at(schema.tables(), n),
+    }
+}
+
+fn column_number(columns: &[Column], name: &Name) -> Option<usize>
+    ensures { result ≡ column_number columns.now name.now }
+{
+    columns.iter().position(|column| column.name == *name)
+}
+
+fn cell_at(cells: &[Scalar], n: Option<usize>) -> Option<&Scalar>
+    ensures { option_copied result ≡ meant.cell_at cells.now n }
+{
+    match n {
+        None => None,
+        Some(n) => cells.get(n),
+    }
+}
+
+/// The cell of a row in the column with this name.
+pub fn cell<'a>(schema: &Schema, row: &'a Row, name: &Name) -> Option<&'a Scalar>
+    ensures { option_copied result ≡ meant.cell schema.now row.now name.now }
+{
+    let number = column_number(columns_of(schema, row.kind), name);
+    cell_at(row.cells.as_slice(), number)
+}
+
+/// A member of a list as a value.
+pub fn element<'a>(alloc: Global, row: &Row) -> Result<Held<'a>, NoMemory>
+    ensures { IfOk result (λ h. value_in h ≡ meant.element row.now) }
+{
+    if let Kind::Plain = row.kind {
+        if let [x] = row.cells.as_slice() {
+            return Ok(Held::One(copy_scalar(alloc, x)?));
+        }
+    }
+    Ok(Held::Whole(copy_row(alloc, row)?))
+}
+
+/// Whether both are lists of the same scalars.
+pub fn same_cells(a: &[Scalar], b: &[Scalar]) -> bool
+    ensures { result ≡ scalars.same_cells a.now b.now }
+{
+    if a.len() != b.len() {
+        return false;
+    }
+    for (i, x) in a.iter().enumerate() {
+        if !same(x, &b[i]) {
+            return false;
+        }
+    }
+    true
+}
+
+/// Whether a row with these cells is a member of a list.
+pub fn is_among(rows: &[Row], cells: &[Scalar]) -> bool
+    ensures { result ≡ list_any (λ b. scalars.same_cells cells.now b.cells) rows.now }
+{
+    for row in rows {
+        if same_cells(cells, row.cells.as_slice()) {
+            return true;
+        }
+    }
+    false
+}
+
+/// The row at a place of a list.
+pub fn row_at(rows: &[Row], n: i64) -> Option<&Row>
+    ensures { option_copied result ≡ meant.nth rows.now n }
+{
+    if n < 0 {
+        return None;
+    }
+    rows.get(n as usize)
+}

@@ -1,0 +1,87 @@
+// The variables of a run.
+ghost use Rattle.std.specs.Prelude.{◌≡◌, [], IfOk, OnOk};
+ghost use Rattle.std.specs.Option.{option_copied, option_map};
+ghost use Rattle.qbs_base.specs.Named.{at_name};
+ghost use Rattle.java_mean.specs.Store.{put};
+ghost use Rattle.java_steps.specs.Held.{variable_in};
+
+use crate::held::Variable;
+use crate::placed::{at_place, put_at_place};
+use indexmap::IndexMap;
+use qbs_base::{Name, NoMemory};
+use std::alloc::Global;
+use std::marker::Model;
+
+/// Variables by their names, in the order in which they came to be, and for each number of a name
+/// its place among them. A look-up by a number takes two places and compares the name there, and only
+/// where the variable isn't there yet a hash.
+#[derive(Drop)]
+pub struct Store<'a> {
+    variables: IndexMap<&'a [u8], Variable<'a>>,
+    places: Vec<usize>,
+}
+
+impl<'a> Model for Store<'a> {
+    ghost use Rattle.std.specs.Prelude.{map};
+    ghost use Rattle.java_mean.specs.Store as meant;
+    ghost use Rattle.java_steps.specs.Held.{variable_in};
+
+    ghost Value = { meant.Store };
+
+    ghost view = { λ s. map (λ p. (p.0.now, variable_in p.1)) s.variables.entries };
+}
+
+// The place that a number has.
+fn place_of(places: &[usize], number: usize) -> usize {
+    match places.get(number) {
+        Some(place) => *place,
+        None => 0,
+    }
+}
+
+// Notes the place of a number.
+fn note(places: &mut Vec<usize>, number: usize, place: usize) {
+    if number < places.len() {
+        places[number] = place;
+    }
+}
+
+impl<'a> Store<'a> {
+    /// No variables, and places for so many numbers of names.
+    pub fn new(alloc: Global, size: usize) -> Result<Store<'a>, NoMemory>
+        ensures { IfOk result (λ store. store ≡ []) }
+    {
+        let mut places = Vec::new(alloc);
+        places.resize(size, 0)?;
+        Ok(Store {
+            variables: IndexMap::new(alloc),
+            places,
+        })
+    }
+
+    /// The variable of this name, which is looked for by its number first.
+    pub fn get(&self, number: usize, name: &Name) -> Option<&Variable<'a>>
+        ensures { option_map variable_in (option_copied result) ≡ at_name self.now name.now }
+    {
+        let place = place_of(self.places.as_slice(), number);
+        at_place(&self.variables, place, name.as_slice())
+    }
+
+    /// Puts a variable under a name, which is looked for by its number first, and gives the one that
+    /// was there.
+    pub fn replace(
+        &mut self,
+        number: usize,
+        name: &'a Name,
+        variable: Variable<'a>,
+    ) -> Result<Option<Variable<'a>>, NoMemory>
+        ensures old { IfOk result (λ old. option_map variable_in old ≡ at_name self.old name.now) }
+        ensures stored { OnOk result (self.new ≡ put self.old name.now (variable_in variable.entry)) }
+    {
+        let place = place_of(self.places.as_slice(), number);
+        let name = name.as_slice();
+        let put = put_at_place(&mut self.variables, place, name, variable)?;
+        note(&mut self.places, number, put.0);
+        Ok(put.1)
+    }
+}
