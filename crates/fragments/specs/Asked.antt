@@ -12,7 +12,7 @@ use Rattle.java_mean.specs.WellTyped.{IsWellTyped}
 use Rattle.java_loops.specs.Kernel.Kernel.{broken, setting_at}
 use Rattle.java_loops.specs.Kernel.Setting.{Setting}
 use Rattle.java_loops.specs.Lowering.Lowered.{Lowering}
-use Rattle.sql_emit.specs.Given.{AreKnownTo}
+use Rattle.sql_parts.specs.Given.{AreKnownTo}
 
 -- the queries that are found
 abbrev pub queries_in : List (Option PlainQuery) → List PlainQuery

@@ -12,7 +12,7 @@ ghost use Rattle.fragments.specs.Lowers.{lowering_in_code, IsOutside};
 ghost use Rattle.java_loops.specs.Meant.Lowers.{IsLowered, IsMeant};
 ghost use Rattle.java_loops.specs.Kernel.Setting.{Setting};
 ghost use Rattle.loop_text.specs.Statements.Walking.{IsLoopOf};
-ghost use Rattle.sql_emit.specs.Given.{AreKnownTo};
+ghost use Rattle.sql_parts.specs.Given.{AreKnownTo};
 
 use crate::lowered_there::lower_located;
 use crate::lowering::lowered::{Lowered, Outside};

@@ -6,7 +6,7 @@ ghost use Rattle.java_types.specs.Texts.{read_by};
 ghost use Rattle.java_mean.specs.WellTyped.{IsWellTyped};
 ghost use Rattle.java_loops.specs.Meant.Lowers.{IsLowered};
 ghost use Rattle.kernel_lang.specs.Whole.{fragment_of};
-ghost use Rattle.sql_emit.specs.Given.{AreKnownTo};
+ghost use Rattle.sql_parts.specs.Given.{AreKnownTo};
 ghost use Rattle.fragments.specs.Lowers.{lowering_in_code};
 ghost use Rattle.loop_text.specs.Statements.Walking.{IsLoopOf};
 

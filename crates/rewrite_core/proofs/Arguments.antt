@@ -6,7 +6,7 @@ use Rattle.qbs_base.specs.declared.scalar.Ty.{Ty}
 use Rattle.qbs_base.specs.declared.scalar.Value.TheVariants.{One}
 use Rattle.qbs_base.specs.declared.span.Span.{Span}
 use Rattle.qbs_base.specs.Values.{AreOf}
-use Rattle.sql_emit.specs.Given.{value_or, values_at}
+use Rattle.sql_parts.specs.Given.{value_or, values_at}
 use Rattle.java_ast.specs.Placed.{placed, placed_all}
 use Rattle.java_ast.specs.Tree as tree
 use Rattle.java_ast.specs.Tree.{Expression, Expressions, NoMore, And}

@@ -12,10 +12,10 @@ use Rattle.kernel_lang.specs.Typed.{is_typed}
 use Rattle.kernel_lang.specs.Validity as validity
 use Rattle.kernel_lang.specs.Validity.{takes_a_column}
 use Rattle.kernel_lang.proofs.Sentences.{valid}
-use Rattle.sql_emit.specs.Given.{AreKnownTo, IsGiven, SaysWhatIsClaimed}
-use Rattle.sql_emit.proofs.Claims.{says}
-use Rattle.sql_emit.proofs.Entries.{entries_are}
-use Rattle.sql_emit.proofs.Flags.{column_taken}
+use Rattle.sql_parts.specs.Given.{AreKnownTo, IsGiven, SaysWhatIsClaimed}
+use Rattle.sql_parts.proofs.Claims.{says}
+use Rattle.sql_parts.proofs.Entries.{entries_are}
+use Rattle.sql_parts.proofs.Flags.{column_taken}
 use Rattle.java_ast.specs.Tree.{PlainProgram}
 use Rattle.java_mean.specs.Asks.{frame_of}
 use Rattle.java_mean.specs.Numbers.{NumbersFit}

@@ -8,9 +8,9 @@ use Rattle.kernel_lang.specs.Plain as kernel
 use Rattle.kernel_lang.specs.Pools.{Member, chosen, members_from, members}
 use Rattle.tor_terms.specs.declared.term.Elem.TheVariants as elems
 use Rattle.qbs_base.specs.declared.span.Span.{Span}
-use Rattle.sql_emit.specs.Emitted.{query_of}
-use Rattle.sql_emit.specs.Numbered.{Emission, in_order, emission}
-use Rattle.sql_emit.specs.Scopes.{ground}
+use Rattle.sql_parts.specs.Emitted.{query_of}
+use Rattle.sql_parts.specs.Numbered.{Emission, in_order, emission}
+use Rattle.sql_parts.specs.Scopes.{ground}
 use Rattle.java_ast.specs.Tree.{Spelled, Expressions}
 use Rattle.loop_text.specs.Sites.Sites.{place_of}
 use Rattle.loop_text.specs.Statements.Names.{Names, is_among}

@@ -14,7 +14,7 @@ use Rattle.kernel_lang.specs.declared.parts.Update.TheVariants as updates
 use Rattle.kernel_lang.specs.Ends.{ScalarFits, ValueFits}
 use Rattle.kernel_lang.specs.Running.{source_value}
 use Rattle.sql_ast.specs.Grouped.{firsts}
-use Rattle.sql_emit.specs.Given as claims
+use Rattle.sql_parts.specs.Given as claims
 use Rattle.java_ast.specs.Tree.{Spelled, Expressions}
 use Rattle.java_mean.specs.Endings.{◌>>=◌}
 use Rattle.java_mean.specs.Expression.{value_of, scalars_of, answered, as_rows, same_member}

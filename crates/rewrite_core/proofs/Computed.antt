@@ -14,7 +14,7 @@ use Rattle.sql_ast.proofs.InvertedQuery.{has_query_valid}
 use Rattle.sql_ast.specs.Reader.{listed_at, atom_at, negation_in, joined_from, conjunction_at, condition_at}
 use Rattle.vc_gen.specs.Conditions.{conditions}
 use Rattle.vc_gen.specs.Soundness.{AllAccepted}
-use Rattle.sql_emit.specs.Given.{IsHeld, QueryIsCounted}
+use Rattle.sql_parts.specs.Given.{IsHeld, QueryIsCounted}
 use Rattle.sql_ast.specs.Worked.{staff_schema}
 use Rattle.java_ast.specs.Tree.{SetOf, String, Long, PlainProgram}
 use Rattle.java_mean.specs.Asked.{class_A_asking, class_J_asking, name_set_asking}

@@ -20,13 +20,13 @@ use Rattle.sql_ast.specs.Answers.{is_order_complete}
 use Rattle.sql_ast.specs.Canonical.{canonical}
 use Rattle.sql_ast.specs.Tree.{PlainQuery}
 use Rattle.sql_ast.specs.Valid.{IsQueryOf, params_in}
-use Rattle.sql_emit.specs.Given.{EntriesAreThere}
-use Rattle.sql_emit.specs.Numbered.{Emission, emission}
-use Rattle.sql_emit.specs.Scopes.{ground, def_of, table_name}
-use Rattle.sql_emit.proofs.Complete.{complete}
-use Rattle.sql_emit.proofs.Entries.{entries_are}
-use Rattle.sql_emit.proofs.Flags.{column_taken}
-use Rattle.sql_emit.proofs.Valid.{element_in}
+use Rattle.sql_parts.specs.Given.{EntriesAreThere}
+use Rattle.sql_parts.specs.Numbered.{Emission, emission}
+use Rattle.sql_parts.specs.Scopes.{ground, def_of, table_name}
+use Rattle.sql_parts.proofs.Complete.{complete}
+use Rattle.sql_parts.proofs.Entries.{entries_are}
+use Rattle.sql_parts.proofs.Flags.{column_taken}
+use Rattle.sql_parts.proofs.Valid.{element_in}
 use Rattle.java_ast.specs.Path.{found_in}
 use Rattle.java_ast.specs.Tree.{Spelled, Table, Expression, QueryLong, QueryBoolean, Expressions}
 use Rattle.java_mean.specs.Asks.{answer_type}

@@ -9,7 +9,7 @@ use Rattle.qbs_base.specs.Values.{Schema}
 use Rattle.sql_ast.specs.Answers.{is_order_complete}
 use Rattle.sql_ast.specs.Tree.{PlainQuery, Listing, Number, Truth}
 use Rattle.sql_ast.specs.Valid.{params_in}
-use Rattle.sql_emit.proofs.Tools.{eq_itself}
+use Rattle.sql_parts.proofs.Tools.{eq_itself}
 use Rattle.java_ast.specs.Tree as tree
 use Rattle.java_ast.specs.Tree.{Spelled, Expressions}
 use Rattle.java_mean.specs.Asks.{element_type, answer_type}

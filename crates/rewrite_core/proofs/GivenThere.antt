@@ -3,7 +3,7 @@ use Rattle.std.proofs.Common.{◌≡◌, ℕ, List, Option, Some, None, Ok, sym,
 use Rattle.std.specs.List.{AllByRecursion}
 use Rattle.qbs_base.specs.Values.{Schema, AreOf}
 use Rattle.kernel_lang.specs.declared.parts.Entry.{Entry}
-use Rattle.sql_emit.specs.Given.{IsGiven}
+use Rattle.sql_parts.specs.Given.{IsGiven}
 use Rattle.java_ast.specs.Tree.{Nothing, Then, PlainProgram}
 use Rattle.java_mean.specs.Asks.{frame_of}
 use Rattle.java_mean.specs.Numbers.{NumbersFit}

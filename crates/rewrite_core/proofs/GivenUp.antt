@@ -10,7 +10,7 @@ use Rattle.sql_ast.specs.declared.tree.Query.{Query}
 use Rattle.sql_ast.specs.Reading.{query}
 use Rattle.sql_ast.specs.Tree.{PlainQuery}
 use Rattle.sql_ast.specs.Valid.{IsQueryOf}
-use Rattle.sql_emit.specs.Given.{AreKnown, AreKnownTo}
+use Rattle.sql_parts.specs.Given.{AreKnown, AreKnownTo}
 use Rattle.vc_gen.specs.Soundness.{EndsAnywhere}
 use Rattle.java_ast.specs.Path.{and_then, last_of, replaced_at, statement_at}
 use Rattle.java_ast.specs.Spans.{place_of}

@@ -7,7 +7,7 @@ use Rattle.kernel_lang.specs.declared.parts.Update.{Update}
 use Rattle.kernel_lang.specs.declared.parts.Update.TheVariants as updates
 use Rattle.kernel_lang.specs.Plain.{Accumulator}
 use Rattle.sql_ast.specs.Canonical.{canonical}
-use Rattle.sql_emit.specs.Numbered.{Emission}
+use Rattle.sql_parts.specs.Numbered.{Emission}
 use Rattle.java_ast.specs.Path.{and_then}
 use Rattle.java_ast.specs.Tree.{Spelled, Expressions, Statements, Nothing, Then}
 use Rattle.loop_text.specs.Sites.Sites.{place_of}

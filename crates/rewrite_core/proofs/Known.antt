@@ -8,7 +8,7 @@ use Rattle.qbs_base.specs.declared.scalar.Value.TheVariants.{One}
 use Rattle.qbs_base.specs.Values.{Database}
 use Rattle.sql_ast.specs.Meaning.{Answered, Rows, query_answer}
 use Rattle.sql_ast.specs.Tree.{PlainQuery}
-use Rattle.sql_emit.specs.Given.{value_or, values_at, as_rows, AreAnswers}
+use Rattle.sql_parts.specs.Given.{value_or, values_at, as_rows, AreAnswers}
 use Rattle.java_ast.specs.Tree.{Expression, Expressions, NoMore, And}
 use Rattle.java_mean.specs.declared.ending.Ending.{Ending}
 use Rattle.java_mean.specs.Endings.{◌>>=◌}

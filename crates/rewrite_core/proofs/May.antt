@@ -13,9 +13,9 @@ use Rattle.vc_gen.proofs.Accepted.{all-accepted-anywhere}
 use Rattle.vc_gen.proofs.Ended.{fragment-ends-anywhere}
 use Rattle.sql_ast.specs.Tree.{PlainQuery}
 use Rattle.sql_ast.specs.Valid.{IsQueryOf}
-use Rattle.sql_emit.specs.Given.{IsHeld, QueryIsCounted}
-use Rattle.sql_emit.specs.Numbered.{Emission, emission}
-use Rattle.sql_emit.proofs.Queries.{grammatical}
+use Rattle.sql_parts.specs.Given.{IsHeld, QueryIsCounted}
+use Rattle.sql_parts.specs.Numbered.{Emission, emission}
+use Rattle.sql_parts.proofs.Queries.{grammatical}
 use Rattle.java_ast.specs.Tree.{PlainProgram}
 use Rattle.loop_text.specs.Statements.Names.{Names}
 use Rattle.loop_text.specs.Statements.Fragment as source

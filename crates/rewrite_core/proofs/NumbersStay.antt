@@ -8,7 +8,7 @@ use Rattle.kernel_lang.specs.declared.parts.Update.TheVariants as updates
 use Rattle.kernel_lang.specs.Plain.{Accumulator}
 use Rattle.tor_terms.specs.declared.term.Elem.TheVariants as elems
 use Rattle.sql_ast.specs.Canonical.{canonical}
-use Rattle.sql_emit.specs.Numbered.{Emission}
+use Rattle.sql_parts.specs.Numbered.{Emission}
 use Rattle.java_ast.specs.Path.{with_body}
 use Rattle.java_ast.specs.Placed.{placed}
 use Rattle.java_ast.specs.Tree.{Spelled, Expression, Expressions, Statement, Statements, Nothing, Then, PlainMethod, PlainProgram}

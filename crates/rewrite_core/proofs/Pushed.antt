@@ -1,7 +1,7 @@
 -- The statements that ask, as code adds them one after the other.
 use Rattle.std.proofs.Common.{◌≡◌, ℕ, suc, ◌+◌, List, [], ◌∷◌, ◌++◌, length, slice_get, Option, Some, None, refl, sym, ap, ap₂, ◌∙◌, subst, arith}
 use Rattle.kernel_lang.specs.Plain.{Accumulator}
-use Rattle.sql_emit.specs.Numbered.{Emission}
+use Rattle.sql_parts.specs.Numbered.{Emission}
 use Rattle.sql_ast.specs.Valid.{IsQueryOf}
 use Rattle.java_ast.specs.declared.tree.Stmt.{Stmt}
 use Rattle.java_ast.specs.Path.{and_then}

@@ -6,7 +6,7 @@ use Rattle.std.proofs.lemmas.Option.{slice_get-get_or}
 use Rattle.qbs_base.specs.Columns.{table_number}
 use Rattle.qbs_base.specs.declared.columns.Table.{Table}
 use Rattle.qbs_base.specs.Values.{Schema}
-use Rattle.sql_emit.specs.Scopes.{table_name}
+use Rattle.sql_parts.specs.Scopes.{table_name}
 use Rattle.java_ast.specs.Path.{found_in}
 use Rattle.java_ast.specs.Tree as tree
 use Rattle.java_ast.specs.Tree.{Spelled}

@@ -22,10 +22,10 @@ use Rattle.sql_ast.specs.Meaning.{nth}
 use Rattle.sql_ast.specs.Tree.{Filter, PlainQuery, Listing, Number, Truth}
 use Rattle.sql_ast.specs.Names.{◌>>=◌}
 use Rattle.sql_ast.specs.Typing.{ty_of_col}
-use Rattle.sql_emit.specs.Emitted.{item, query_by, query_of, where_of}
-use Rattle.sql_emit.specs.Numbered.{with_filter, in_order}
-use Rattle.sql_emit.proofs.Tools.{eq_true}
-use Rattle.sql_emit.specs.Scopes.{Ground, numbered, number_in, outermost, def_of, from_item, from_items, column}
+use Rattle.sql_parts.specs.Emitted.{item, query_by, query_of, where_of}
+use Rattle.sql_parts.specs.Numbered.{with_filter, in_order}
+use Rattle.sql_parts.proofs.Tools.{eq_true}
+use Rattle.sql_parts.specs.Scopes.{Ground, numbered, number_in, outermost, def_of, from_item, from_items, column}
 use Rattle.java_mean.specs.Asks.{item_type, answer_type}
 use Rattle.java_mean.specs.declared.types.JavaType.{JavaType}
 use Rattle.java_mean.specs.declared.types.JavaType.TheVariants.{Of, Listed, Distinct}

@@ -17,12 +17,12 @@ use Rattle.kernel_lang.proofs.Sentences.{valid}
 use Rattle.sql_ast.specs.Canonical.{canonical}
 use Rattle.sql_ast.specs.Tree.{PlainQuery}
 use Rattle.sql_ast.specs.Valid.{IsQueryOf, params_in}
-use Rattle.sql_emit.specs.Given.{EntriesAreThere}
-use Rattle.sql_emit.specs.Numbered.{Emission, emission}
-use Rattle.sql_emit.specs.Scopes.{ground}
-use Rattle.sql_emit.proofs.Entries.{entries_are}
-use Rattle.sql_emit.proofs.Flags.{column_taken}
-use Rattle.sql_emit.proofs.Valid.{element_in}
+use Rattle.sql_parts.specs.Given.{EntriesAreThere}
+use Rattle.sql_parts.specs.Numbered.{Emission, emission}
+use Rattle.sql_parts.specs.Scopes.{ground}
+use Rattle.sql_parts.proofs.Entries.{entries_are}
+use Rattle.sql_parts.proofs.Flags.{column_taken}
+use Rattle.sql_parts.proofs.Valid.{element_in}
 use Rattle.java_ast.specs.Tree.{Spelled, Expressions, PlainMethod, PlainProgram}
 use Rattle.java_mean.specs.Asks.{answer_type, type_of_found, frame_of}
 use Rattle.java_mean.specs.declared.types.JavaType.{JavaType}

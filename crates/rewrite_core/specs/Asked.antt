@@ -8,8 +8,8 @@ use Rattle.kernel_lang.specs.declared.parts.Update.{Update}
 use Rattle.kernel_lang.specs.declared.parts.Update.TheVariants as updates
 use Rattle.kernel_lang.specs.Plain.{Accumulator}
 use Rattle.sql_ast.specs.Canonical.{canonical}
-use Rattle.sql_emit.specs.Numbered.{Emission, emitted}
-use Rattle.sql_emit.specs.Scopes.{def_of, table_name}
+use Rattle.sql_parts.specs.Numbered.{Emission, emitted}
+use Rattle.sql_parts.specs.Scopes.{def_of, table_name}
 use Rattle.java_ast.specs.Placed.{placed}
 use Rattle.java_ast.specs.Tree.{Spelled, Table, String, Expression, Query, QueryLong, QueryBoolean, NewList, NewSetOf, Expressions, NoMore, And, Statement, PlainProgram}
 use Rattle.loop_text.specs.Sites.Sites.{place_of}

@@ -6,8 +6,8 @@ use Rattle.qbs_base.specs.Values.{Schema, AreOf}
 use Rattle.kernel_lang.specs.declared.parts.Entry.{Entry}
 use Rattle.sql_ast.specs.Tree.{PlainQuery}
 use Rattle.sql_ast.specs.Valid.{IsQueryOf}
-use Rattle.sql_emit.specs.Given.{IsGiven}
-use Rattle.sql_emit.specs.Numbered.{Emission}
+use Rattle.sql_parts.specs.Given.{IsGiven}
+use Rattle.sql_parts.specs.Numbered.{Emission}
 use Rattle.vc_gen.specs.Soundness.{EndsAnywhere}
 use Rattle.java_ast.specs.Tree.{Spelled, PlainProgram}
 use Rattle.java_mean.specs.declared.types.JavaType.{JavaType}

@@ -15,8 +15,8 @@ use Rattle.sql_ast.specs.Canonical.{canonical}
 use Rattle.sql_ast.specs.Reading.{query}
 use Rattle.sql_ast.specs.Tree.{PlainQuery}
 use Rattle.sql_ast.specs.Valid.{IsQueryOf}
-use Rattle.sql_emit.specs.Numbered.{Emission, emitted}
-use Rattle.sql_emit.specs.Scopes.{def_of, table_name}
+use Rattle.sql_parts.specs.Numbered.{Emission, emitted}
+use Rattle.sql_parts.specs.Scopes.{def_of, table_name}
 use Rattle.java_ast.specs.Path.{and_then}
 use Rattle.java_ast.specs.Reading.{expression, statements, program}
 use Rattle.java_ast.specs.Tree.{Spelled, Table, Expression, Query, QueryLong, QueryBoolean, NewSetOf, Expressions, Statement, Statements, Nothing, Then, PlainProgram}

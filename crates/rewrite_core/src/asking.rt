@@ -11,7 +11,7 @@ ghost use Rattle.loop_text.specs.Statements.Setting as setting;
 ghost use Rattle.sql_ast.specs.Canonical.{canonical};
 ghost use Rattle.sql_ast.specs.Reading.{query as plain_query};
 ghost use Rattle.sql_ast.specs.Valid.{IsQueryOf};
-ghost use Rattle.sql_emit.specs.Given.{AreKnownTo, IsOutermost};
+ghost use Rattle.sql_parts.specs.Given.{AreKnownTo, IsOutermost};
 ghost use Rattle.sql_emit.specs.Reading.{emission_of};
 ghost use Rattle.rewrite_core.specs.Asked.{type_started};
 ghost use Rattle.rewrite_core.specs.Looped as specs;

@@ -11,7 +11,7 @@ ghost use Rattle.kernel_lang.specs.Validity as validity;
 ghost use Rattle.vc_gen.specs.Conditions.{conditions};
 ghost use Rattle.vc_gen.specs.Soundness.{AllAccepted, EndsAnywhere};
 ghost use Rattle.sql_ast.specs.Tree.{PlainQuery};
-ghost use Rattle.sql_emit.specs.Given.{IsHeld, QueryIsCounted};
+ghost use Rattle.sql_parts.specs.Given.{IsHeld, QueryIsCounted};
 ghost use Rattle.java_ast.specs.Tree.{Spelled, Statement, Statements, Nothing, Then, PlainMethod, PlainProgram};
 ghost use Rattle.java_mean.specs.Asks.{frame_of};
 ghost use Rattle.java_mean.specs.Fits.{in_first};

@@ -23,7 +23,7 @@ ghost use Rattle.loop_text.specs.Statements.Fragment.{Fragment, fragment_at};
 ghost use Rattle.loop_text.specs.Statements.KeptStatements.{with_numbers};
 ghost use Rattle.sql_ast.specs.Reading.{query};
 ghost use Rattle.sql_ast.specs.Tree.{PlainQuery};
-ghost use Rattle.sql_emit.specs.Given.{AreKnownTo};
+ghost use Rattle.sql_parts.specs.Given.{AreKnownTo};
 ghost use Rattle.vc_gen.specs.Soundness.{EndsAnywhere};
 ghost use Rattle.fragments.specs.Lowers.{lowering_in_code};
 ghost use Rattle.rewrite_core.specs.Asked.{replaced};

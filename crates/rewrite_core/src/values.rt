@@ -5,7 +5,7 @@ ghost use Rattle.java_ast.specs.Reading.{spelled, expression, expressions};
 ghost use Rattle.java_ast.specs.Tree as plain;
 ghost use Rattle.java_loops.specs.Lowering.Spelling.{element_spelled};
 ghost use Rattle.kernel_lang.specs.Whole.{fragment_of};
-ghost use Rattle.sql_emit.specs.Scopes.{def_of, table_name};
+ghost use Rattle.sql_parts.specs.Scopes.{def_of, table_name};
 ghost use Rattle.rewrite_core.specs.Asked as specs;
 ghost use Rattle.rewrite_core.specs.Looped as looped;
 

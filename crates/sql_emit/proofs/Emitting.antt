@@ -25,18 +25,19 @@ use Rattle.sql_ast.specs.Reading.{query}
 use Rattle.sql_ast.specs.Tree.{Filter, Everything, PlainQuery}
 use Rattle.sql_ast.specs.Valid.{IsQueryOf}
 use Rattle.sql_emit.specs.declared.emission.Emitted.{Emitted}
-use Rattle.sql_emit.specs.Emitted.{query_by, query_of, where_of}
-use Rattle.sql_emit.specs.Given.{AreKnownTo, IsHeld, IsOutermost, QueryIsCounted, SaysWhatIsClaimed, AnswersWhatIsClaimed, HasEntries, TextsAreUtf8, QueryIsUtf8}
-use Rattle.sql_emit.specs.Numbered.{Emission, filter_in, filter_uses, first_uses, renumbered_filter, with_filter, type_of, numbered_by, in_order, emission, emitted}
-use Rattle.sql_emit.specs.Reading.{emission_of, number_first}
-use Rattle.sql_emit.specs.Scopes.{Ground, ground}
-use Rattle.sql_emit.proofs.Claims.{says}
-use Rattle.sql_emit.proofs.Complete.{complete}
-use Rattle.sql_emit.proofs.Entries.{entries_are}
+use Rattle.sql_parts.specs.Emitted.{query_by, query_of, where_of}
+use Rattle.sql_parts.specs.Given.{AreKnownTo, IsHeld, IsOutermost, QueryIsCounted, SaysWhatIsClaimed, AnswersWhatIsClaimed, HasEntries, TextsAreUtf8, QueryIsUtf8}
+use Rattle.sql_parts.specs.Numbered.{Emission, filter_in, filter_uses, first_uses, renumbered_filter, with_filter, type_of, numbered_by, in_order, emission, emitted}
+use Rattle.sql_parts.specs.Reading.{number_first}
+use Rattle.sql_emit.specs.Reading.{emission_of}
+use Rattle.sql_parts.specs.Scopes.{Ground, ground}
+use Rattle.sql_parts.proofs.Claims.{says}
+use Rattle.sql_parts.proofs.Complete.{complete}
+use Rattle.sql_parts.proofs.Entries.{entries_are}
 use Rattle.sql_emit.proofs.Flagged.{member_is}
-use Rattle.sql_emit.proofs.Queries.{le_of, grammatical}
-use Rattle.sql_emit.proofs.Utf8.{queries_are_utf8}
-use Rattle.sql_emit.proofs.Valid.{MemberAt, chain_parts, member_at}
+use Rattle.sql_parts.proofs.Queries.{le_of, grammatical}
+use Rattle.sql_parts.proofs.Utf8.{queries_are_utf8}
+use Rattle.sql_parts.proofs.Valid.{MemberAt, chain_parts, member_at}
 
 -- ---- what a fragment's accumulators are
 

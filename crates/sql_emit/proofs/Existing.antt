@@ -7,10 +7,10 @@ use Rattle.sql_ast.specs.declared.tree.Cond.{Cond}
 use Rattle.sql_ast.specs.declared.tree.FromItem.{FromItem}
 use Rattle.sql_ast.specs.Reading.{condition, filter_of}
 use Rattle.sql_ast.specs.Tree.{Filter, Everything, Exists}
-use Rattle.sql_emit.specs.Emitted.{formula, joined, limits, best_tests, conditions, no_flag, flag_loops, flag_exists, flag_condition, where_of}
-use Rattle.sql_emit.specs.Reading.{scope_by, all_also}
-use Rattle.sql_emit.proofs.Also.{also_append, also_joined}
-use Rattle.sql_emit.specs.Scopes.{Ground, Scope, outermost, inner, from_items}
+use Rattle.sql_parts.specs.Emitted.{formula, joined, limits, best_tests, conditions, no_flag, flag_loops, flag_exists, flag_condition, where_of}
+use Rattle.sql_parts.specs.Reading.{scope_by, all_also}
+use Rattle.sql_parts.proofs.Also.{also_append, also_joined}
+use Rattle.sql_parts.specs.Scopes.{Ground, Scope, outermost, inner, from_items}
 
 inner_is : (own outer : List ℕ) → 0 < length outer → scope_by own outer ≡ inner (outermost outer) own
 inner_is own [] h = absurd (omega (arith, h))

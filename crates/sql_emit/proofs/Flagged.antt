@@ -7,10 +7,10 @@ use Rattle.qbs_base.specs.declared.memory.NoMemory.{NoMemory}
 use Rattle.tor_terms.specs.Plain.{forms_of}
 use Rattle.sql_ast.specs.declared.tree.Cond.{Cond}
 use Rattle.sql_ast.specs.Reading.{condition}
-use Rattle.sql_emit.specs.declared.ground.Ground.{Ground as CodeGround}
-use Rattle.sql_emit.specs.Emitted.{fixed, flag_exists, flag_condition}
-use Rattle.sql_emit.specs.Reading.{ground_of, number_first}
-use Rattle.sql_emit.specs.Scopes.{Scope}
+use Rattle.sql_parts.specs.declared.ground.Ground.{Ground as CodeGround}
+use Rattle.sql_parts.specs.Emitted.{fixed, flag_exists, flag_condition}
+use Rattle.sql_parts.specs.Reading.{ground_of, number_first}
+use Rattle.sql_parts.specs.Scopes.{Scope}
 
 abbrev member_of : List ℕ → ℕ → Accumulator → Member
 member_of cand n a = (a, chosen cand n a.pool)

@@ -10,23 +10,25 @@ ghost use Rattle.sql_ast.specs.Answers.{IsOrderComplete};
 ghost use Rattle.sql_ast.specs.Canonical.{canonical};
 ghost use Rattle.sql_ast.specs.Reading.{query};
 ghost use Rattle.sql_ast.specs.Valid.{IsQueryOf};
-ghost use Rattle.sql_emit.specs.Emitted.{query_of};
-ghost use Rattle.sql_emit.specs.Given.{AreKnownTo, IsOutermost, AnswersWhatIsClaimed, HasEntries};
-ghost use Rattle.sql_emit.specs.Numbered.{emitted, in_order};
-ghost use Rattle.sql_emit.specs.Reading.{ground_of, emission_of, AreShort};
-ghost use Rattle.sql_emit.specs.Scopes.{ground as plain_ground};
+ghost use Rattle.sql_parts.specs.Emitted.{query_of};
+ghost use Rattle.sql_parts.specs.Given.{AreKnownTo, IsOutermost, AnswersWhatIsClaimed, HasEntries};
+ghost use Rattle.sql_parts.specs.Numbered.{emitted, in_order};
+ghost use Rattle.sql_parts.specs.Reading.{ground_of, AreShort};
+ghost use Rattle.sql_emit.specs.Reading.{emission_of};
+ghost use Rattle.sql_parts.specs.Scopes.{ground as plain_ground};
 
-use crate::counted::count_queries;
 use crate::filter::{accumulator_filter, first_number};
-use crate::ground::Ground;
-use crate::held::read_numbers;
-use crate::numbered::{order_of, renumbered_filter, types_in};
 use crate::query::query_by;
-use crate::texts::read_texts;
+use crate::types::types_in;
 use kernel_lang::{Acc, Candidate, KFragment};
 use qbs_base::{NoMemory, NumberLists, Numbers, Ty};
 use schema::Schema;
 use sql_ast::{Queries, Query};
+use sql_parts::counted::count_queries;
+use sql_parts::ground::Ground;
+use sql_parts::held::read_numbers;
+use sql_parts::numbered::{order_of, renumbered_filter};
+use sql_parts::texts::read_texts;
 use std::alloc::Global;
 
 /// A query, and for each of its parameters in order the number of the entry whose value it takes.

@@ -5,117 +5,25 @@ ghost use Rattle.tor_terms.specs.Plain.{form_of, forms_of};
 ghost use Rattle.kernel_lang.specs.Plain.{accumulator};
 ghost use Rattle.kernel_lang.specs.Pools.{chosen, members_from};
 ghost use Rattle.sql_ast.specs.Reading.{condition, filter_of};
-ghost use Rattle.sql_emit.specs.Emitted as spec;
-ghost use Rattle.sql_emit.specs.Scopes.{list_of};
-ghost use Rattle.sql_emit.specs.Reading.{ground_of, scope_of, scope_by, IsSmall, AreShort, with_also, all_also, number_first};
+ghost use Rattle.sql_parts.specs.Emitted as spec;
+ghost use Rattle.sql_parts.specs.Reading.{ground_of, scope_of, IsSmall, AreShort, all_also, number_first};
 
-use crate::build::{both, either, exists};
-use crate::ground::{Ground, Scope, column, from_items, number_in, position};
-use crate::literal::{fixed, quiet_atom, quiet_formula, signed};
-use crate::within::sum;
-use kernel_lang::{Acc, ListDef, Update};
-use qbs_base::{NoMemory, Scalar};
-use sql_ast::{Cmp, Cond, SqlCol, SqlOpnd};
+use crate::literal::{quiet_atom, quiet_formula};
+use kernel_lang::{Acc, Update};
+use qbs_base::NoMemory;
+use sql_ast::{Cond, SqlOpnd};
+use sql_parts::build::{both, either, exists};
+use sql_parts::comparisons::{fixed, signed, way_test};
+use sql_parts::ground::{Ground, Scope, elem_col, from_items};
+use sql_parts::limiting::{also, limits};
+use sql_parts::within::sum;
 use std::alloc::Global;
-use tor_terms::{Atom, Elem, Formula, Way};
-
-/// A WHERE with one condition more.
-fn also(alloc: Global, filter: Option<Cond>, c: Cond) -> Result<Option<Cond>, NoMemory>
-    ensures { IfOk result (λ f. filter_of f ≡ with_also (filter_of filter) (condition c)) }
-{
-    match filter {
-        None => Ok(Some(c)),
-        Some(a) => Ok(Some(both(alloc, a, c)?)),
-    }
-}
-
-/// The first rows of a list without keys.
-fn limit_of_list(
-    alloc: Global,
-    n: u32,
-    list: &ListDef,
-    filter: Option<Cond>,
-) -> Result<Option<Cond>, NoMemory>
-    ensures { IfOk result (λ f. filter_of f ≡ all_also (filter_of filter) (spec.limit_tests n list.now.keys list.now.limit)) }
-{
-    if !list.keys.is_empty() {
-        return Ok(filter);
-    }
-    let limit = match list.limit {
-        Some(limit) => limit,
-        None => return Ok(filter),
-    };
-    let limit = match i64::try_from(limit) {
-        Ok(limit) => limit,
-        Err(_) => return Err(NoMemory),
-    };
-    let first = SqlOpnd::Column(position(n));
-    also(
-        alloc,
-        filter,
-        Cond::Compare(Cmp::Lt, first, SqlOpnd::Lit(Scalar::Long(limit))),
-    )
-}
-
-fn limit_of_loop(
-    alloc: Global,
-    g: Ground,
-    n: u32,
-    j: u32,
-    filter: Option<Cond>,
-) -> Result<Option<Cond>, NoMemory>
-    ensures { IfOk result (λ f.
-        filter_of f ≡ all_also (filter_of filter) (spec.limit_tests n (list_of (ground_of g.entry) j).keys (list_of (ground_of g.entry) j).limit)) }
-{
-    match g.lists.get(j as usize) {
-        Some(list) => limit_of_list(alloc, n, list, filter),
-        None => Ok(filter),
-    }
-}
-
-#[tactic(auto, using(crate::proofs::Also::also_append))]
-fn limits(
-    alloc: Global,
-    g: Ground,
-    n: u32,
-    loops: &[u32],
-    filter: Option<Cond>,
-) -> Result<Option<Cond>, NoMemory>
-    requires { n + length loops.now < 2 ^ 32 }
-    ensures { IfOk result (λ f. filter_of f ≡ all_also (filter_of filter) (spec.limits (ground_of g.entry) n loops.now)) }
-{
-    match loops.split_first() {
-        None => Ok(filter),
-        Some((j, rest)) => {
-            let filter = limit_of_loop(alloc, g, n + 1, *j, filter)?;
-            limits(alloc, g, n + 1, rest, filter)
-        }
-    }
-}
+use tor_terms::{Atom, Formula};
 
 fn has_number(cand: &[u32], n: u32) -> bool
     ensures { result ≡ list_any (nat_eq n) cand.now }
 {
     cand.iter().any(|m| n == *m)
-}
-
-pub fn elem_col(alloc: Global, g: Ground, s: Scope, e: &Elem) -> Result<SqlCol, NoMemory>
-    requires { IsSmall s }
-    ensures { IfOk result (λ col. col ≡ spec.elem_col (ground_of g.entry) (scope_of s.entry) e.now) }
-{
-    match e {
-        Elem::Whole(j) => Ok(position(number_in(s, *j))),
-        Elem::Field(j, c) => column(alloc, g, number_in(s, *j), *j, *c),
-    }
-}
-
-fn way_test(way: Way) -> Cmp
-    ensures { result ≡ spec.way_test way }
-{
-    match way {
-        Way::Max => Cmp::Gt,
-        Way::Min => Cmp::Lt,
-    }
 }
 
 /// What is better than the start.
@@ -173,7 +81,7 @@ fn quiet_formulas(
 }
 
 /// The WHERE of a flag, whose own loops have the FROM items after `n`.
-#[tactic(auto, using(crate::proofs::Also::also))]
+#[tactic(auto, using(sql_parts::proofs::Also::also))]
 fn quiet_filter(
     alloc: Global,
     g: Ground,
@@ -240,7 +148,7 @@ fn flag_loops(acc: &Acc) -> &[u32]
 }
 
 /// Some combination of the rows of a flag's own loops.
-#[tactic(auto, using(crate::proofs::Also::also))]
+#[tactic(auto, using(sql_parts::proofs::Also::also))]
 fn flag_exists(alloc: Global, g: Ground, s: Scope, acc: &Acc, first: u32) -> Result<Cond, NoMemory>
     requires outermost { s.outer.now ≡ [] }
     requires some { 0 < length s.own.now }
@@ -354,7 +262,7 @@ fn formulas(
 
 /// The WHERE of an accumulator that stands outside all loops, whose first formula has the number
 /// `first`.
-#[tactic(auto, using(crate::proofs::Also::also))]
+#[tactic(auto, using(sql_parts::proofs::Also::also))]
 pub fn accumulator_filter(
     alloc: Global,
     g: Ground,

@@ -1,66 +1,13 @@
-// ORDER BY and LIMIT of list queries.
-ghost use Rattle.std.specs.Prelude.{◌≡◌, ◌+◌, ◌<◌, ◌^◌, ◌++◌, length, map, IfOk, OnOk};
-ghost use Rattle.sql_emit.specs.Emitted as spec;
-ghost use Rattle.sql_emit.specs.Reading.{ground_of};
-ghost use Rattle.sql_emit.specs.Scopes.{list_of};
+// ORDER BY of list queries.
+ghost use Rattle.std.specs.Prelude.{◌≡◌, ◌+◌, ◌<◌, ◌^◌, ◌++◌, length, IfOk, OnOk};
+ghost use Rattle.sql_parts.specs.Emitted as spec;
+ghost use Rattle.sql_parts.specs.Reading.{ground_of};
 
-use crate::ground::{Ground, column, position};
-use kernel_lang::{Col, ListDef};
 use qbs_base::{Items, NoMemory};
-use sql_ast::{SqlKey, SqlKeys};
+use sql_ast::SqlKeys;
+use sql_parts::ground::Ground;
+use sql_parts::sort_keys::{add_list_keys, list_cols, position_key};
 use std::alloc::Global;
-
-/// A key of the list of the loop `j`, whose FROM item has the number `n`.
-fn key(alloc: Global, g: Ground, n: u32, j: u32, k: Col) -> Result<SqlKey, NoMemory>
-    ensures { IfOk result (λ key. key ≡ spec.key (ground_of g.entry) n j k) }
-{
-    let col = column(alloc, g, n, j, k.column)?;
-    Ok(SqlKey {
-        least: false,
-        col,
-        down: k.down,
-    })
-}
-
-/// The position of a FROM item as a key, or the least position of a group.
-pub fn position_key(least: bool, n: u32) -> SqlKey
-    ensures { result ≡ spec.position_key least n }
-{
-    SqlKey {
-        least,
-        col: position(n),
-        down: false,
-    }
-}
-
-fn add_list_keys(
-    alloc: Global,
-    g: Ground,
-    n: u32,
-    j: u32,
-    cols: &[Col],
-    all: &mut SqlKeys,
-) -> Result<(), NoMemory>
-    ensures { OnOk result (all.new ≡ all.old ++ map (spec.key (ground_of g.entry) n j) cols.now) }
-{
-    match cols.split_first() {
-        None => Ok(()),
-        Some((k, rest)) => {
-            all.push(key(alloc, g, n, j, *k)?)?;
-            add_list_keys(alloc, g, n, j, rest, all)
-        }
-    }
-}
-
-/// The keys of the list of the loop `j`.
-fn list_cols<'a>(g: Ground<'a>, j: u32) -> &'a [Col]
-    ensures { result.now ≡ (list_of (ground_of g.entry) j).keys }
-{
-    match g.lists.get(j as usize) {
-        Some(list) => list.keys.as_slice(),
-        None => &[],
-    }
-}
 
 /// For each of these loops, whose FROM items have the numbers after `n`, the keys of its list and
 /// then its position.
@@ -92,24 +39,4 @@ pub fn keys(alloc: Global, g: Ground, loops: &[u32]) -> Result<SqlKeys, NoMemory
     let mut all = Items::new(alloc);
     add_keys(alloc, g, 0, loops, &mut all)?;
     Ok(all)
-}
-
-/// The limit of a list with keys: that of a list without is a condition.
-fn sorted_limit(list: &ListDef) -> Option<u64>
-    ensures { result ≡ spec.sorted_limit list.now.keys list.now.limit }
-{
-    if list.keys.is_empty() {
-        None
-    } else {
-        list.limit
-    }
-}
-
-/// The limit of a list query over these loops.
-pub fn limit_of(g: Ground, loops: &[u32]) -> Option<u64>
-    ensures { result ≡ spec.limit_of (ground_of g.entry) loops.now }
-{
-    let first = loops.first()?;
-    let list = g.lists.get(*first as usize)?;
-    sorted_limit(list)
 }

@@ -4,7 +4,7 @@ use Rattle.std.proofs.lemmas.Bool.Decides.{nat_tests}
 use Rattle.kernel_lang.specs.declared.parts.Acc.{Acc}
 use Rattle.kernel_lang.specs.Plain.{Accumulator, Fragment, accumulator}
 use Rattle.kernel_lang.specs.Worked.{class_A}
-use Rattle.sql_emit.specs.Given.{IsOutermost}
+use Rattle.sql_parts.specs.Given.{IsOutermost}
 
 is_zero : (n : ℕ) → nat_eq n 0 ≡ true → n ≡ 0
 is_zero n h = grind (arith, nat_tests)

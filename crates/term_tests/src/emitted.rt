@@ -3,7 +3,7 @@ ghost use Rattle.std.specs.Prelude.{◌≡◌, true};
 ghost use Rattle.kernel_lang.specs.Typed.{is_typed};
 ghost use Rattle.kernel_lang.specs.Whole.{fragment_of};
 ghost use Rattle.kernel_lang.specs.Worked.{class_A};
-ghost use Rattle.sql_emit.specs.Given.{IsOutermost};
+ghost use Rattle.sql_parts.specs.Given.{IsOutermost};
 
 mod fragments;
 

@@ -11,7 +11,7 @@ use Rattle.java_mean.proofs.Members.{all_added}
 use Rattle.java_types.specs.Texts.{read_by}
 use Rattle.java_types.proofs.Found.{found_exactly}
 use Rattle.kernel_lang.specs.Plain as kernel
-use Rattle.sql_emit.specs.Given.{AreKnownTo}
+use Rattle.sql_parts.specs.Given.{AreKnownTo}
 use Rattle.fragments.specs.Asked.{queries_in}
 
 -- what a text in memory is read as is a query of the schema

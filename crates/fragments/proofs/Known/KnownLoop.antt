@@ -31,7 +31,7 @@ use Rattle.java_loops.proofs.Placing.PlaceLoop.{kernel_unbroken}
 use Rattle.java_loops.proofs.Placing.PlaceTyped.{FragmentThere}
 use Rattle.java_loops.proofs.Typing.TypedFragment.{fragment_fits}
 use Rattle.java_loops.proofs.Valid.ValidThere.{IsEntered}
-use Rattle.sql_emit.specs.Given.{AreKnown}
+use Rattle.sql_parts.specs.Given.{AreKnown}
 use Rattle.fragments.specs.Asked.{queries_in, IsKernelLoop, HasQueriesOf, HasKnownQueries}
 use Rattle.fragments.proofs.Known.KnownArguments.{entry_types, arguments_entered}
 use Rattle.fragments.proofs.Known.KnownList.{query_for, arguments_for, IsKnownHere, known_here}

@@ -15,8 +15,8 @@ use Rattle.java_loops.specs.Lowering.Numbering.{known_of, numbers_of}
 use Rattle.java_loops.proofs.Numbers.Numberings.{type_of_members, numbering}
 use Rattle.java_loops.proofs.Typing.TypedMembers.{MemberTyped, members_typed}
 use Rattle.java_loops.proofs.Valid.ValidVisits.{all_weaker}
-use Rattle.sql_emit.specs.Emitted.{item_col}
-use Rattle.sql_emit.specs.Given.{known_type, MemberFits}
+use Rattle.sql_parts.specs.Emitted.{item_col}
+use Rattle.sql_parts.specs.Given.{known_type, MemberFits}
 use Rattle.fragments.specs.Asked.{queries_in}
 use Rattle.fragments.proofs.Known.KnownList.{query_for, IsKnownHere}
 

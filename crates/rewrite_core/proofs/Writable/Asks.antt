@@ -14,10 +14,10 @@ use Rattle.kernel_lang.specs.Pools.{Member, chosen, members}
 use Rattle.sql_ast.specs.Canonical.{canonical}
 use Rattle.sql_ast.specs.Tree.{PlainQuery}
 use Rattle.sql_ast.specs.Valid.{IsQueryOf}
-use Rattle.sql_emit.specs.Given.{QueryIsUtf8, QueriesAreUtf8}
-use Rattle.sql_emit.specs.Numbered.{Emission, emission}
-use Rattle.sql_emit.specs.Scopes.{def_of, table_name}
-use Rattle.sql_emit.proofs.Utf8.{queries_are_utf8}
+use Rattle.sql_parts.specs.Given.{QueryIsUtf8, QueriesAreUtf8}
+use Rattle.sql_parts.specs.Numbered.{Emission, emission}
+use Rattle.sql_parts.specs.Scopes.{def_of, table_name}
+use Rattle.sql_parts.proofs.Utf8.{queries_are_utf8}
 use Rattle.java_ast.specs.Path.{and_then, found_in}
 use Rattle.java_ast.specs.Placed.{placed, placed_all}
 use Rattle.java_ast.specs.Tree.{Spelled, Table, Expression, Expressions, NoMore, And, Statement, Declare, Assign, Add, Sort, If, IfElse, ForEach, While, Print, Return, Break, Statements, Nothing, Then}

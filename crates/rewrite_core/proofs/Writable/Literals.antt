@@ -9,7 +9,7 @@ use Rattle.tor_terms.specs.declared.term.Atom.TheVariants as atoms
 use Rattle.tor_terms.specs.declared.term.Operand.{Operand}
 use Rattle.sql_ast.specs.Tree.{PlainQuery}
 use Rattle.sql_ast.specs.Utf8.{ScalarIsUtf8, LiteralsAreUtf8}
-use Rattle.sql_emit.specs.Given.{LiteralIsUtf8, AtomIsUtf8}
+use Rattle.sql_parts.specs.Given.{LiteralIsUtf8, AtomIsUtf8}
 use Rattle.java_ast.specs.declared.tree.Op.{Op}
 use Rattle.java_ast.specs.declared.tree.Op.TheVariants as ops
 use Rattle.java_ast.specs.Tree.{Expression, Expressions, NoMore, And, Statement, Declare, Assign, Add, Sort, If, IfElse, ForEach, While, Print, Return, Break, Statements, Nothing, Then}

@@ -16,7 +16,7 @@ use Rattle.java_loops.specs.Lowering.Placing.{fragment_once_at}
 use Rattle.java_loops.specs.Kernel.Setting.{Setting}
 use Rattle.fragments.specs.Helping.Verdicts.{BreaksFirst, IsLoweredFrom}
 use Rattle.fragments.specs.declared.places.position.Located.{Located}
-use Rattle.sql_emit.specs.Given.{AreKnownTo}
+use Rattle.sql_parts.specs.Given.{AreKnownTo}
 use Rattle.java_loops.proofs.Kept.KeptMeant.{lowered_is_meant}
 use Rattle.fragments.proofs.Known.KnownHeld.{known_held}
 use Rattle.fragments.proofs.Located.SettingThere.{setting_located, loop_is_found, located_may, located_lowered, located_fits, located_known, located_breaks}

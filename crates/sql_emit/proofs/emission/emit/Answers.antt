@@ -3,7 +3,7 @@ use Rattle.std.specs.List.{AllByRecursion}
 use Rattle.kernel_lang.specs.Whole.{fragment_of}
 use Rattle.sql_ast.specs.declared.tree.Query.{Query}
 use Rattle.sql_ast.specs.Reading.{query}
-use Rattle.sql_emit.specs.Given.{QueryIsCounted, TextsAreUtf8}
+use Rattle.sql_parts.specs.Given.{QueryIsCounted, TextsAreUtf8}
 use Rattle.sql_emit.proofs.Emitting.{grammar_by, order_by, entries_by, utf8_by, meaning_by}
 use Rattle.sql_emit.proofs.emission.emit.Goals as goal
 

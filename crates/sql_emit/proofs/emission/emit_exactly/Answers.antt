@@ -3,7 +3,7 @@ use Rattle.kernel_lang.specs.declared.parts.Acc.{Acc}
 use Rattle.kernel_lang.specs.Plain.{accumulator}
 use Rattle.kernel_lang.proofs.Listing.{all_at}
 use Rattle.sql_ast.specs.Reading.{query}
-use Rattle.sql_emit.specs.Reading.{ground_of, number_first}
+use Rattle.sql_parts.specs.Reading.{ground_of, number_first}
 use Rattle.sql_emit.proofs.Emitting.{accs_short, accs_some, exact_by}
 use Rattle.sql_emit.proofs.emission.emit_exactly.Goals as goal
 

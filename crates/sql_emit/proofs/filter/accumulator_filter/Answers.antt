@@ -3,7 +3,7 @@ use Rattle.tor_terms.specs.declared.term.Formula.{Formula}
 use Rattle.tor_terms.specs.Plain.{forms_of}
 use Rattle.kernel_lang.specs.Plain.{accumulator}
 use Rattle.kernel_lang.specs.Pools.{chosen}
-use Rattle.sql_emit.specs.Reading.{ground_of}
+use Rattle.sql_parts.specs.Reading.{ground_of}
 use Rattle.sql_emit.proofs.Existing.{where_from}
 use Rattle.sql_emit.proofs.filter.accumulator_filter.Goals as goal
 

@@ -1,5 +1,5 @@
 use Rattle.std.proofs.Common.{sym, ◌∙◌}
-use Rattle.sql_emit.specs.Reading.{scope_of}
+use Rattle.sql_parts.specs.Reading.{scope_of}
 use Rattle.sql_emit.proofs.Flagged.{flag_none, flag_ok, got_some, got_none}
 use Rattle.sql_emit.proofs.filter.flag.Goals as goal
 

@@ -2,7 +2,7 @@ use Rattle.std.proofs.Common.{rules}
 use Rattle.tor_terms.specs.Plain.{forms_of}
 use Rattle.kernel_lang.specs.Plain.{accumulator}
 use Rattle.kernel_lang.specs.Pools.{chosen}
-use Rattle.sql_emit.specs.Reading.{ground_of}
+use Rattle.sql_parts.specs.Reading.{ground_of}
 use Rattle.sql_emit.proofs.Existing.{exists_ok}
 use Rattle.sql_emit.proofs.filter.flag_exists.Goals as goal
 

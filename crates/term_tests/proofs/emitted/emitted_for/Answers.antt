@@ -1,6 +1,6 @@
 use Rattle.std.proofs.Common.{sym, subst}
 use Rattle.kernel_lang.specs.Plain.{Fragment}
-use Rattle.sql_emit.specs.Given.{IsOutermost}
+use Rattle.sql_parts.specs.Given.{IsOutermost}
 use Rattle.term_tests.proofs.Outside.{class_A_outside}
 use Rattle.term_tests.proofs.emitted.emitted_for.Goals as goal
 

@@ -1,5 +1,0 @@
-use Rattle.std.proofs.Common.{length}
-use Rattle.sql_emit.proofs.filter.+limits.Given as goal
-
-abbrev pub decreases-limits : goal.decreases-limits
-decreases-limits l = length l.loops.now

@@ -1,5 +1,0 @@
-use Rattle.sql_emit.proofs.Entries.{entries_are}
-use Rattle.sql_emit.proofs.laws.emitted_parameters_are_entries.Goals as goal
-
-pub returns : goal.returns
-returns c schema f known args unbroken are = entries_are schema f known args unbroken are

@@ -1,5 +1,0 @@
-use Rattle.sql_emit.proofs.Queries.{grammatical}
-use Rattle.sql_emit.proofs.laws.emitted_queries_are_of_the_grammar.Goals as goal
-
-pub returns : goal.returns
-returns c schema f cand known args acc m is named unbroken typed are counted held there base = grammatical schema f cand known args acc m is named unbroken typed are counted held there base

@@ -1,5 +1,0 @@
-use Rattle.sql_emit.proofs.Claims.{says}
-use Rattle.sql_emit.proofs.laws.emitted_queries_say_what_is_claimed.Goals as goal
-
-pub returns : goal.returns
-returns c schema f cand known args acc m unbroken typed are there base = says schema f cand known args acc m unbroken typed are there base
