@@ -28,3 +28,4 @@ pub mod Joined
 pub mod Unguarded
 pub mod Seeking
 pub mod ByAccumulator
+mod WithAtoms

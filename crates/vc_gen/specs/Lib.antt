@@ -1,4 +1,5 @@
 pub mod Conditions
+pub mod Lent
 pub mod Levels
 pub mod Short
 pub mod Soundness

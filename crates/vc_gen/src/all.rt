@@ -7,17 +7,19 @@ ghost use Rattle.kernel_lang.specs.Pools as pools;
 ghost use Rattle.kernel_lang.specs.Validity.{count_conditions};
 ghost use Rattle.kernel_lang.specs.Whole.{fragment_of};
 ghost use Rattle.vc_gen.specs.Conditions as spec;
+ghost use Rattle.vc_gen.specs.Lent.{claims_over};
 ghost use Rattle.vc_gen.specs.Short.{AllShort};
 ghost use Rattle.vc_gen.specs.Soundness.{AllValid, AllValidAnywhere, EndsAsClaimed, EndsAnywhere};
 
-use crate::own::add_own;
+use crate::own::{Conditions, add_own};
 use kernel_lang::{Acc, Candidate, KFragment};
 use qbs_base::{Items, NoMemory};
 use std::alloc::Global;
-use tor_axioms::Vcs;
-use tor_terms::{Atoms, Formula, Formulas, copy_formula};
+use tor_axioms::{Vc, Vcs};
+use tor_terms::{Atoms, Formula, Formulas, copy_atoms, copy_formula};
 
-fn has_number(cand: &[u32], n: u32) -> bool
+/// Whether a number stands in a candidate.
+pub fn has_number(cand: &[u32], n: u32) -> bool
     ensures { result ≡ list_any (nat_eq n) cand.now }
 {
     cand.iter().any(|m| n == *m)
@@ -64,26 +66,32 @@ fn add_all(
     accs: &[Acc],
     cand: &[u32],
     first: u32,
-    all: &mut Vcs,
+    all: &mut Conditions,
 ) -> Result<(), NoMemory>
     requires short { AllShort accs.now }
     requires small { first + length (pools.pooled (map accumulator accs.now)) < 2 ^ 32 }
     ensures { IfOk result (λ _.
-        spec.claims_of all.new
-        ≡ spec.claims_of all.old ++ spec.all_conditions atoms.now (pools.members_from cand.now first (map accumulator accs.now))) }
+        claims_over atoms.now all.new
+        ≡ claims_over atoms.now all.old ++ spec.all_conditions atoms.now (pools.members_from cand.now first (map accumulator accs.now))) }
 {
     match accs.split_first() {
         None => Ok(()),
         Some((a, rest)) => {
             let formulas = chosen(alloc, cand, first, a.pool.as_slice())?;
-            add_own(alloc, atoms, a, formulas, all)?;
+            add_own(alloc, atoms, a, formulas.as_slice(), all)?;
             add_all(alloc, atoms, rest, cand, first + a.pool.len() as u32, all)
         }
     }
 }
 
-fn list_conditions(alloc: Global, frag: &KFragment, cand: &Candidate) -> Result<Vcs, NoMemory>
-    ensures { IfOk result (λ vcs. spec.claims_of vcs ≡ spec.conditions (fragment_of frag.now) cand.now) }
+/// The conditions of a fragment and a candidate of it over the fragment's atoms, which aren't copied. They
+/// are those of `conditions`, in their order. The error is want of memory.
+pub fn conditions_over(
+    alloc: Global,
+    frag: &KFragment,
+    cand: &Candidate,
+) -> Result<Conditions, NoMemory>
+    ensures { IfOk result (λ all. claims_over (fragment_of frag.now).atoms all ≡ spec.conditions (fragment_of frag.now) cand.now) }
 {
     let mut all = Items::new(alloc);
     add_all(
@@ -95,6 +103,30 @@ fn list_conditions(alloc: Global, frag: &KFragment, cand: &Candidate) -> Result<
         &mut all,
     )?;
     Ok(all)
+}
+
+/// Conditions with the atoms that they are over, a copy in each.
+fn with_atoms(alloc: Global, atoms: &Atoms, conditions: Conditions) -> Result<Vcs, NoMemory>
+    ensures { IfOk result (λ vcs. spec.claims_of vcs ≡ claims_over atoms.now conditions) }
+{
+    let mut all = Items::new(alloc);
+    for condition in conditions.into_vec() {
+        let own = copy_atoms(alloc, atoms.as_slice())?;
+        all.push(Vc {
+            atoms: own,
+            facts: condition.facts,
+            left: condition.left,
+            right: condition.right,
+        })?;
+    }
+    Ok(all)
+}
+
+fn list_conditions(alloc: Global, frag: &KFragment, cand: &Candidate) -> Result<Vcs, NoMemory>
+    ensures { IfOk result (λ vcs. spec.claims_of vcs ≡ spec.conditions (fragment_of frag.now) cand.now) }
+{
+    let all = conditions_over(alloc, frag, cand)?;
+    with_atoms(alloc, &frag.atoms, all)
 }
 
 /// The conditions of a fragment and a candidate of it, accumulator by accumulator and level by level,

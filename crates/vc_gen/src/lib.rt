@@ -2,6 +2,7 @@
 #![tactic(auto)]
 
 mod all;
+mod condition;
 pub mod laws;
 mod level;
 mod nth;
@@ -9,5 +10,6 @@ mod own;
 mod paths;
 mod terms;
 
-pub use all::conditions;
+pub use all::{conditions, conditions_over, has_number};
 pub use nth::own_condition;
+pub use own::{Conditions, own_conditions};

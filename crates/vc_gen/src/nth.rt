@@ -1,6 +1,5 @@
 // One condition of an accumulator, by its number. Nothing but that condition is made.
-ghost use Rattle.std.specs.Prelude.{◌≡◌, ◌+◌, ◌≤◌, ◌∷◌, [], ◌++◌, length, slice_get, option_map, IfOk};
-ghost use Rattle.tor_terms.specs.declared.term.Index.TheVariants as indexes;
+ghost use Rattle.std.specs.Prelude.{◌≡◌, ◌+◌, ◌≤◌, ◌∷◌, [], length, slice_get, option_map, IfOk};
 ghost use Rattle.tor_terms.specs.Plain.{forms_of, tree_of};
 ghost use Rattle.tor_axioms.specs.Accepts.{claim_over};
 ghost use Rattle.kernel_lang.specs.Plain.{accumulator};
@@ -10,17 +9,15 @@ ghost use Rattle.vc_gen.specs.Conditions as spec;
 ghost use Rattle.vc_gen.specs.Levels.{layer_seen, layers_seen};
 ghost use Rattle.vc_gen.specs.Sought.{sought, sought_seen};
 
+use crate::condition::{Chosen, Place, at_entry, at_exit, false_step, true_step};
 use crate::level::{Level, first_levels, last_levels, levels};
-use crate::own::{
-    Chosen, Place, first_place, literals, place_inside, turns, ways_through, with_loop,
-};
+use crate::own::{first_place, place_inside, ways_through};
 use crate::paths::{Path, each_with, guard_paths, joined};
-use crate::terms::{whole, whole_level};
 use kernel_lang::Acc;
 use qbs_base::{NoMemory, Scalar};
 use std::alloc::Global;
 use tor_axioms::Condition;
-use tor_terms::{Atoms, Formula, Index, copy_term};
+use tor_terms::{Atoms, Formula};
 
 /// The condition that is looked for, or how many of those that come later are to be passed over.
 #[derive(Drop)]
@@ -45,62 +42,8 @@ fn entry(
     if n > 0 {
         return Ok(Sought::Left(n - 1));
     }
-    let facts = literals(alloc, way)?;
-    let left = turns(alloc, chosen, place, y, ys, Index::Zero)?;
-    let right = copy_term(alloc, &place.entry)?;
-    Ok(Sought::Here(Condition { facts, left, right }))
-}
-
-// What a turn does in which the guard holds, by one of its paths.
-fn true_step(
-    alloc: Global,
-    chosen: &Chosen,
-    place: &Place,
-    y: &Level,
-    ys: &[Level],
-    path: &[(u32, bool)],
-) -> Result<Condition, NoMemory>
-    ensures { IfOk result (λ c.
-        claim_over chosen.now.atoms.now c
-        ≡ spec.claim chosen.now.atoms.now path.now (
-        post.part chosen.now.update (forms_of chosen.now.formulas.now) place.now.outer (tree_of place.now.entry) (layer_seen y.now) (layers_seen ys.now) (indexes.Next y.now.over)) (
-        post.whole chosen.now.update (forms_of chosen.now.formulas.now) (place.now.outer ++ y.now.over ∷ []) (
-        post.part chosen.now.update (forms_of chosen.now.formulas.now) place.now.outer (tree_of place.now.entry) (layer_seen y.now) (layers_seen ys.now) (indexes.At y.now.over)) (layers_seen ys.now))) }
-{
-    let facts = literals(alloc, path)?;
-    let left = turns(alloc, chosen, place, y, ys, Index::Next(y.over))?;
-    let inside = with_loop(alloc, place.outer.as_slice(), y.over)?;
-    let before = turns(alloc, chosen, place, y, ys, Index::At(y.over))?;
-    let right = whole(
-        alloc,
-        chosen.update,
-        chosen.formulas,
-        inside.as_slice(),
-        before,
-        ys,
-    )?;
-    Ok(Condition { facts, left, right })
-}
-
-// What a turn does in which the guard fails.
-fn false_step(
-    alloc: Global,
-    chosen: &Chosen,
-    place: &Place,
-    y: &Level,
-    ys: &[Level],
-    path: &[(u32, bool)],
-) -> Result<Condition, NoMemory>
-    ensures { IfOk result (λ c.
-        claim_over chosen.now.atoms.now c
-        ≡ spec.claim chosen.now.atoms.now path.now (
-        post.part chosen.now.update (forms_of chosen.now.formulas.now) place.now.outer (tree_of place.now.entry) (layer_seen y.now) (layers_seen ys.now) (indexes.Next y.now.over)) (
-        post.part chosen.now.update (forms_of chosen.now.formulas.now) place.now.outer (tree_of place.now.entry) (layer_seen y.now) (layers_seen ys.now) (indexes.At y.now.over))) }
-{
-    let facts = literals(alloc, path)?;
-    let left = turns(alloc, chosen, place, y, ys, Index::Next(y.over))?;
-    let right = turns(alloc, chosen, place, y, ys, Index::At(y.over))?;
-    Ok(Condition { facts, left, right })
+    let condition = at_entry(alloc, chosen, place, y, ys, way)?;
+    Ok(Sought::Here(condition))
 }
 
 fn true_steps(
@@ -167,12 +110,8 @@ fn exit(
     if n > 0 {
         return Ok(Sought::Left(n - 1));
     }
-    let facts = literals(alloc, way)?;
-    let left = turns(alloc, chosen, place, y, ys, Index::Len(y.over))?;
-    let entry = copy_term(alloc, &place.entry)?;
-    let outer = place.outer.as_slice();
-    let right = whole_level(alloc, chosen.update, chosen.formulas, outer, entry, y, ys)?;
-    Ok(Sought::Here(Condition { facts, left, right }))
+    let condition = at_exit(alloc, chosen, place, y, ys, way)?;
+    Ok(Sought::Here(condition))
 }
 
 fn at_level(

@@ -1,108 +1,27 @@
 // The conditions of an accumulator, level by level.
 ghost use Rattle.std.specs.Prelude.{◌≡◌, ◌+◌, ◌≤◌, ◌∷◌, [], ◌++◌, length, IfOk};
+ghost use Rattle.tor_terms.specs.declared.term.Index.TheVariants as indexes;
 ghost use Rattle.tor_terms.specs.Plain as plain;
 ghost use Rattle.tor_terms.specs.Plain.{forms_of, tree_of};
 ghost use Rattle.kernel_lang.specs.Plain.{accumulator};
 ghost use Rattle.kernel_lang.specs.Postcondition as post;
 ghost use Rattle.kernel_lang.specs.Postcondition.{loops_of};
 ghost use Rattle.vc_gen.specs.Conditions as spec;
+ghost use Rattle.vc_gen.specs.Lent.{claims_over};
 ghost use Rattle.vc_gen.specs.Levels.{layer_seen, layers_seen};
 
+use crate::condition::{Chosen, Place, at_entry, at_exit, false_step, true_step, with_loop};
 use crate::level::{Level, first_levels, last_levels, levels, loops};
 use crate::paths::{Path, Paths, each_with, empty_path, guard_paths, joined};
-use crate::terms::{part, start_term, whole, whole_level};
-use kernel_lang::{Acc, Update};
+use crate::terms::start_term;
+use kernel_lang::Acc;
 use qbs_base::{Items, NoMemory, Scalar};
 use std::alloc::Global;
-use tor_axioms::{Literal, Literals, Vc, Vcs};
-use tor_terms::{Atoms, Formula, Formulas, Index, Loops, Term, copy_atoms, copy_term};
+use tor_axioms::Condition;
+use tor_terms::{Atoms, Formula, Term};
 
-/// The update of an accumulator and its chosen formulas, over these atoms.
-#[derive(Clone, Copy)]
-pub struct Chosen<'a> {
-    pub atoms: &'a Atoms,
-    pub update: Update,
-    pub formulas: &'a [Formula],
-}
-
-/// Where a level stands: the loops round it, and what the accumulator has at entry.
-#[derive(Drop)]
-pub struct Place {
-    pub outer: Loops,
-    pub entry: Term,
-}
-
-/// The facts of a path.
-pub fn literals(alloc: Global, path: &[(u32, bool)]) -> Result<Literals, NoMemory>
-    ensures { IfOk result (λ facts. facts ≡ spec.facts_of path.now) }
-{
-    let mut facts = Items::new(alloc);
-    for test in path {
-        facts.push(Literal {
-            atom: test.0,
-            holds: test.1,
-        })?;
-    }
-    Ok(facts)
-}
-
-fn add_condition(
-    alloc: Global,
-    atoms: &Atoms,
-    path: &[(u32, bool)],
-    left: Term,
-    right: Term,
-    all: &mut Vcs,
-) -> Result<(), NoMemory>
-    ensures { IfOk result (λ _. spec.claims_of all.new ≡ spec.claims_of all.old ++ spec.claim atoms.now path.now (tree_of left) (tree_of right) ∷ []) }
-{
-    let facts = literals(alloc, path)?;
-    let atoms = copy_atoms(alloc, atoms.as_slice())?;
-    all.push(Vc {
-        atoms,
-        facts,
-        left,
-        right,
-    })
-}
-
-fn add_by_paths(
-    alloc: Global,
-    atoms: &Atoms,
-    way: &[(u32, bool)],
-    left: &Term,
-    right: &Term,
-    paths: &[Path],
-    all: &mut Vcs,
-) -> Result<(), NoMemory>
-    ensures { IfOk result (λ _. spec.claims_of all.new ≡ spec.claims_of all.old ++ spec.by_paths atoms.now way.now (tree_of left.now) (tree_of right.now) paths.now) }
-{
-    for path in paths {
-        let tests = joined(alloc, way, path.as_slice())?;
-        let first = copy_term(alloc, left)?;
-        let second = copy_term(alloc, right)?;
-        add_condition(alloc, atoms, tests.as_slice(), first, second, all)?;
-    }
-    Ok(())
-}
-
-/// What is so after some turns of a level's loop.
-pub fn turns(
-    alloc: Global,
-    chosen: &Chosen,
-    place: &Place,
-    y: &Level,
-    ys: &[Level],
-    index: Index,
-) -> Result<Term, NoMemory>
-    ensures { IfOk result (λ t.
-        tree_of t
-        ≡ post.part chosen.now.update (forms_of chosen.now.formulas.now) place.now.outer (tree_of place.now.entry) (layer_seen y.now) (layers_seen ys.now) index) }
-{
-    let fs = chosen.formulas;
-    let outer = place.outer.as_slice();
-    part(alloc, chosen.update, fs, outer, &place.entry, y, ys, index)
-}
+/// Conditions over atoms that stand elsewhere.
+pub type Conditions = Items<Condition>;
 
 fn add_entry(
     alloc: Global,
@@ -111,16 +30,40 @@ fn add_entry(
     y: &Level,
     ys: &[Level],
     way: &[(u32, bool)],
-    all: &mut Vcs,
+    all: &mut Conditions,
 ) -> Result<(), NoMemory>
     ensures { IfOk result (λ _.
-        spec.claims_of all.new
-        ≡ spec.claims_of all.old
+        claims_over chosen.now.atoms.now all.new
+        ≡ claims_over chosen.now.atoms.now all.old
         ++ spec.entry chosen.now.atoms.now chosen.now.update (forms_of chosen.now.formulas.now) place.now.outer (tree_of place.now.entry) (layer_seen y.now) (layers_seen ys.now) way.now ∷ []) }
 {
-    let none = turns(alloc, chosen, place, y, ys, Index::Zero)?;
-    let entry = copy_term(alloc, &place.entry)?;
-    add_condition(alloc, chosen.atoms, way, none, entry, all)
+    let condition = at_entry(alloc, chosen, place, y, ys, way)?;
+    all.push(condition)
+}
+
+fn add_passes(
+    alloc: Global,
+    chosen: &Chosen,
+    place: &Place,
+    y: &Level,
+    ys: &[Level],
+    way: &[(u32, bool)],
+    passes: &[Path],
+    all: &mut Conditions,
+) -> Result<(), NoMemory>
+    ensures { IfOk result (λ _.
+        claims_over chosen.now.atoms.now all.new
+        ≡ claims_over chosen.now.atoms.now all.old
+        ++ spec.by_paths chosen.now.atoms.now way.now (
+        post.part chosen.now.update (forms_of chosen.now.formulas.now) place.now.outer (tree_of place.now.entry) (layer_seen y.now) (layers_seen ys.now) (indexes.Next y.now.over)) (
+        post.whole chosen.now.update (forms_of chosen.now.formulas.now) (place.now.outer ++ y.now.over ∷ []) (post.part chosen.now.update (forms_of chosen.now.formulas.now) place.now.outer (tree_of place.now.entry) (layer_seen y.now) (layers_seen ys.now) (indexes.At y.now.over)) (layers_seen ys.now)) passes.now) }
+{
+    for path in passes {
+        let tests = joined(alloc, way, path.as_slice())?;
+        let condition = true_step(alloc, chosen, place, y, ys, tests.as_slice())?;
+        all.push(condition)?;
+    }
+    Ok(())
 }
 
 fn add_true_steps(
@@ -130,29 +73,40 @@ fn add_true_steps(
     y: &Level,
     ys: &[Level],
     way: &[(u32, bool)],
-    all: &mut Vcs,
+    all: &mut Conditions,
 ) -> Result<(), NoMemory>
     ensures { IfOk result (λ _.
-        spec.claims_of all.new
-        ≡ spec.claims_of all.old
+        claims_over chosen.now.atoms.now all.new
+        ≡ claims_over chosen.now.atoms.now all.old
         ++ spec.true_steps chosen.now.atoms.now chosen.now.update (forms_of chosen.now.formulas.now) place.now.outer (tree_of place.now.entry) (layer_seen y.now) (layers_seen ys.now) way.now) }
 {
-    let fs = chosen.formulas;
-    let outer = place.outer.as_slice();
     let passes = guard_paths(alloc, &y.guard, true)?;
-    let before = turns(alloc, chosen, place, y, ys, Index::At(y.over))?;
-    let advanced = turns(alloc, chosen, place, y, ys, Index::Next(y.over))?;
-    let inside = with_loop(alloc, outer, y.over)?;
-    let done = whole(alloc, chosen.update, fs, inside.as_slice(), before, ys)?;
-    add_by_paths(
-        alloc,
-        chosen.atoms,
-        way,
-        &advanced,
-        &done,
-        passes.as_slice(),
-        all,
-    )
+    add_passes(alloc, chosen, place, y, ys, way, passes.as_slice(), all)
+}
+
+fn add_fails(
+    alloc: Global,
+    chosen: &Chosen,
+    place: &Place,
+    y: &Level,
+    ys: &[Level],
+    way: &[(u32, bool)],
+    fails: &[Path],
+    all: &mut Conditions,
+) -> Result<(), NoMemory>
+    ensures { IfOk result (λ _.
+        claims_over chosen.now.atoms.now all.new
+        ≡ claims_over chosen.now.atoms.now all.old
+        ++ spec.by_paths chosen.now.atoms.now way.now (
+        post.part chosen.now.update (forms_of chosen.now.formulas.now) place.now.outer (tree_of place.now.entry) (layer_seen y.now) (layers_seen ys.now) (indexes.Next y.now.over)) (
+        post.part chosen.now.update (forms_of chosen.now.formulas.now) place.now.outer (tree_of place.now.entry) (layer_seen y.now) (layers_seen ys.now) (indexes.At y.now.over)) fails.now) }
+{
+    for path in fails {
+        let tests = joined(alloc, way, path.as_slice())?;
+        let condition = false_step(alloc, chosen, place, y, ys, tests.as_slice())?;
+        all.push(condition)?;
+    }
+    Ok(())
 }
 
 fn add_false_steps(
@@ -162,25 +116,15 @@ fn add_false_steps(
     y: &Level,
     ys: &[Level],
     way: &[(u32, bool)],
-    all: &mut Vcs,
+    all: &mut Conditions,
 ) -> Result<(), NoMemory>
     ensures { IfOk result (λ _.
-        spec.claims_of all.new
-        ≡ spec.claims_of all.old
+        claims_over chosen.now.atoms.now all.new
+        ≡ claims_over chosen.now.atoms.now all.old
         ++ spec.false_steps chosen.now.atoms.now chosen.now.update (forms_of chosen.now.formulas.now) place.now.outer (tree_of place.now.entry) (layer_seen y.now) (layers_seen ys.now) way.now) }
 {
     let fails = guard_paths(alloc, &y.guard, false)?;
-    let before = turns(alloc, chosen, place, y, ys, Index::At(y.over))?;
-    let after = turns(alloc, chosen, place, y, ys, Index::Next(y.over))?;
-    add_by_paths(
-        alloc,
-        chosen.atoms,
-        way,
-        &after,
-        &before,
-        fails.as_slice(),
-        all,
-    )
+    add_fails(alloc, chosen, place, y, ys, way, fails.as_slice(), all)
 }
 
 fn add_exit(
@@ -190,19 +134,15 @@ fn add_exit(
     y: &Level,
     ys: &[Level],
     way: &[(u32, bool)],
-    all: &mut Vcs,
+    all: &mut Conditions,
 ) -> Result<(), NoMemory>
     ensures { IfOk result (λ _.
-        spec.claims_of all.new
-        ≡ spec.claims_of all.old
+        claims_over chosen.now.atoms.now all.new
+        ≡ claims_over chosen.now.atoms.now all.old
         ++ spec.exit chosen.now.atoms.now chosen.now.update (forms_of chosen.now.formulas.now) place.now.outer (tree_of place.now.entry) (layer_seen y.now) (layers_seen ys.now) way.now ∷ []) }
 {
-    let fs = chosen.formulas;
-    let outer = place.outer.as_slice();
-    let full = turns(alloc, chosen, place, y, ys, Index::Len(y.over))?;
-    let entry = copy_term(alloc, &place.entry)?;
-    let ended = whole_level(alloc, chosen.update, fs, outer, entry, y, ys)?;
-    add_condition(alloc, chosen.atoms, way, full, ended, all)
+    let condition = at_exit(alloc, chosen, place, y, ys, way)?;
+    all.push(condition)
 }
 
 fn add_at_level(
@@ -212,11 +152,11 @@ fn add_at_level(
     y: &Level,
     ys: &[Level],
     way: &[(u32, bool)],
-    all: &mut Vcs,
+    all: &mut Conditions,
 ) -> Result<(), NoMemory>
     ensures { IfOk result (λ _.
-        spec.claims_of all.new
-        ≡ spec.claims_of all.old
+        claims_over chosen.now.atoms.now all.new
+        ≡ claims_over chosen.now.atoms.now all.old
         ++ spec.at_level chosen.now.atoms.now chosen.now.update (forms_of chosen.now.formulas.now) place.now.outer (tree_of place.now.entry) (layer_seen y.now) (layers_seen ys.now) way.now) }
 {
     add_entry(alloc, chosen, place, y, ys, way, all)?;
@@ -232,26 +172,17 @@ fn add_level(
     y: &Level,
     ys: &[Level],
     ways: &[Path],
-    all: &mut Vcs,
+    all: &mut Conditions,
 ) -> Result<(), NoMemory>
     ensures { IfOk result (λ _.
-        spec.claims_of all.new
-        ≡ spec.claims_of all.old
+        claims_over chosen.now.atoms.now all.new
+        ≡ claims_over chosen.now.atoms.now all.old
         ++ spec.level chosen.now.atoms.now chosen.now.update (forms_of chosen.now.formulas.now) place.now.outer ways.now (tree_of place.now.entry) (layer_seen y.now) (layers_seen ys.now)) }
 {
     for way in ways {
         add_at_level(alloc, chosen, place, y, ys, way.as_slice(), all)?;
     }
     Ok(())
-}
-
-/// Loops, and one more inside them.
-pub fn with_loop(alloc: Global, outer: &[u32], over: u32) -> Result<Loops, NoMemory>
-    ensures { IfOk result (λ loops. loops ≡ outer.now ++ over ∷ []) }
-{
-    let mut inside = Items::from_vec(outer.to_vec(alloc)?);
-    inside.push(over)?;
-    Ok(inside)
 }
 
 /// Where the level inside a level stands.
@@ -286,12 +217,12 @@ fn add_inside(
     place: &Place,
     ways: &[Path],
     ys: &[Level],
-    all: &mut Vcs,
+    all: &mut Conditions,
 ) -> Result<(), NoMemory>
     requires { length place.now.outer + length ys.now ≤ 3 }
     ensures { IfOk result (λ _.
-        spec.claims_of all.new
-        ≡ spec.claims_of all.old
+        claims_over chosen.now.atoms.now all.new
+        ≡ claims_over chosen.now.atoms.now all.old
         ++ spec.conditions_in chosen.now.atoms.now chosen.now.update (forms_of chosen.now.formulas.now) place.now.outer ways.now (tree_of place.now.entry) (layers_seen ys.now)) }
 {
     match ys.split_first() {
@@ -324,12 +255,12 @@ fn add_in_place(
     start: &Option<Scalar>,
     outside: &[Level],
     inside: &[Level],
-    all: &mut Vcs,
+    all: &mut Conditions,
 ) -> Result<(), NoMemory>
     requires { length outside.now + length inside.now ≤ 3 }
     ensures { IfOk result (λ _.
-        spec.claims_of all.new
-        ≡ spec.claims_of all.old
+        claims_over chosen.now.atoms.now all.new
+        ≡ claims_over chosen.now.atoms.now all.old
         ++ spec.conditions_in chosen.now.atoms.now chosen.now.update (forms_of chosen.now.formulas.now) (loops_of (layers_seen outside.now)) (spec.ways_through ([] ∷ []) (layers_seen outside.now)) (post.start_term start.now) (layers_seen inside.now)) }
 {
     let ways = ways_through(alloc, outside)?;
@@ -342,11 +273,11 @@ pub fn add_own(
     alloc: Global,
     atoms: &Atoms,
     a: &Acc,
-    formulas: Formulas,
-    all: &mut Vcs,
+    choice: &[Formula],
+    all: &mut Conditions,
 ) -> Result<(), NoMemory>
     requires { length a.now.chain ≤ 3 }
-    ensures { IfOk result (λ _. spec.claims_of all.new ≡ spec.claims_of all.old ++ spec.own_conditions atoms.now (accumulator a.now, forms_of formulas)) }
+    ensures { IfOk result (λ _. claims_over atoms.now all.new ≡ claims_over atoms.now all.old ++ spec.own_conditions atoms.now (accumulator a.now, forms_of choice.now)) }
 {
     let levels = levels(alloc, a)?;
     let outside = first_levels(levels.as_slice(), a.base as usize);
@@ -354,7 +285,24 @@ pub fn add_own(
     let chosen = Chosen {
         atoms,
         update: a.update,
-        formulas: formulas.as_slice(),
+        formulas: choice,
     };
     add_in_place(alloc, &chosen, &a.start, outside, inside, all)
+}
+
+/// The conditions of an accumulator with its choice of formulas, over atoms that aren't copied. The
+/// conditions of a candidate are those of its accumulators with their choices, one accumulator after
+/// the other. The accumulator has to have at most three loops. The error is want of memory.
+pub fn own_conditions(
+    alloc: Global,
+    atoms: &Atoms,
+    a: &Acc,
+    choice: &[Formula],
+) -> Result<Conditions, NoMemory>
+    requires { length a.now.chain ≤ 3 }
+    ensures { IfOk result (λ all. claims_over atoms.now all ≡ spec.own_conditions atoms.now (accumulator a.now, forms_of choice.now)) }
+{
+    let mut all = Items::new(alloc);
+    add_own(alloc, atoms, a, choice, &mut all)?;
+    Ok(all)
 }

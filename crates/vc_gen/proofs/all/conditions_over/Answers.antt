@@ -4,7 +4,7 @@ use Rattle.kernel_lang.specs.Pools.{pooled}
 use Rattle.kernel_lang.specs.Whole.{fragment_of}
 use Rattle.vc_gen.specs.Short.{AllShort}
 use Rattle.vc_gen.proofs.Short.{accs_short, pools_small}
-use Rattle.vc_gen.proofs.all.list_conditions.Goals as goal
+use Rattle.vc_gen.proofs.all.conditions_over.Goals as goal
 
 pub add_all-requires-clause-short : goal.add_all-requires-clause-short
 add_all-requires-clause-short c = subst AllShort (sym c.as_slice.ensures) (accs_short (fragment_of c.args.frag.now) c.args.frag.now.accs refl c.args.frag.now.valid)
