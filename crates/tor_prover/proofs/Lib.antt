@@ -11,3 +11,5 @@ pub mod Nested
 pub mod Derived
 pub mod ByHead
 pub mod Reducing
+mod Settled
+mod Settling

@@ -1,6 +1,7 @@
 pub mod Normal
 pub mod Derive
 pub mod Ends
+pub mod Settled
 pub mod Shape
 pub mod Seen
 pub mod Worked

@@ -5,6 +5,7 @@ ghost use Rattle.tor_axioms.specs.Rules.{at_head as at_head_of};
 ghost use Rattle.tor_prover.specs.Heads.{head_rules as head_rules_of};
 ghost use Rattle.tor_prover.specs.Normal as spec;
 ghost use Rattle.tor_prover.specs.Seen.{around_one, around_two, outcome_of, parts_of};
+ghost use Rattle.tor_prover.specs.Settled.{PartsAre, ChildrenAreSettled, GrandchildrenAreSettled};
 
 use crate::open::met;
 use crate::outcome::Outcome;
@@ -159,7 +160,8 @@ fn with_children(
 
 /// The normal form of a term, or the open atom that it meets: its children are brought to normal
 /// form from left to right, and then the first rule by number that matches at the head is applied
-/// and what it gives is brought to normal form in turn.
+/// and what it gives is brought to normal form in turn. Of that only the head and the children are
+/// looked at: what stands below them was in normal form before.
 #[cycle(normalise)]
 pub fn normalise(
     alloc: Global,
@@ -206,8 +208,9 @@ fn normal_children(
 }
 
 /// The normal form of a term whose children are in normal form.
-#[cycle(normalise)]
+#[cycle(finish)]
 fn finish(alloc: Global, atoms: &Atoms, facts: &Facts, t: Box<Term>) -> Result<Outcome, NoMemory>
+    requires { ChildrenAreSettled atoms.now facts.now (tree_of t.value) }
     ensures { IfOk result (λ o. outcome_of o ≡ spec.at_head atoms.now facts.now (spec.normal_form atoms.now facts.now) (tree_of t.value)) }
 {
     if let Some(k) = met(atoms, facts, &t) {
@@ -216,8 +219,70 @@ fn finish(alloc: Global, atoms: &Atoms, facts: &Facts, t: Box<Term>) -> Result<O
     match first_rule(alloc, atoms, facts, &t)? {
         None => Ok(Outcome::Normal(t, Items::new(alloc))),
         Some((rule, u)) => {
-            let rest = normalise(alloc, atoms, facts, u)?;
+            let rest = normalise_made(alloc, atoms, facts, u)?;
             after_rule(alloc, rule, rest)
         }
     }
+}
+
+/// The normal form of a term of which all below the children is in normal form.
+#[cycle(finish)]
+fn normalise_made(
+    alloc: Global,
+    atoms: &Atoms,
+    facts: &Facts,
+    t: Box<Term>,
+) -> Result<Outcome, NoMemory>
+    requires { GrandchildrenAreSettled atoms.now facts.now (tree_of t.value) }
+    ensures { IfOk result (λ o. outcome_of o ≡ spec.normal_form atoms.now facts.now (tree_of t.value)) }
+{
+    match finish_children(alloc, atoms, facts, take_apart(t))? {
+        Outcome::Meets(k) => Ok(Outcome::Meets(k)),
+        Outcome::Normal(u, steps) => {
+            let rest = finish(alloc, atoms, facts, u)?;
+            after_steps(steps, rest)
+        }
+    }
+}
+
+/// The term whose children, with all below them in normal form, are brought to normal form.
+#[cycle(finish)]
+fn finish_children(
+    alloc: Global,
+    atoms: &Atoms,
+    facts: &Facts,
+    parts: Parts,
+) -> Result<Outcome, NoMemory>
+    requires { PartsAre (ChildrenAreSettled atoms.now facts.now) (parts_of parts) }
+    ensures { IfOk result (λ o. outcome_of o ≡ spec.normal_parts (spec.normal_form atoms.now facts.now) (parts_of parts)) }
+{
+    match parts {
+        Parts::NoChild(t) => Ok(Outcome::Normal(Box::new(alloc, t)?, Items::new(alloc))),
+        Parts::OneChild(head, r) => {
+            let child = finish_child(alloc, atoms, facts, r)?;
+            with_child(alloc, head, child)
+        }
+        Parts::TwoChildren(head, r, s) => {
+            let first = finish_child(alloc, atoms, facts, r)?;
+            if let Outcome::Meets(k) = first {
+                return Ok(Outcome::Meets(k));
+            }
+            let second = finish_child(alloc, atoms, facts, s)?;
+            with_children(alloc, head, first, second)
+        }
+    }
+}
+
+/// The normal form of a child whose own children are in normal form.
+#[cycle(finish)]
+fn finish_child(
+    alloc: Global,
+    atoms: &Atoms,
+    facts: &Facts,
+    t: Box<Term>,
+) -> Result<Outcome, NoMemory>
+    requires { ChildrenAreSettled atoms.now facts.now (tree_of t.value) }
+    ensures { IfOk result (λ o. outcome_of o ≡ spec.normal_form atoms.now facts.now (tree_of t.value)) }
+{
+    finish(alloc, atoms, facts, t)
 }

@@ -1,28 +1,10 @@
-use Rattle.std.proofs.Common.{◌≡◌, IfOk, ap, sym, ◌∙◌, subst, arith, option_map}
+use Rattle.std.proofs.Common.{◌≡◌, IfOk, ap, sym, ◌∙◌, subst, arith}
 use Rattle.tor_terms.specs.Plain.{tree_of}
-use Rattle.tor_prover.specs.Normal.{Normal, normal_parts, normal_form, first_rule, met}
+use Rattle.tor_prover.specs.Normal.{normal_parts, normal_form}
 use Rattle.tor_prover.specs.Seen.{outcome_of}
-use Rattle.tor_prover.proofs.Made.{room, room-less, first_lighter, children_lighter, meets-normal, finished-normal, settled-head, rewritten-head}
+use Rattle.tor_prover.proofs.Made.{room, room-less, meets-normal, finished-normal}
+use Rattle.tor_prover.proofs.Settled.{parts-settled}
 use Rattle.tor_prover.proofs.normal.+normalise.Goals as goal
-
--- what a rule gives is lighter
-pub finish-normalise-requires : goal.finish-normalise-requires
-finish-normalise-requires t c =
-    let e = sym (ap (option_map (λ p. (p.0, tree_of p.1.value))) c.in-Some-2.is) ∙ c.in_ok-first_rule.ensures ∙ ap (λ x. first_rule c.args.atoms.now c.args.facts.now (tree_of x)) c.deref-2.ensures in
-    (omega (arith, c.decreases, first_lighter c.args.atoms.now c.args.facts.now (tree_of c.args.t.value) c.in-Some-2.rule (tree_of c.in-Some-2.u.value) e), tt)
-
-pub finish-returns-in_ok-rest-in-Some-2 : goal.finish-returns-in_ok-rest-in-Some-2
-finish-returns-in_ok-rest-in-Some-2 t c =
-    let d = c.in_default.ensures ∙ ap (λ x. met c.args.atoms.now c.args.facts.now (tree_of x)) c.deref.ensures in
-    let e = sym (ap (option_map (λ p. (p.0, tree_of p.1.value))) c.in-Some-2.is) ∙ c.in_ok-first_rule.ensures ∙ ap (λ x. first_rule c.args.atoms.now c.args.facts.now (tree_of x)) c.deref-2.ensures in
-    let q = rewritten-head c.args.atoms.now c.args.facts.now (tree_of c.args.t.value) c.in-Some-2.rule (tree_of c.in-Some-2.u.value) (outcome_of c.in_ok-rest-in-Some-2.rest) d e c.in_ok-rest-in-Some-2.ensures in
-    subst (λ x. IfOk c.after_rule.result (λ o. outcome_of o ≡ x)) q c.after_rule.ensures
-
-pub finish-returns-in-None : goal.finish-returns-in-None
-finish-returns-in-None t c =
-    let d = c.in_default.ensures ∙ ap (λ x. met c.args.atoms.now c.args.facts.now (tree_of x)) c.deref.ensures in
-    let e = sym (ap (option_map (λ p. (p.0, tree_of p.1.value))) c.in-None.is) ∙ c.in_ok-first_rule.ensures ∙ ap (λ x. first_rule c.args.atoms.now c.args.facts.now (tree_of x)) c.deref-2.ensures in
-    ap (Normal (tree_of c.args.t.value)) c.new.ensures ∙ settled-head c.args.atoms.now c.args.facts.now (tree_of c.args.t.value) d e
 
 -- children are lighter
 pub normalise-normal_children-requires : goal.normalise-normal_children-requires
@@ -33,7 +15,7 @@ normalise-normal_children-requires t c =
 pub normalise-finish-requires : goal.normalise-finish-requires
 normalise-finish-requires t c =
     let e = sym (ap outcome_of c.in-Normal.is) ∙ c.in_ok-k.ensures ∙ ap (normal_parts (normal_form c.args.atoms.now c.args.facts.now)) c.take_apart.ensures in
-    (omega (arith, c.decreases, children_lighter c.args.atoms.now c.args.facts.now (tree_of c.args.t.value) (tree_of c.in-Normal.u.value) c.in-Normal.steps e), tt)
+    parts-settled c.args.atoms.now c.args.facts.now (tree_of c.args.t.value) (tree_of c.in-Normal.u.value) c.in-Normal.steps e
 
 pub normalise-returns-in-Meets : goal.normalise-returns-in-Meets
 normalise-returns-in-Meets t c =

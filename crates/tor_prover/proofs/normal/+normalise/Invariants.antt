@@ -10,6 +10,3 @@ decreases-normalise l = 3 * weight (tree_of l.t.value) + 2
 
 abbrev pub decreases-normal_children : goal.decreases-normal_children
 decreases-normal_children l = room (parts_of l.parts)
-
-abbrev pub decreases-finish : goal.decreases-finish
-decreases-finish l = 3 * weight (tree_of l.t.value)

@@ -10,6 +10,3 @@ decreases-reduce l = 3 * weight (tree_of l.t.value) + 2
 
 abbrev pub decreases-reduce_children : goal.decreases-reduce_children
 decreases-reduce_children l = room (parts_of l.parts)
-
-abbrev pub decreases-reduce_head : goal.decreases-reduce_head
-decreases-reduce_head l = 3 * weight (tree_of l.t.value)
