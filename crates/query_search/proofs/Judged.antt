@@ -3,11 +3,12 @@ use Rattle.std.proofs.Common.{◌≡◌, ℕ, ◌+◌, ◌<◌, ◌≤◌, List,
 use Rattle.std.proofs.lemmas.List.{map-append, at_drop_more, at_drop_all}
 use Rattle.std.specs.declared.option.Option.{Option}
 use Rattle.std.specs.declared.option.Option.TheVariants.{Some, None}
+use Rattle.tor_terms.specs.declared.term.Atom.{Atom}
 use Rattle.tor_axioms.specs.declared.derivation.Derivation.{Derivation}
-use Rattle.tor_axioms.specs.declared.derivation.Vc.{Vc}
-use Rattle.tor_axioms.specs.Accepts.{Proof, proof_of, Claim, claim_of}
+use Rattle.tor_axioms.specs.declared.derivation.Condition.{Condition}
+use Rattle.tor_axioms.specs.Accepts.{Proof, proof_of, Claim, claim_over}
 use Rattle.tor_prover.specs.Derive.{derivation_of}
-use Rattle.vc_gen.specs.Conditions.{claims_of}
+use Rattle.vc_gen.specs.Lent.{claims_over}
 use Rattle.query_search.specs.Seen.{proofs_in}
 use Rattle.query_search.specs.Verdicts.{with_derivation, all_derived}
 
@@ -36,25 +37,24 @@ pub derived-end : (ds : List Proof) → behind ds (all_derived []) ≡ Some ds
 unfolding all_derived
 derived-end ds = ap Some (append-nil ds)
 
--- a turn of a walk over conditions of the code: W is what comes of all of them
-pub turn : (vcs : List Vc) (i : ℕ) (vc : Vc) (ds : List Derivation) (d : Derivation) (new : List Derivation) (W : Option (List Proof)) → i < length vcs → vc ≡ get_or vcs i vc
-    → derivation_of (claim_of vc) ≡ Some (proof_of d) → new ≡ ds ++ d ∷ [] → behind (proofs_in ds) (all_derived (claims_of (drop i vcs))) ≡ W
-    → behind (proofs_in new) (all_derived (claims_of (drop (i + 1) vcs))) ≡ W
-turn vcs i vc ds d new W h is e en k =
-    ap (λ n. behind (proofs_in n) (all_derived (claims_of (drop (i + 1) vcs)))) en
-    ∙ ap (λ ps. behind ps (all_derived (claims_of (drop (i + 1) vcs)))) (map-append proof_of ds (d ∷ []))
-    ∙ sym (derived-step (proofs_in ds) (claim_of vc) (claims_of (drop (i + 1) vcs)) (proof_of d) e)
-    ∙ ap (λ x. behind (proofs_in ds) (all_derived (claim_of x ∷ claims_of (drop (i + 1) vcs)))) is
-    ∙ sym (at_drop_more (λ vs. behind (proofs_in ds) (all_derived (claims_of vs))) vcs i vc h)
-    ∙ k
+-- a walk over conditions of the code: W is what comes of all of them
+module _ (atoms : List Atom) (cs : List Condition) (i : ℕ) (ds : List Derivation) (W : Option (List Proof)) (so_far : behind (proofs_in ds) (all_derived (claims_over atoms (drop i cs))) ≡ W) where
+  here : (c : Condition) → i < length cs → c ≡ get_or cs i c → behind (proofs_in ds) (all_derived (claim_over atoms c ∷ claims_over atoms (drop (i + 1) cs))) ≡ W
+  here c h is =
+      ap (λ x. behind (proofs_in ds) (all_derived (claim_over atoms x ∷ claims_over atoms (drop (i + 1) cs)))) is
+      ∙ sym (at_drop_more (λ es. behind (proofs_in ds) (all_derived (claims_over atoms es))) cs i c h)
+      ∙ so_far
 
-pub stop : (vcs : List Vc) (i : ℕ) (vc : Vc) (ds : List Derivation) (W : Option (List Proof)) → i < length vcs → vc ≡ get_or vcs i vc → derivation_of (claim_of vc) ≡ None
-    → behind (proofs_in ds) (all_derived (claims_of (drop i vcs))) ≡ W → None ≡ W
-stop vcs i vc ds W h is e k =
-    sym (derived-stop (proofs_in ds) (claim_of vc) (claims_of (drop (i + 1) vcs)) e)
-    ∙ ap (λ x. behind (proofs_in ds) (all_derived (claim_of x ∷ claims_of (drop (i + 1) vcs)))) is
-    ∙ sym (at_drop_more (λ vs. behind (proofs_in ds) (all_derived (claims_of vs))) vcs i vc h)
-    ∙ k
+  pub turn : (c : Condition) (d : Derivation) (new : List Derivation) → i < length cs → c ≡ get_or cs i c → derivation_of (claim_over atoms c) ≡ Some (proof_of d) → new ≡ ds ++ d ∷ []
+      → behind (proofs_in new) (all_derived (claims_over atoms (drop (i + 1) cs))) ≡ W
+  turn c d new h is e en =
+      ap (λ n. behind (proofs_in n) (all_derived (claims_over atoms (drop (i + 1) cs)))) en
+      ∙ ap (λ ps. behind ps (all_derived (claims_over atoms (drop (i + 1) cs)))) (map-append proof_of ds (d ∷ []))
+      ∙ sym (derived-step (proofs_in ds) (claim_over atoms c) (claims_over atoms (drop (i + 1) cs)) (proof_of d) e)
+      ∙ here c h is
 
-pub finish : (vcs : List Vc) (i : ℕ) (ds : List Derivation) (W : Option (List Proof)) → length vcs ≤ i → behind (proofs_in ds) (all_derived (claims_of (drop i vcs))) ≡ W → Some (proofs_in ds) ≡ W
-finish vcs i ds W h k = sym (derived-end (proofs_in ds)) ∙ sym (at_drop_all (λ vs. behind (proofs_in ds) (all_derived (claims_of vs))) vcs i h) ∙ k
+  pub stop : (c : Condition) → i < length cs → c ≡ get_or cs i c → derivation_of (claim_over atoms c) ≡ None → None ≡ W
+  stop c h is e = sym (derived-stop (proofs_in ds) (claim_over atoms c) (claims_over atoms (drop (i + 1) cs)) e) ∙ here c h is
+
+  pub finish : length cs ≤ i → Some (proofs_in ds) ≡ W
+  finish h = sym (derived-end (proofs_in ds)) ∙ sym (at_drop_all (λ es. behind (proofs_in ds) (all_derived (claims_over atoms es))) cs i h) ∙ so_far

@@ -1,11 +1,11 @@
 // What has been decided of an accumulator's choices, so that none is judged twice.
-ghost use Rattle.std.specs.Prelude.{◌≡◌, ◌+◌, ◌*◌, ◌%◌, ◌<◌, ◌≤◌, Some, None, IfOk, option_map, IfSome, OnOk, false, true, length, slice_get, is_some, map, drop, nat_eq, ◌++◌};
-ghost use Rattle.std.specs.List.{list_any};
+ghost use Rattle.std.specs.Prelude.{◌≡◌, ◌+◌, ◌*◌, ◌%◌, ◌<◌, ◌≤◌, Some, None, IfOk, option_map, IfSome, OnOk, false, true, length, slice_get, is_some, map, drop, ◌++◌};
 ghost use Rattle.tor_terms.specs.Plain.{forms_of};
 ghost use Rattle.kernel_lang.specs.Plain.{accumulator};
 ghost use Rattle.kernel_lang.specs.Pools.{members_from};
 ghost use Rattle.kernel_lang.specs.Whole.{fragment_of};
 ghost use Rattle.vc_gen.specs.Conditions.{own_conditions, all_conditions};
+ghost use Rattle.vc_gen.specs.Lent.{claims_over};
 ghost use Rattle.query_search.specs.declared.choices.Decided.TheVariants as answers;
 ghost use Rattle.query_search.specs.declared.choices.Tried.TheVariants as trials;
 ghost use Rattle.query_search.specs.Choices.{digits, chosen_by, member_at, IsFailing, FailAsKnown};
@@ -17,10 +17,10 @@ use crate::judge::judge;
 use kernel_lang::{Acc, Candidate, KFragment};
 use qbs_base::{Items, NoMemory};
 use std::alloc::Global;
-use tor_axioms::Derivations;
+use tor_axioms::{Condition, Derivations};
 use tor_prover::derives;
 use tor_terms::{Atoms, Formula, Formulas, copy_formula};
-use vc_gen::own_condition;
+use vc_gen::{has_number, own_condition, own_conditions as list_own};
 
 /// What has been decided of an accumulator with a choice. Only that its conditions fail is relied on.
 #[derive(Clone, Copy, PartialEq, Eq)]
@@ -28,12 +28,6 @@ pub enum Decided {
     Open,
     Derives,
     Fails,
-}
-
-fn has_number(cand: &[u32], n: u32) -> bool
-    ensures { result ≡ list_any (nat_eq n) cand.now }
-{
-    cand.iter().any(|m| n == *m)
 }
 
 /// The number of the choice that a candidate makes in a pool, the first formula of which has the number `first`. None where
@@ -104,8 +98,8 @@ fn chosen(alloc: Global, n: usize, pool: &[Formula]) -> Result<Formulas, NoMemor
     Ok(all)
 }
 
-/// The most conditions that an accumulator has.
-const MOST: usize = 4096;
+/// How many conditions are made one at a time, before all of them are: most choices that fail do so among these.
+const FEW: usize = 16;
 
 /// What comes of one condition of an accumulator.
 #[derive(Clone, Copy)]
@@ -137,6 +131,56 @@ fn try_condition(
     }
 }
 
+/// Tries the condition that stands at a place of a list.
+fn try_at(
+    alloc: Global,
+    atoms: &Atoms,
+    conditions: &[Condition],
+    n: usize,
+) -> Result<Tried, NoMemory>
+    ensures { IfOk result (λ r. r ≡ trials.Fails → all_derived (claims_over atoms.now conditions.now) ≡ None) }
+{
+    match conditions.get(n) {
+        None => Ok(Tried::Missing),
+        Some(condition) => {
+            if !derives(alloc, atoms, condition)? {
+                return Ok(Tried::Fails);
+            }
+            Ok(Tried::Derives)
+        }
+    }
+}
+
+/// The number of a condition that doesn't derive, if any, of those behind the first few.
+fn find_behind(
+    alloc: Global,
+    atoms: &Atoms,
+    conditions: &[Condition],
+) -> Result<Option<usize>, NoMemory>
+    ensures { IfOk result (λ o. is_some o ≡ true → all_derived (claims_over atoms.now conditions.now) ≡ None) }
+{
+    for n in FEW..conditions.len() {
+        if let Tried::Fails = try_at(alloc, atoms, conditions, n)? {
+            return Ok(Some(n));
+        }
+    }
+    Ok(None)
+}
+
+/// Makes all conditions of an accumulator with this choice, and tries those behind the first few.
+fn find_in_all(
+    alloc: Global,
+    atoms: &Atoms,
+    a: &Acc,
+    choice: &[Formula],
+) -> Result<Option<usize>, NoMemory>
+    requires { length a.now.chain ≤ 3 }
+    ensures { IfOk result (λ o. is_some o ≡ true → all_derived (own_conditions atoms.now (accumulator a.now, forms_of choice.now)) ≡ None) }
+{
+    let all = list_own(alloc, atoms, a, choice)?;
+    find_behind(alloc, atoms, all.as_slice())
+}
+
 /// The number of a condition of an accumulator with this choice that doesn't derive, if any. The one of the number `likely`
 /// is tried before all others.
 fn find_failing(
@@ -152,14 +196,14 @@ fn find_failing(
     if let Tried::Fails = try_condition(alloc, atoms, a, choice, likely)? {
         return Ok(Some(likely));
     }
-    for n in 0..MOST {
+    for n in 0..FEW {
         match try_condition(alloc, atoms, a, choice, n)? {
             Tried::Derives => {}
             Tried::Fails => return Ok(Some(n)),
             Tried::Missing => return Ok(None),
         }
     }
-    Ok(None)
+    find_in_all(alloc, atoms, a, choice)
 }
 
 /// What has been decided of a fragment's choices, each at its place, and the number of the condition that failed last: choices

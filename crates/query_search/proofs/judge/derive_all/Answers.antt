@@ -6,12 +6,13 @@ use Rattle.query_search.proofs.judge.derive_all.Goals as goal
 
 pub returns-in-None : goal.returns-in-None
 returns-in-None c =
-    stop c.args.vcs.now c.loop-vc.vc-index c.vc-item.result c.loop-vc.all _ (omega arith) c.vc-item.is (sym c.in_ok-derivation.ensures.exact ∙ ap (option_map proof_of) c.in-None.is) c.loop-vc.invariant
+    stop c.args.atoms.now c.args.conditions.now c.loop-condition.condition-index c.loop-condition.all _ c.loop-condition.invariant c.condition-item.result (omega arith) c.condition-item.is
+    (sym c.in_ok-derivation.ensures.exact ∙ ap (option_map proof_of) c.in-None.is)
 
-pub loop-vc-preserved : goal.loop-vc-preserved
-loop-vc-preserved c =
-    turn c.args.vcs.now c.loop-vc.vc-index c.vc-item.result c.loop-vc.all c.in-Some.derivation c.push.new.self _ (omega arith) c.vc-item.is
-    (sym c.in_ok-derivation.ensures.exact ∙ ap (option_map proof_of) c.in-Some.is) c.in_ok-push-in-Some.ensures.ok c.loop-vc.invariant
+pub loop-condition-preserved : goal.loop-condition-preserved
+loop-condition-preserved c =
+    turn c.args.atoms.now c.args.conditions.now c.loop-condition.condition-index c.loop-condition.all _ c.loop-condition.invariant c.condition-item.result c.in-Some.derivation c.push.new.self (omega arith) c.condition-item.is
+    (sym c.in_ok-derivation.ensures.exact ∙ ap (option_map proof_of) c.in-Some.is) c.in_ok-push-in-Some.ensures.ok
 
 pub returns : goal.returns
-returns c = finish c.args.vcs.now c.loop-vc.vc-index c.loop-vc.all _ (omega arith) c.loop-vc.invariant
+returns c = finish c.args.atoms.now c.args.conditions.now c.loop-condition.condition-index c.loop-condition.all _ c.loop-condition.invariant (omega arith)
