@@ -1,8 +1,10 @@
--- Where a loop gives way, the loops before it stay as they were, and the program has fewer.
+-- Where a loop gives way, the loops before it stay where they were, and the program has fewer.
 use Rattle.std.proofs.Common.{◌≡◌, ℕ, suc, ◌+◌, ◌<◌, true, List, [], ◌∷◌, ◌++◌, length, take, slice_get, Some, None, refl, sym, ap, ◌∙◌, subst, arith, append_assoc, append-nil}
-use Rattle.std.proofs.lemmas.List.{length-append}
+use Rattle.std.proofs.lemmas.List.{length-append, length-map, take-map}
 use Rattle.std.proofs.Math.Seq.{take-append_seam}
 use Rattle.qbs_base.specs.Values.{Schema}
+use Rattle.qbs_base.specs.declared.span.Span.{Span}
+use Rattle.java_ast.specs.Spans.{place_of}
 use Rattle.java_ast.specs.Tree.{Statement, Statements, Nothing, Then, PlainMethod, PlainProgram}
 use Rattle.java_mean.specs.Numbers.{NumbersFit}
 use Rattle.java_mean.specs.Queries.{Reader}
@@ -11,7 +13,7 @@ use Rattle.java_mean.specs.Types.{Types}
 use Rattle.java_mean.specs.WellTyped.{IsWellTyped}
 use Rattle.loop_text.specs.Statements.Fragment.{Fragment, are_simple, fragment_at}
 use Rattle.loop_text.specs.Statements.KeptStatements.{how_many, first_at}
-use Rattle.loop_text.specs.Statements.Loops.{loops_in, loops_among, loops_of}
+use Rattle.loop_text.specs.Statements.Loops.{loops_of}
 use Rattle.java_loops.specs.Kernel.Kernel as kernel
 use Rattle.java_loops.specs.Kernel.Kernel.{broken, lowering}
 use Rattle.java_loops.specs.Kernel.Setting.{Setting, setting_of}
@@ -28,6 +30,7 @@ use Rattle.java_loops.proofs.Placing.PlaceTyped.{FragmentThere}
 use Rattle.fragments.specs.Asked.{IsKernelLoop}
 use Rattle.rewrite_core.specs.Asked.{Place, asks_of, number_of, replaced}
 use Rattle.rewrite_core.proofs.DistinctLoops.{loop_number}
+use Rattle.rewrite_core.proofs.LoopSites.{Site, site, sites_in, sites_among, sites_of, paths_of, paths_joined, paths_are}
 use Rattle.rewrite_core.proofs.LoopsAround.{loops_followed, no_loops, replacement_simple, as_many, IsOuter, outer_first, Spot, spot, MethodLoops, method_loops}
 use Rattle.rewrite_core.proofs.StaysTyped.{first_there}
 
@@ -39,25 +42,35 @@ at_seam (y ∷ front) rest x = at_seam front rest x
 
 -- The first loops of two programs are the same before one of the first, which with those inside it is missing in the second.
 record Vanishes (p q : PlainProgram) (path : List ℕ) : Type 0 where
-  front : List (List ℕ)
-  old : List (List ℕ)
-  new : List (List ℕ)
-  was : loops_of p ≡ front ++ path ∷ old
-  is : loops_of q ≡ front ++ new
+  at : Span
+  front : List Site
+  old : List Site
+  new : List Site
+  was : sites_of p ≡ front ++ site path at ∷ old
+  is : sites_of q ≡ front ++ new
   fewer : length new < suc (length old)
 
-vanished : (p q : PlainProgram) (path : List ℕ) (n : ℕ) → Vanishes p q path → slice_get (loops_of p) n ≡ Some path → take n (loops_of q) ≡ take n (loops_of p)
-vanished p q path n v there =
-    let number : length v.front ≡ n = loop_number p path (length v.front) n (ap (λ xs. slice_get xs (length v.front)) v.was ∙ at_seam v.front v.old path) there in
-    sym (ap (λ k. take k (loops_of q)) number) ∙ ap (take (length v.front)) v.is ∙ take-append_seam v.front v.new
-    ∙ sym (take-append_seam v.front (path ∷ v.old)) ∙ sym (ap (take (length v.front)) v.was) ∙ ap (λ k. take k (loops_of p)) number
+module _ (p q : PlainProgram) (path : List ℕ) (v : Vanishes p q path) where
+  old_paths : loops_of p ≡ paths_of v.front ++ path ∷ paths_of v.old
+  old_paths = sym (paths_are p) ∙ ap paths_of v.was ∙ paths_joined v.front (site path v.at ∷ v.old)
 
-shortened : (p q : PlainProgram) (path : List ℕ) → Vanishes p q path → length (loops_of q) < length (loops_of p)
-shortened p q path v =
-    let a : length (loops_of q) ≡ length v.front + length v.new = ap length v.is ∙ length-append v.front v.new in
-    let b : length (loops_of p) ≡ length v.front + suc (length v.old) = ap length v.was ∙ length-append v.front (path ∷ v.old) in
-    let c : length v.new < suc (length v.old) = v.fewer in
-    omega arith
+  number_is : (n : ℕ) → slice_get (loops_of p) n ≡ Some path → length v.front ≡ n
+  number_is n there =
+      sym (length-map v.front (λ (s : Site). s.path))
+      ∙ loop_number p path (length (paths_of v.front)) n (ap (λ xs. slice_get xs (length (paths_of v.front))) old_paths ∙ at_seam (paths_of v.front) (paths_of v.old) path) there
+
+  vanished : (n : ℕ) → slice_get (loops_of p) n ≡ Some path → take n (sites_of q) ≡ take n (sites_of p)
+  vanished n there =
+      let number : length v.front ≡ n = number_is n there in
+      sym (ap (λ k. take k (sites_of q)) number) ∙ ap (take (length v.front)) v.is ∙ take-append_seam v.front v.new
+      ∙ sym (take-append_seam v.front (site path v.at ∷ v.old)) ∙ sym (ap (take (length v.front)) v.was) ∙ ap (λ k. take k (sites_of p)) number
+
+  shortened : length (sites_of q) < length (sites_of p)
+  shortened =
+      let a : length (sites_of q) ≡ length v.front + length v.new = ap length v.is ∙ length-append v.front v.new in
+      let b : length (sites_of p) ≡ length v.front + suc (length v.old) = ap length v.was ∙ length-append v.front (site path v.at ∷ v.old) in
+      let c : length v.new < suc (length v.old) = v.fewer in
+      omega arith
 
 -- ---- At a place
 
@@ -65,26 +78,29 @@ module _ (pre : List ℕ) (hole : Hole) (run new : Statements) (loop : Statement
   abbrev here : List ℕ
   here = k.at ++ (k.number + how_many run) ∷ []
 
-  abbrev old_behind : List (List ℕ)
-  old_behind = loops_among k.at (k.number + how_many (run_and_loop run loop)) (behind hole)
+  abbrev old_behind : List Site
+  old_behind = sites_among k.at (k.number + how_many (run_and_loop run loop)) (behind hole)
 
-  abbrev new_behind : List (List ℕ)
-  new_behind = loops_among k.at (k.number + how_many new) (behind hole)
+  abbrev new_behind : List Site
+  new_behind = sites_among k.at (k.number + how_many new) (behind hole)
 
-  loop_there : loops_among k.at k.number (run_and_loop run loop) ≡ here ∷ o.inside
+  abbrev own : Site
+  own = site here (place_of loop)
+
+  loop_there : sites_among k.at k.number (run_and_loop run loop) ≡ own ∷ o.inside
   loop_there =
       loops_followed run (Then loop Nothing) k.at k.number
-      ∙ ap (λ xs. xs ++ (loops_in here loop ++ [])) (no_loops run k.at k.number simple)
-      ∙ append-nil (loops_in here loop)
+      ∙ ap (λ xs. xs ++ (sites_in here loop ++ [])) (no_loops run k.at k.number simple)
+      ∙ append-nil (sites_in here loop)
       ∙ o.is
 
-  old_loops : loops_among pre 0 (fill hole (run_and_loop run loop)) ≡ k.before ++ here ∷ (o.inside ++ (old_behind ++ k.after))
+  old_loops : sites_among pre 0 (fill hole (run_and_loop run loop)) ≡ k.before ++ own ∷ (o.inside ++ (old_behind ++ k.after))
   old_loops =
       k.loops (run_and_loop run loop)
       ∙ ap (λ xs. k.before ++ (xs ++ k.after)) (loops_followed (run_and_loop run loop) (behind hole) k.at k.number ∙ ap (λ xs. xs ++ old_behind) loop_there)
-      ∙ ap (λ xs. k.before ++ here ∷ xs) (append_assoc o.inside old_behind k.after)
+      ∙ ap (λ xs. k.before ++ own ∷ xs) (append_assoc o.inside old_behind k.after)
 
-  new_loops : loops_among pre 0 (fill hole new) ≡ k.before ++ (new_behind ++ k.after)
+  new_loops : sites_among pre 0 (fill hole new) ≡ k.before ++ (new_behind ++ k.after)
   new_loops =
       k.loops new
       ∙ ap (λ xs. k.before ++ (xs ++ k.after)) (loops_followed new (behind hole) k.at k.number ∙ ap (λ xs. xs ++ new_behind) (no_loops new k.at k.number simple_too))
@@ -130,25 +146,26 @@ module _ (schema : Schema) (reader : Reader schema) (p : PlainProgram) (path : L
   -- with other statements in place of the run and the loop
   vanishes : (new : Statements) → are_simple new ≡ true → Vanishes p (with_statements p there.place.number hole new) path
   vanishes new simple =
-      let old_behind : List (List ℕ) = loops_among round.at (round.number + how_many (run_and_loop f.run f.loop)) (behind hole) in
-      let new_behind : List (List ℕ) = loops_among round.at (round.number + how_many new) (behind hole) in
-      let here : List ℕ = round.at ++ (round.number + how_many f.run) ∷ [] in
-      let many : length (loops_among round.at (round.number + how_many new) (behind hole)) ≡ length (loops_among round.at (round.number + how_many (run_and_loop f.run f.loop)) (behind hole)) = as_many_behind pre hole f.run new f.loop round there.place.placed.simple simple outer in
+      let old_behind : List Site = sites_among round.at (round.number + how_many (run_and_loop f.run f.loop)) (behind hole) in
+      let new_behind : List Site = sites_among round.at (round.number + how_many new) (behind hole) in
+      let own : Site = site (round.at ++ (round.number + how_many f.run) ∷ []) (place_of f.loop) in
+      let many : length (sites_among round.at (round.number + how_many new) (behind hole)) ≡ length (sites_among round.at (round.number + how_many (run_and_loop f.run f.loop)) (behind hole)) = as_many_behind pre hole f.run new f.loop round there.place.placed.simple simple outer in
       let all_old : length ((outer.inside ++ (old_behind ++ round.after)) ++ methods.after) ≡ length outer.inside + (length old_behind + length round.after) + length methods.after =
       length-append (outer.inside ++ (old_behind ++ round.after)) methods.after ∙ ap (λ i. i + length methods.after) (length-append outer.inside (old_behind ++ round.after) ∙ ap (λ i. length outer.inside + i) (length-append old_behind round.after)) in
       let all_new : length ((new_behind ++ round.after) ++ methods.after) ≡ length new_behind + length round.after + length methods.after =
       length-append (new_behind ++ round.after) methods.after ∙ ap (λ i. i + length methods.after) (length-append new_behind round.after) in
       record {
+        at = place_of f.loop;
         front = methods.before ++ round.before;
         old = (outer.inside ++ (old_behind ++ round.after)) ++ methods.after;
         new = (new_behind ++ round.after) ++ methods.after;
         was =
             methods.is
-            ∙ ap (λ b. methods.before ++ (loops_among pre 0 b ++ methods.after)) there.place.placed.is
+            ∙ ap (λ b. methods.before ++ (sites_among pre 0 b ++ methods.after)) there.place.placed.is
             ∙ ap (λ xs. methods.before ++ (xs ++ methods.after)) (old_loops pre hole f.run new f.loop round there.place.placed.simple simple outer)
-            ∙ ap (λ xs. methods.before ++ xs) (append_assoc round.before (here ∷ (outer.inside ++ (old_behind ++ round.after))) methods.after)
-            ∙ sym (append_assoc methods.before round.before (here ∷ ((outer.inside ++ (old_behind ++ round.after)) ++ methods.after)))
-            ∙ ap (λ x. (methods.before ++ round.before) ++ x ∷ ((outer.inside ++ (old_behind ++ round.after)) ++ methods.after)) path_is;
+            ∙ ap (λ xs. methods.before ++ xs) (append_assoc round.before (own ∷ (outer.inside ++ (old_behind ++ round.after))) methods.after)
+            ∙ sym (append_assoc methods.before round.before (own ∷ ((outer.inside ++ (old_behind ++ round.after)) ++ methods.after)))
+            ∙ ap (λ x. (methods.before ++ round.before) ++ site x (place_of f.loop) ∷ ((outer.inside ++ (old_behind ++ round.after)) ++ methods.after)) path_is;
         is =
             methods.changed (fill hole new)
             ∙ ap (λ xs. methods.before ++ (xs ++ methods.after)) (new_loops pre hole f.run new f.loop round there.place.placed.simple simple outer)
@@ -172,10 +189,23 @@ replaced_vanishes schema reader l k =
     (at_setting (λ (z : Setting). fragment_at l.path l.program ≡ Some z.fragment → Vanishes l.program (rewritten_at l.path begins.0 (kept_numbers z.fragment (names_read (lowering z).entries) begins.0 z.fragment.run) z (asks_of l) l.program) l.path) schema reader.read l.program l.path l.setting k.typed k.numbers
     (λ f g there rules leads'. rewritten_vanishes schema reader l.program l.path f g k.typed k.numbers there rules begins.0 (asks_of l) leads' begins.1) k.there k.unbroken leads)
 
--- Where a loop gives way, the loops before it are those that were there.
+-- Where a loop gives way, the loops before it are those that were there, at the same places.
+pub earlier_sites_stay : (schema : Schema) (reader : Reader schema) (l : Place) (n : ℕ) → IsKernelLoop schema reader.read l.program l.path l.setting → slice_get (loops_of l.program) n ≡ Some l.path → take n (sites_of (replaced l)) ≡ take n (sites_of l.program)
+earlier_sites_stay schema reader l n k = vanished l.program (replaced l) l.path (replaced_vanishes schema reader l k) n
+
+paths_taken : (p : PlainProgram) (n : ℕ) → take n (loops_of p) ≡ paths_of (take n (sites_of p))
+paths_taken p n = ap (take n) (sym (paths_are p)) ∙ take-map (λ (s : Site). s.path) n (sites_of p)
+
 pub earlier_loops_stay : (schema : Schema) (reader : Reader schema) (l : Place) (n : ℕ) → IsKernelLoop schema reader.read l.program l.path l.setting → slice_get (loops_of l.program) n ≡ Some l.path → take n (loops_of (replaced l)) ≡ take n (loops_of l.program)
-earlier_loops_stay schema reader l n k = vanished l.program (replaced l) l.path n (replaced_vanishes schema reader l k)
+earlier_loops_stay schema reader l n k there = paths_taken (replaced l) n ∙ ap paths_of (earlier_sites_stay schema reader l n k there) ∙ sym (paths_taken l.program n)
+
+pub how_many_loops : (p : PlainProgram) → length (loops_of p) ≡ length (sites_of p)
+how_many_loops p = ap length (sym (paths_are p)) ∙ length-map (sites_of p) (λ (s : Site). s.path)
 
 -- And the program has fewer loops.
 pub fewer_loops : (schema : Schema) (reader : Reader schema) (l : Place) → IsKernelLoop schema reader.read l.program l.path l.setting → length (loops_of (replaced l)) < length (loops_of l.program)
-fewer_loops schema reader l k = shortened l.program (replaced l) l.path (replaced_vanishes schema reader l k)
+fewer_loops schema reader l k =
+    let fewer : length (sites_of (replaced l)) < length (sites_of l.program) = shortened l.program (replaced l) l.path (replaced_vanishes schema reader l k) in
+    let new : length (loops_of (replaced l)) ≡ length (sites_of (replaced l)) = how_many_loops (replaced l) in
+    let old : length (loops_of l.program) ≡ length (sites_of l.program) = how_many_loops l.program in
+    omega arith

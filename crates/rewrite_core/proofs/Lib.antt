@@ -23,6 +23,8 @@ pub mod HasAsks
 pub mod Keeping
 pub mod KeptFaultless
 pub mod Known
+pub mod LoopSites
+pub mod LoopThere
 pub mod LoopsAround
 pub mod May
 pub mod NoReturns

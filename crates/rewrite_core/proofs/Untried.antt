@@ -1,10 +1,14 @@
--- After all tries of a program's loops, those that stand are those that were tried and found no candidate.
-use Rattle.std.proofs.Common.{◌≡◌, ℕ, zero, suc, ◌+◌, ◌≤◌, ◌<◌, List, [], ◌∷◌, ◌++◌, length, take, slice_get, Option, Some, None, refl, sym, ap, ap₂, ◌∙◌, arith, append_assoc, append-nil}
-use Rattle.std.proofs.lemmas.List.{length-take-le}
+-- After all tries of a program's loops, those that stand are those that were tried and found no candidate, where they stood then.
+use Rattle.std.proofs.Common.{◌≡◌, ℕ, zero, suc, ◌+◌, ◌≤◌, ◌<◌, List, [], ◌∷◌, ◌++◌, length, map, take, slice_get, Option, Some, None, refl, sym, ap, ap₂, ◌∙◌, subst, arith, append_assoc, append-nil}
+use Rattle.std.specs.List.{AllByRecursion}
+use Rattle.std.proofs.lemmas.List.{length-take-le, map-append}
 use Rattle.std.proofs.Math.Seq.{take-length}
+use Rattle.qbs_base.specs.declared.span.Span.{Span}
 use Rattle.qbs_base.specs.Values.{Schema}
 use Rattle.query_search.specs.Verdicts.{Found, NoneOf, Budget}
-use Rattle.java_ast.specs.Path.{found_in}
+use Rattle.sql_ast.proofs.Tools.{all_at}
+use Rattle.java_ast.specs.Path.{found_in, statement_at}
+use Rattle.java_ast.specs.Spans.{place_of}
 use Rattle.java_ast.specs.Tree as tree
 use Rattle.java_ast.specs.Tree.{Statement, Statements, Nothing, Then, PlainProgram}
 use Rattle.java_mean.specs.Queries.{Reader}
@@ -23,7 +27,10 @@ use Rattle.java_loops.proofs.Placing.Place.{behind_all, fill_behind, IsPlacedIn,
 use Rattle.rewrite_core.specs.Asked.{Place, replaced}
 use Rattle.rewrite_core.specs.TriedAsking.{MayBeAskedBy, AllMayBeAsked, standing_path, standing_paths, standing_left}
 use Rattle.rewrite_core.specs.Trying.{Answer, Outside, Searched, answer_unless, Tried, tried_in, tried_at, program_by, program_after, standing_after, and_further, trying, all_tried, left_of, rewritten}
-use Rattle.rewrite_core.proofs.EarlierLoops.{earlier_loops_stay, fewer_loops}
+use Rattle.rewrite_core.specs.Rewriting.{loop_place, left_standing, standing_tries, StandsIn}
+use Rattle.rewrite_core.proofs.EarlierLoops.{earlier_sites_stay, earlier_loops_stay, fewer_loops, how_many_loops}
+use Rattle.rewrite_core.proofs.LoopSites.{Site, site, sites_of, paths_of, paths_joined, paths_are, StandsAt, all_stand_at}
+use Rattle.rewrite_core.proofs.LoopThere.{loop_there}
 
 -- ---- Lists
 
@@ -32,7 +39,7 @@ below_length [] n x e = absurd cc
 below_length (y ∷ ys) zero x e = omega arith
 below_length (y ∷ ys) (suc n) x e = let h : n < length ys = below_length ys n x e in omega arith
 
-past_length : {A : Type 0} (xs : List A) (n : ℕ) → slice_get xs n ≡ None → length xs ≤ n
+pub past_length : {A : Type 0} (xs : List A) (n : ℕ) → slice_get xs n ≡ None → length xs ≤ n
 past_length [] n e = omega arith
 past_length (y ∷ ys) zero e = absurd cc
 past_length (y ∷ ys) (suc n) e = let h : length ys ≤ n = past_length ys n e in omega arith
@@ -42,6 +49,15 @@ one_more [] n x e = absurd cc
 one_more (y ∷ []) zero x e = let same : y ≡ x = cc in ap (λ z. z ∷ []) same
 one_more (y ∷ z ∷ zs) zero x e = let same : y ≡ x = cc in ap (λ z. z ∷ []) same
 one_more (y ∷ ys) (suc n) x e = ap (λ zs. y ∷ zs) (one_more ys n x e)
+
+got_mapped : {A B : Type 0} (f : A → B) (xs : List A) (n : ℕ) (y : B) → slice_get (map f xs) n ≡ Some y → (x : A) × (slice_get xs n ≡ Some x) × (f x ≡ y)
+got_mapped f [] n y e = absurd cc
+got_mapped f (x ∷ xs) zero y e = (x, refl, (let same : f x ≡ y = cc in same))
+got_mapped f (x ∷ xs) (suc n) y e = got_mapped f xs n y e
+
+all_unmapped : {A B : Type 0} (P : B → Type 0) (f : A → B) (xs : List A) → AllByRecursion P (map f xs) → AllByRecursion (λ (x : A). P (f x)) xs
+all_unmapped P f [] h = tt
+all_unmapped P f (x ∷ xs) h = (h.0, all_unmapped P f xs h.1)
 
 -- ---- Settings of loops
 
@@ -92,51 +108,77 @@ module _ (schema : Schema) where
 
 -- ---- One try
 
+-- the site of a loop that was tried
+abbrev tried_site : Tried → Site
+tried_site t = site t.path (loop_place t)
+
+abbrev sites_tried : List Tried → List Site
+sites_tried ts = map tried_site ts
+
+same_statement : (o : Option Statement) (a b : Statement) → o ≡ Some a → o ≡ Some b → a ≡ b
+same_statement o a b e h = cc
+
+-- the loop of a setting stands at its site
+site_there : (schema : Schema) (p : PlainProgram) (path : List ℕ) (n : ℕ) (w : Setting) → slice_get (loops_of p) n ≡ Some path → setting_at schema (read_by schema) path p ≡ Some w → slice_get (sites_of p) n ≡ Some (site path (place_of w.fragment.loop))
+site_there schema p path n w e there =
+    let got = got_mapped (λ (s : Site). s.path) (sites_of p) n path (ap (λ xs. slice_get xs n) (paths_are p) ∙ e) in
+    let stands : StandsAt p got.0 = all_at (StandsAt p) (sites_of p) n got.0 (all_stand_at p) got.1 in
+    let loop : statement_at path p ≡ Some stands.0 = sym (ap (λ q. statement_at q p) got.2) ∙ stands.1 in
+    let same : stands.0 ≡ w.fragment.loop = same_statement (statement_at path p) stands.0 w.fragment.loop loop (loop_there schema (read_by schema) p path w there) in
+    let at : got.0.at ≡ place_of w.fragment.loop = sym stands.2 ∙ ap place_of same in
+    got.1 ∙ ap₂ (λ (q : List ℕ) (s : Span). Some (site q s)) got.2 at
+
 -- a program and the one after a try of its loop with the number n
-record Next (n : ℕ) (path : List ℕ) (p q : PlainProgram) (a : Answer) : Type 0 where
+record Next (n : ℕ) (t : Tried) (p q : PlainProgram) (a : Answer) : Type 0 where
   reach : standing_after n a ≤ length (loops_of q)
   few : length (loops_of q) + n < length (loops_of p) + standing_after n a
-  front : take (standing_after n a) (loops_of q) ≡ take n (loops_of p) ++ standing_path path a
+  front : take (standing_after n a) (sites_of q) ≡ take n (sites_of p) ++ sites_tried (left_standing t a)
 
 module _ (schema : Schema) where
   abbrev reader : Reader schema
   reader = record { read = read_by schema; exact = found_exactly schema }
 
-  stands : (p : PlainProgram) (path : List ℕ) (n : ℕ) → slice_get (loops_of p) n ≡ Some path → (take (suc n) (loops_of p) ≡ take n (loops_of p) ++ path ∷ []) × (suc n ≤ length (loops_of p)) × (length (loops_of p) + n < length (loops_of p) + suc n)
-  stands p path n e = let h : n < length (loops_of p) = below_length (loops_of p) n path e in (one_more (loops_of p) n path e, omega arith, omega arith)
+  stands : (n : ℕ) (t : Tried) → slice_get (loops_of t.program) n ≡ Some t.path → setting_at schema (read_by schema) t.path t.program ≡ Some t.setting
+      → (take (suc n) (sites_of t.program) ≡ take n (sites_of t.program) ++ tried_site t ∷ []) × (suc n ≤ length (loops_of t.program)) × (length (loops_of t.program) + n < length (loops_of t.program) + suc n)
+  stands n t e there =
+      let h : n < length (loops_of t.program) = below_length (loops_of t.program) n t.path e in
+      (one_more (sites_of t.program) n (tried_site t) (site_there schema t.program t.path n t.setting e there), omega arith, omega arith)
 
-  next : (n : ℕ) (t : Tried) (a : Answer) → slice_get (loops_of t.program) n ≡ Some t.path → MayBeAskedBy schema t a → Next n t.path t.program (program_by t a) a
-  next n t (Searched f (Found h)) e may =
+  next : (n : ℕ) (t : Tried) (a : Answer) → slice_get (loops_of t.program) n ≡ Some t.path → setting_at schema (read_by schema) t.path t.program ≡ Some t.setting → MayBeAskedBy schema t a → Next n t t.program (program_by t a) a
+  next n t (Searched f (Found h)) e there may =
       let l : Place = record { program = t.program; path = t.path; setting = t.setting; candidate = h.candidate } in
       let same : take n (loops_of (replaced l)) ≡ take n (loops_of t.program) = earlier_loops_stay schema reader l n may.loop e in
       let fewer : length (loops_of (replaced l)) < length (loops_of t.program) = fewer_loops schema reader l may.loop in
       let below : n < length (loops_of t.program) = below_length (loops_of t.program) n t.path e in
       let long : length (take n (loops_of (replaced l))) ≡ n = ap length same ∙ length-take-le n (loops_of t.program) (omega (arith, below)) in
-      record { reach = reached (loops_of (replaced l)) n long; few = omega arith; front = same ∙ sym (append-nil (take n (loops_of t.program))) }
+      record { reach = reached (loops_of (replaced l)) n long; few = omega arith; front = earlier_sites_stay schema reader l n may.loop e ∙ sym (append-nil (take n (sites_of t.program))) }
     where
       reached : {A : Type 0} (xs : List A) (n : ℕ) → length (take n xs) ≡ n → n ≤ length xs
       reached [] zero e = omega arith
       reached [] (suc n) e = absurd (let none : 0 ≡ suc n = e in omega arith)
       reached (x ∷ xs) zero e = omega arith
       reached (x ∷ xs) (suc n) e = let less : length (take n xs) ≡ n = (let k : suc (length (take n xs)) ≡ suc n = e in omega arith) in let ih : n ≤ length xs = reached xs n less in omega arith
-  next n t (Searched f (NoneOf m)) e may = let k = stands t.program t.path n e in record { reach = k.1; few = k.2; front = k.0 }
-  next n t (Searched f (Budget b m)) e may = let k = stands t.program t.path n e in record { reach = k.1; few = k.2; front = k.0 }
-  next n t (Outside b) e may = let k = stands t.program t.path n e in record { reach = k.1; few = k.2; front = k.0 }
+  next n t (Searched f (NoneOf m)) e there may = let k = stands n t e there in record { reach = k.1; few = k.2; front = k.0 }
+  next n t (Searched f (Budget b m)) e there may = let k = stands n t e there in record { reach = k.1; few = k.2; front = k.0 }
+  next n t (Outside b) e there may = let k = stands n t e there in record { reach = k.1; few = k.2; front = k.0 }
 
 -- ---- All tries
 
 -- after these tries the first n loops stand, and those that were tried and stand
 record Stand (p : PlainProgram) (n : ℕ) (ts : List Tried) : Type 0 where
-  loops : loops_of (left_of p ts) ≡ take n (loops_of p) ++ standing_paths ts
+  sites : sites_of (left_of p ts) ≡ take n (sites_of p) ++ sites_tried (standing_tries ts)
   count : standing_left n ts ≡ length (loops_of (left_of p ts))
 
 none_left : (p : PlainProgram) (n : ℕ) → n ≡ length (loops_of p) → Stand p n []
-none_left p n e = record { loops = sym (append-nil (take n (loops_of p)) ∙ ap (λ k. take k (loops_of p)) e ∙ take-length (loops_of p)); count = e }
+none_left p n e = record { sites = sym (append-nil (take n (sites_of p)) ∙ ap (λ k. take k (sites_of p)) (e ∙ how_many_loops p) ∙ take-length (sites_of p)); count = e }
 
-one_stands : (p : PlainProgram) (n : ℕ) (t : Tried) (ts : List Tried) → Next n t.path p (program_after t) t.answer → Stand (program_after t) (standing_after n t.answer) ts → Stand p n (t ∷ ts)
+one_stands : (p : PlainProgram) (n : ℕ) (t : Tried) (ts : List Tried) → Next n t p (program_after t) t.answer → Stand (program_after t) (standing_after n t.answer) ts → Stand p n (t ∷ ts)
 one_stands p n t ts k s =
     record {
-      loops = s.loops ∙ ap (λ xs. xs ++ standing_paths ts) k.front ∙ append_assoc (take n (loops_of p)) (standing_path t.path t.answer) (standing_paths ts);
+      sites =
+          s.sites ∙ ap (λ xs. xs ++ sites_tried (standing_tries ts)) k.front
+          ∙ append_assoc (take n (sites_of p)) (sites_tried (left_standing t t.answer)) (sites_tried (standing_tries ts))
+          ∙ ap (λ xs. take n (sites_of p) ++ xs) (sym (map-append tried_site (left_standing t t.answer) (standing_tries ts)));
       count = s.count;
     }
 
@@ -149,7 +191,7 @@ module _ (schema : Schema) (size budget : ℕ) where
     by_setting path None e s h = let w = setting_found schema p path n e in absurd (let none : Some w.0 ≡ None = sym w.1 ∙ s in cc)
     by_setting path (Some w) e s h =
         let t : Tried = record { program = p; path = path; setting = w; answer = answer_unless size budget w (broken w) } in
-        let k : Next n path p (program_after t) t.answer = next schema n t t.answer e h.0 in
+        let k : Next n t p (program_after t) t.answer = next schema n t t.answer e s h.0 in
         let less : length (loops_of (program_after t)) + n < length (loops_of p) + standing_after n t.answer = k.few in
         one_stands p n t (further (program_after t) (standing_after n t.answer)) k (ih (program_after t) (standing_after n t.answer) h.1 k.reach (omega arith))
 
@@ -170,9 +212,35 @@ no_first : {A : Type 0} (xs : List A) → take 0 xs ≡ []
 no_first [] = refl
 no_first (x ∷ xs) = refl
 
+module _ (schema : Schema) (size budget : ℕ) (p : PlainProgram) (h : AllMayBeAsked schema (all_tried schema size budget p)) where
+  sites_stand : sites_of (rewritten schema size budget p) ≡ sites_tried (standing_tries (all_tried schema size budget p))
+  sites_stand = (all_tried_stand schema size budget p h).sites ∙ ap (λ xs. xs ++ sites_tried (standing_tries (all_tried schema size budget p))) (no_first (sites_of p))
+
+  stand_at : AllByRecursion (StandsAt (rewritten schema size budget p)) (sites_tried (standing_tries (all_tried schema size budget p)))
+  stand_at = subst (AllByRecursion (StandsAt (rewritten schema size budget p))) sites_stand (all_stand_at (rewritten schema size budget p))
+
+-- ---- Paths
+
+one_path : (t : Tried) (a : Answer) → paths_of (sites_tried (left_standing t a)) ≡ standing_path t.path a
+one_path t (Searched f (Found h)) = refl
+one_path t (Searched f (NoneOf n)) = refl
+one_path t (Searched f (Budget b n)) = refl
+one_path t (Outside b) = refl
+
+paths_tried : (ts : List Tried) → paths_of (sites_tried (standing_tries ts)) ≡ standing_paths ts
+paths_tried [] = refl
+paths_tried (t ∷ ts) =
+    ap paths_of (map-append tried_site (left_standing t t.answer) (standing_tries ts))
+    ∙ paths_joined (sites_tried (left_standing t t.answer)) (sites_tried (standing_tries ts))
+    ∙ ap₂ (λ xs ys. xs ++ ys) (one_path t t.answer) (paths_tried ts)
+
 -- The loops that stand after all tries are those that were tried and found no candidate.
 pub standing_tried : (schema : Schema) (size budget : ℕ) (p : PlainProgram) → AllMayBeAsked schema (all_tried schema size budget p) → loops_of (rewritten schema size budget p) ≡ standing_paths (all_tried schema size budget p)
-standing_tried schema size budget p h = (all_tried_stand schema size budget p h).loops ∙ ap (λ xs. xs ++ standing_paths (all_tried schema size budget p)) (no_first (loops_of p))
+standing_tried schema size budget p h = sym (paths_are (rewritten schema size budget p)) ∙ ap paths_of (sites_stand schema size budget p h) ∙ paths_tried (all_tried schema size budget p)
+
+-- They stand where they stood when they were tried.
+pub standing_in_place : (schema : Schema) (size budget : ℕ) (p : PlainProgram) → AllMayBeAsked schema (all_tried schema size budget p) → AllByRecursion (StandsIn (rewritten schema size budget p)) (standing_tries (all_tried schema size budget p))
+standing_in_place schema size budget p h = all_unmapped (StandsAt (rewritten schema size budget p)) tried_site (standing_tries (all_tried schema size budget p)) (stand_at schema size budget p h)
 
 -- They are as many as were tried and stand.
 pub nothing_left : (schema : Schema) (size budget : ℕ) (p : PlainProgram) → AllMayBeAsked schema (all_tried schema size budget p) → standing_left 0 (all_tried schema size budget p) ≡ length (loops_of (rewritten schema size budget p))

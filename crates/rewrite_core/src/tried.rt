@@ -1,6 +1,7 @@
 //! Laws of the tries of a program's loops, for the crates above. They do nothing.
 ghost use Rattle.std.specs.Prelude.{◌≡◌, ℕ, ◌<◌, length, take, slice_get};
 ghost use Rattle.std.specs.declared.option.Option.TheVariants.{Some};
+ghost use Rattle.std.specs.List.{AllByRecursion};
 ghost use Rattle.qbs_base.specs.Values.{Schema};
 ghost use Rattle.java_ast.specs.Tree.{PlainProgram};
 ghost use Rattle.java_mean.specs.Keeps.{Keeps};
@@ -11,6 +12,7 @@ ghost use Rattle.java_types.specs.Texts.{read_by};
 ghost use Rattle.loop_text.specs.Statements.Loops.{loops_of};
 ghost use Rattle.fragments.specs.Asked.{IsKernelLoop};
 ghost use Rattle.rewrite_core.specs.Asked.{Place, replaced};
+ghost use Rattle.rewrite_core.specs.Rewriting.{standing_tries, StandsIn};
 ghost use Rattle.rewrite_core.specs.Trying.{all_tried, rewritten};
 ghost use Rattle.rewrite_core.specs.TriedAsking.{AllMayBeAsked, standing_paths, standing_left};
 
@@ -55,4 +57,11 @@ pub fn standing_loops_were_tried()
     ensures { (schema : Schema) (size budget : ℕ) (p : PlainProgram)
         → AllMayBeAsked schema (all_tried schema size budget p)
         → loops_of (rewritten schema size budget p) ≡ standing_paths (all_tried schema size budget p) }
+{}
+
+/// They stand at the places where they stood when they were tried.
+pub fn standing_loops_stay_in_place()
+    ensures { (schema : Schema) (size budget : ℕ) (p : PlainProgram)
+        → AllMayBeAsked schema (all_tried schema size budget p)
+        → AllByRecursion (StandsIn (rewritten schema size budget p)) (standing_tries (all_tried schema size budget p)) }
 {}
