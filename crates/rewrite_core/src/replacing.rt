@@ -27,6 +27,7 @@ ghost use Rattle.sql_parts.specs.Given.{AreKnownTo};
 ghost use Rattle.vc_gen.specs.Soundness.{EndsAnywhere};
 ghost use Rattle.fragments.specs.Lowers.{lowering_in_code};
 ghost use Rattle.rewrite_core.specs.Asked.{replaced};
+ghost use Rattle.rewrite_core.specs.Asking.{HasAsks};
 ghost use Rattle.rewrite_core.specs.Looped.{looped_in_code, asked_from, AreValidFrom};
 
 use crate::asking::push_asks;
@@ -49,8 +50,8 @@ fn run_there<'a>(program: &'a Program, path: &Path) -> &'a [Stmt]
     }
 }
 
-// Where the statement stands to which a path leads.
-fn place_there(program: &Program, path: &Path) -> Span
+/// Where the statement stands to which a path leads.
+pub fn place_there(program: &Program, path: &Path) -> Span
     ensures { (s : plain.Statement) → statement_at path.now (plain_program program.now) ≡ Some s → result ≡ place_of s }
 {
     match at_path(program, path) {
@@ -78,6 +79,84 @@ fn in_place(alloc: Global, l: Looped) -> Result<Vec<Stmt>, NoMemory>
     let mut all = kept_statements(alloc, l.program, l.path, l.lowered)?;
     push_asks(alloc, l, 0, l.lowered.names.as_slice(), &mut all)?;
     Ok(all)
+}
+
+// The same of a loop of a program, by its path.
+fn in_place_at(
+    alloc: Global,
+    schema: &Schema,
+    program: &Program,
+    path: &Path,
+    lowered: &Lowered,
+    candidate: &Candidate,
+) -> Result<Vec<Stmt>, NoMemory>
+    requires typed { IsWellTyped schema.now (read_by schema.now) (plain_program program.now) }
+    requires numbers { NumbersFit (plain_program program.now) }
+    requires lowered { IsLowered schema.now (read_by schema.now) (plain_program program.now) path.now (lowering_in_code lowered.now) lowered.now.first lowered.now.kept }
+    requires known { AreKnownTo schema.now (fragment_of lowered.now.frag) (map query lowered.now.known) lowered.now.known_args }
+    ensures exact { IfOk result (λ others.
+        (w : Setting)
+        → setting_at schema.now (read_by schema.now) path.now (plain_program program.now) ≡ Some w
+        → replaced_at path.now lowered.now.first (statements others.items) (plain_program program.now)
+        ≡ replaced (record { program = plain_program program.now; path = path.now; setting = w; candidate = candidate.now })) }
+    ensures asks { OnOk result (
+        (w : Setting)
+        → setting_at schema.now (read_by schema.now) path.now (plain_program program.now) ≡ Some w
+        → HasAsks schema.now (read_by schema.now) (plain_program program.now) path.now w candidate.now) }
+{
+    let l = Looped {
+        schema,
+        program,
+        path,
+        run: run_there(program, path),
+        at: place_there(program, path),
+        lowered,
+        candidate,
+    };
+    in_place(alloc, l)
+}
+
+/// The statements that come in place of a loop of a well-typed program and of the run before it, where the loop has the kernel form and
+/// is lowered so: the kept statements of the run, and those that run the queries. Put there from the number `lowered.first` on, they make
+/// the program in which the loop gives way (`exact`). The loop has its asks (`asks`). Only want of memory is an error.
+pub fn statements_instead(
+    alloc: Global,
+    schema: &Schema,
+    typed: &Typed,
+    path: &Path,
+    lowered: &Lowered,
+    candidate: &Candidate,
+) -> Result<Vec<Stmt>, NoMemory>
+    requires typed { IsWellTyped schema.now (read_by schema.now) (plain_program typed.now.program) }
+    requires lowered { IsLowered schema.now (read_by schema.now) (plain_program typed.now.program) path.now (lowering_in_code lowered.now) lowered.now.first lowered.now.kept }
+    requires known { AreKnownTo schema.now (fragment_of lowered.now.frag) (map query lowered.now.known) lowered.now.known_args }
+    ensures exact { IfOk result (λ others.
+        (w : Setting)
+        → setting_at schema.now (read_by schema.now) path.now (plain_program typed.now.program) ≡ Some w
+        → replaced_at path.now lowered.now.first (statements others.items) (plain_program typed.now.program)
+        ≡ replaced (record { program = plain_program typed.now.program; path = path.now; setting = w; candidate = candidate.now })) }
+    ensures asks { OnOk result (
+        (w : Setting)
+        → setting_at schema.now (read_by schema.now) path.now (plain_program typed.now.program) ≡ Some w
+        → HasAsks schema.now (read_by schema.now) (plain_program typed.now.program) path.now w candidate.now) }
+{
+    in_place_at(alloc, schema, typed.program(), path, lowered, candidate)
+}
+
+/// A checked program with others in place of the statements from a number to the one that a path leads to. The program is moved, not
+/// copied. Only want of memory is an error.
+pub fn put_instead(
+    alloc: Global,
+    typed: Typed,
+    path: &Path,
+    first: u64,
+    others: Vec<Stmt>,
+) -> Result<Typed, NoMemory>
+    requires { first ≤ last_of path.now }
+    ensures { IfOk result (λ q. plain_program q.program ≡ replaced_at path.now first (statements others.items) (plain_program typed.program)) }
+{
+    let program = put_at(alloc, typed.into_program(), path, first, others)?;
+    Ok(Typed::of(program))
 }
 
 // A copy of a program with others in place of the statements from a number to the one that a path leads to.
@@ -119,16 +198,7 @@ fn replaced_in(
         → IsWritten (plain_program program.now)
         → IsInGrammar (plain_program q) × IsWritten (plain_program q)) }
 {
-    let l = Looped {
-        schema,
-        program,
-        path,
-        run: run_there(program, path),
-        at: place_there(program, path),
-        lowered,
-        candidate,
-    };
-    let others = in_place(alloc, l)?;
+    let others = in_place_at(alloc, schema, program, path, lowered, candidate)?;
     copy_with(alloc, program, path, lowered.first, others)
 }
 
