@@ -1,4 +1,5 @@
 pub mod AllAnswer
+pub mod AllTries
 pub mod Answering
 pub mod Arguing
 pub mod Arguments
@@ -16,6 +17,7 @@ pub mod FaultlessArguments
 pub mod FaultlessAsks
 pub mod FaultlessCalls
 pub mod Fitting
+pub mod FurtherTries
 pub mod GivenThere
 pub mod GivenUp
 pub mod Giving
@@ -23,6 +25,7 @@ pub mod HasAsks
 pub mod Keeping
 pub mod KeptFaultless
 pub mod Known
+pub mod LoopOutcomes
 pub mod LoopSites
 pub mod LoopThere
 pub mod LoopsAround
@@ -30,6 +33,7 @@ pub mod May
 pub mod NoReturns
 pub mod NumbersStay
 pub mod Outer
+pub mod PrunedTries
 pub mod Pushed
 pub mod SpelledElements
 pub mod Standing

@@ -8,6 +8,8 @@ use Rattle.java_mean.specs.Numbers.{NumbersFit}
 use Rattle.java_mean.specs.Queries.{Reader}
 use Rattle.java_mean.specs.WellTyped.{IsWellTyped}
 use Rattle.java_mean.proofs.Kept.{keeps_itself, keeps_through}
+use Rattle.java_grammar.specs.InGrammar.{IsInGrammar}
+use Rattle.java_grammar.specs.Written.{IsWritten}
 use Rattle.java_types.specs.Texts.{read_by}
 use Rattle.java_types.proofs.Found.{found_exactly}
 use Rattle.loop_text.specs.Statements.Loops.{loops_of}
@@ -17,22 +19,24 @@ use Rattle.rewrite_core.specs.Trying.{Answer, Outside, Searched, answer_unless, 
 use Rattle.rewrite_core.specs.TriedAsking.{MayBeAskedBy, AllMayBeAsked}
 use Rattle.rewrite_core.proofs.HasAsks.{has_asks}
 use Rattle.rewrite_core.proofs.StaysTyped.{replaced_well, replaced_numbers_fit, loops_give_way}
+use Rattle.rewrite_core.proofs.Writable.Asks.{replaced_fine}
 
 -- the second program keeps what the first does, and is as well typed
-record Follows (schema : Schema) (p q : PlainProgram) : Type 0 where
-  keeps : Keeps p q schema
-  typed : IsWellTyped schema (read_by schema) p → IsWellTyped schema (read_by schema) q
-  numbers : NumbersFit p → NumbersFit q
+pub record Follows (schema : Schema) (p q : PlainProgram) : Type 0 where
+  pub keeps : Keeps p q schema
+  pub typed : IsWellTyped schema (read_by schema) p → IsWellTyped schema (read_by schema) q
+  pub numbers : NumbersFit p → NumbersFit q
+  pub written : IsInGrammar p × IsWritten p → IsInGrammar q × IsWritten q
 
 module _ (schema : Schema) where
   abbrev reader : Reader schema
   reader = record { read = read_by schema; exact = found_exactly schema }
 
   itself : (p : PlainProgram) → Follows schema p p
-  itself p = record { keeps = keeps_itself schema p; typed = λ h. h; numbers = λ h. h }
+  itself p = record { keeps = keeps_itself schema p; typed = λ h. h; numbers = λ h. h; written = λ h. h }
 
   through : (p q r : PlainProgram) → Follows schema p q → Follows schema q r → Follows schema p r
-  through p q r h k = record { keeps = keeps_through schema p q r h.keeps k.keeps; typed = λ t. k.typed (h.typed t); numbers = λ n. k.numbers (h.numbers n) }
+  through p q r h k = record { keeps = keeps_through schema p q r h.keeps k.keeps; typed = λ t. k.typed (h.typed t); numbers = λ n. k.numbers (h.numbers n); written = λ w. k.written (h.written w) }
 
   -- one try
   one_follows : (t : Tried) (a : Answer) → MayBeAskedBy schema t a → Follows schema t.program (program_by t a)
@@ -41,6 +45,9 @@ module _ (schema : Schema) where
         keeps = loops_give_way schema reader (record { program = t.program; path = t.path; setting = t.setting; candidate = h.candidate }) may;
         typed = λ old. replaced_well schema reader (record { program = t.program; path = t.path; setting = t.setting; candidate = h.candidate }) (has_asks schema reader.read t.program t.path t.setting h.candidate may);
         numbers = λ old. replaced_numbers_fit schema reader (record { program = t.program; path = t.path; setting = t.setting; candidate = h.candidate }) (has_asks schema reader.read t.program t.path t.setting h.candidate may);
+        written = λ old.
+            replaced_fine schema reader (record { program = t.program; path = t.path; setting = t.setting; candidate = h.candidate })
+            (has_asks schema reader.read t.program t.path t.setting h.candidate may) old;
       }
   one_follows t (Searched f (NoneOf n)) may = itself t.program
   one_follows t (Searched f (Budget b n)) may = itself t.program
@@ -62,12 +69,12 @@ module _ (schema : Schema) where
       by_path None h = itself p
       by_path (Some path) h = by_setting path (setting_at schema (read_by schema) path p) h
 
-    all_follow : (left : ℕ) (p : PlainProgram) (n : ℕ) → AllMayBeAsked schema (trying left schema size budget p n) → Follows schema p (left_of p (trying left schema size budget p n))
+    pub all_follow : (left : ℕ) (p : PlainProgram) (n : ℕ) → AllMayBeAsked schema (trying left schema size budget p n) → Follows schema p (left_of p (trying left schema size budget p n))
     unfolding trying
     all_follow zero p n h = itself p
     all_follow (suc left) p n h = by_path p n (λ q m. trying left schema size budget q m) (λ q m k. all_follow left q m k) (slice_get (loops_of p) n) h
 
-    rewritten_follows : (p : PlainProgram) → AllMayBeAsked schema (all_tried schema size budget p) → Follows schema p (rewritten schema size budget p)
+    pub rewritten_follows : (p : PlainProgram) → AllMayBeAsked schema (all_tried schema size budget p) → Follows schema p (rewritten schema size budget p)
     unfolding all_tried
     rewritten_follows p h = all_follow (length (loops_of p)) p 0 h
 

@@ -1,6 +1,8 @@
 pub mod Asked
 pub mod Asking
 pub mod Looped
+pub mod Outcome
+pub mod Progress
 pub mod Pruned
 pub mod Rewriting
 pub mod TriedAsking

@@ -4,6 +4,9 @@
 mod asking;
 pub mod laws;
 mod looped;
+mod outcome;
+mod progress;
+pub mod pruned;
 mod replacing;
 mod rewriting;
 mod rewritten;

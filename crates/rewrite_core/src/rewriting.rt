@@ -15,6 +15,7 @@ ghost use Rattle.rewrite_core.specs.Pruned.{ArePruned, OneDrops, AllKeep, SomeDr
 ghost use Rattle.rewrite_core.specs.Rewriting.{verdicts_of, bundle_of, StandAsTried};
 ghost use Rattle.rewrite_core.specs.Trying.{all_tried, rewritten};
 
+use crate::progress::try_all;
 use crate::rewritten::Rewritten;
 use java_types::Typed;
 use kernel_lang::{Candidate, KFragment};
@@ -63,7 +64,41 @@ pub fn rewrite_with<F: Fn(&KFragment, &Candidate) -> PruneAnswer>(
         → IsInGrammar (plain_program r.program) × IsWritten (plain_program r.program)) }
     ensures standing { IfOk result (λ r. StandAsTried (all_tried schema.now size budget (plain_program typed.now.program)) (plain_program r.program)) }
 {
-    Err(NoMemory)
+    try_all(alloc, schema, typed, size, budget, pruners, extra)
+}
+
+// The same with a further call that never drops a candidate: it doesn't count.
+fn rewrite_past<F: Fn(&KFragment, &Candidate) -> PruneAnswer>(
+    alloc: Global,
+    schema: &Schema,
+    typed: &Typed,
+    size: u32,
+    budget: u64,
+    pruners: &[Pruner],
+    kept: &Extra<F>,
+) -> Result<Rewritten, NoMemory>
+    requires typed { IsWellTyped schema.now (read_by schema.now) (plain_program typed.now.program) }
+    requires size { size ≤ 8 }
+    requires budget { budget ≤ 1000000 }
+    requires callable { (f : _) (c : _) → IsCandidateOf (fragment_of f.now) c.now → F.pre kept.now.call f c }
+    requires never { (f : _) (c : _) → F.post kept.now.call f c answers.Drop → ⊥ }
+    ensures exact { IfOk result (λ r. plain_program r.program ≡ rewritten schema.now size budget (plain_program typed.now.program)) }
+    ensures verdicts { IfOk result (λ r. r.verdicts ≡ verdicts_of (all_tried schema.now size budget (plain_program typed.now.program))) }
+    ensures bundle { IfOk result (λ r. entries_of r.bundle ≡ bundle_of (all_tried schema.now size budget (plain_program typed.now.program))) }
+    ensures dropped { IfOk result (λ r.
+        ArePruned
+        (OneDrops (λ p. ⟦<Box<dyn Fn(&KFragment, &Candidate) -> PruneAnswer> as Fn(&KFragment, &Candidate) -> PruneAnswer>⟧.post p.call) pruners.now)
+        (AllKeep (λ p. ⟦<Box<dyn Fn(&KFragment, &Candidate) -> PruneAnswer> as Fn(&KFragment, &Candidate) -> PruneAnswer>⟧.post p.call) pruners.now)
+        size (all_tried schema.now size budget (plain_program typed.now.program)) r.dropped) }
+    ensures typed { IfOk result (λ r. IsWellTyped schema.now (read_by schema.now) (plain_program r.program)) }
+    ensures keeps { IfOk result (λ r. Keeps (plain_program typed.now.program) (plain_program r.program) schema.now) }
+    ensures written { IfOk result (λ r.
+        IsInGrammar (plain_program typed.now.program)
+        → IsWritten (plain_program typed.now.program)
+        → IsInGrammar (plain_program r.program) × IsWritten (plain_program r.program)) }
+    ensures standing { IfOk result (λ r. StandAsTried (all_tried schema.now size budget (plain_program typed.now.program)) (plain_program r.program)) }
+{
+    rewrite_with(alloc, schema, typed, size, budget, pruners, kept)
 }
 
 /// As `rewrite_with`, with no further call.
@@ -94,5 +129,6 @@ pub fn rewrite(
         → IsInGrammar (plain_program r.program) × IsWritten (plain_program r.program)) }
     ensures standing { IfOk result (λ r. StandAsTried (all_tried schema.now size budget (plain_program typed.now.program)) (plain_program r.program)) }
 {
-    Err(NoMemory)
+    let kept = Extra::new(|_frag: &KFragment, _cand: &Candidate| PruneAnswer::Keep);
+    rewrite_past(alloc, schema, typed, size, budget, pruners, &kept)
 }
