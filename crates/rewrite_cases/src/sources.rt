@@ -15,10 +15,7 @@ fn put_tokens(
     limits: Limits,
 ) -> Result<(), NoMemory> {
     match parse(alloc, tokens) {
-        Ok(program) => {
-            let program = Box::new(alloc, program)?;
-            put_rewritten(out, alloc, schema, program, limits)
-        }
+        Ok(program) => put_rewritten(out, alloc, schema, &program, limits),
         Err(Fail::Fault(_)) => Ok(out.push_str("no program\n")?),
         Err(Fail::NoMemory) => Err(NoMemory),
     }
