@@ -18,7 +18,7 @@ use Rattle.kernel_lang.specs.Validity.{takes_a_column}
 use Rattle.kernel_lang.proofs.EndLongs.{end-fits}
 use Rattle.sql_ast.specs.Canonical.{canonical}
 use Rattle.sql_ast.specs.Valid.{IsQueryOf}
-use Rattle.sql_parts.specs.Given.{IsGiven, values_at, SaysWhatIsClaimed, HasEntries, EntriesAreThere}
+use Rattle.sql_parts.specs.Given.{IsGiven, values_at, SaysWhatIsClaimed, EntriesAreThere}
 use Rattle.sql_parts.specs.Given as emitted
 use Rattle.sql_parts.specs.Numbered.{emission}
 use Rattle.java_ast.specs.Tree.{PlainMethod}

@@ -1,5 +1,5 @@
 -- The asks for a loop ask for what the loop makes.
-use Rattle.std.proofs.Common.{◌≡◌, ℕ, true, List, slice_get, Option, Some, None, Ok, refl, sym, ◌∙◌, subst, arith}
+use Rattle.std.proofs.Common.{◌≡◌, ℕ, true, List, slice_get, Some, None, Ok, refl, sym, subst, arith}
 use Rattle.std.specs.List.{AllByRecursion}
 use Rattle.qbs_base.specs.declared.scalar.Value.{Value}
 use Rattle.qbs_base.specs.Values.{Schema, AreOf}
@@ -25,7 +25,7 @@ use Rattle.java_mean.specs.Types.{Types, IsTyped}
 use Rattle.java_mean.specs.Typing.{IsWorld}
 use Rattle.java_mean.specs.WellTyped.{IsWellTyped}
 use Rattle.java_mean.specs.World.{World}
-use Rattle.loop_text.specs.Statements.Fragment.{Fragment, accumulators, needed_of}
+use Rattle.loop_text.specs.Statements.Fragment.{Fragment}
 use Rattle.java_loops.specs.Kernel.Kernel.{broken, lowering}
 use Rattle.java_loops.specs.Kernel.Setting.{Setting, setting_of}
 use Rattle.java_loops.specs.Lowering.Lowered.{needed_in_order}
@@ -38,12 +38,9 @@ use Rattle.java_loops.proofs.Listed.ListedRows.{IsSeenFragment, fragment_seen}
 use Rattle.java_loops.proofs.Lowering.LowerChains.{at_setting}
 use Rattle.java_loops.proofs.Lowering.LowerValid.{fragment_valid}
 use Rattle.java_loops.proofs.Meant.AnswersWhole.{answers_suffice}
-use Rattle.java_loops.proofs.Meant.MeanChains.{IsNeeded, all_needed}
-use Rattle.java_loops.proofs.Nested.NestNames.{among_filtered}
 use Rattle.java_loops.proofs.Nested.NestRules.{Unbroken}
 use Rattle.java_loops.proofs.Placing.PlaceLoop.{kernel_unbroken}
 use Rattle.java_loops.proofs.Placing.PlaceTyped.{FragmentThere}
-use Rattle.java_loops.proofs.Starts.Start.{IsStarted, accumulator_started}
 use Rattle.java_loops.proofs.Typing.TypedFragment.{fragment_fits}
 use Rattle.fragments.specs.Asked.{queries_in}
 use Rattle.fragments.proofs.Known.KnownLoop.{known_to}

@@ -12,7 +12,7 @@ use Rattle.qbs_base.specs.Values.{Schema}
 use Rattle.sql_ast.specs.Tree.{PlainQuery}
 use Rattle.java_ast.specs.Placed.{placed}
 use Rattle.java_ast.specs.Tree as tree
-use Rattle.java_ast.specs.Tree.{Spelled, Expression, Expressions, NoMore, And}
+use Rattle.java_ast.specs.Tree.{Spelled, Expression, Expressions}
 use Rattle.java_mean.specs.declared.rule.TypeRule.TheVariants as rules
 use Rattle.java_mean.specs.declared.rule.TypeFault.{TypeFault}
 use Rattle.java_mean.specs.declared.types.JavaType.{JavaType}

@@ -1,5 +1,5 @@
 -- The entry values and the whole answers of known queries that are there at a loop are given as emission asks for them.
-use Rattle.std.proofs.Common.{◌≡◌, ℕ, List, Option, Some, None, Ok, sym, ◌∙◌, subst}
+use Rattle.std.proofs.Common.{◌≡◌, ℕ, List, Option, None, Ok, sym, ◌∙◌, subst}
 use Rattle.std.specs.List.{AllByRecursion}
 use Rattle.qbs_base.specs.Values.{Schema, AreOf}
 use Rattle.kernel_lang.specs.declared.parts.Entry.{Entry}

@@ -2,7 +2,7 @@
 use Rattle.std.proofs.Common.{ℕ, suc, Bool, true, false, cond, ◌||◌, List, [], ◌∷◌, ◌++◌, Option, Some, None}
 use Rattle.std.specs.List.{AllByRecursion, list_any}
 use Rattle.sql_ast.proofs.Combinations.{all_append}
-use Rattle.java_ast.specs.Tree.{Expression, Expressions, NoMore, And, Statement, Declare, Assign, Add, Sort, If, IfElse, ForEach, While, Print, Return, Break, Statements, Nothing, Then}
+use Rattle.java_ast.specs.Tree.{Expression, Statement, Declare, Assign, Add, Sort, If, IfElse, ForEach, While, Print, Return, Break, Statements, Nothing, Then}
 use Rattle.java_ast.specs.Tree as tree
 use Rattle.loop_text.specs.Kernel.Counting.{is_and}
 use Rattle.loop_text.specs.Kernel.KernelConditions.{leaves, is_excepted, is_literal, is_row_column, condition_of}

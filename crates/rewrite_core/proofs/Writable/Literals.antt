@@ -12,7 +12,7 @@ use Rattle.sql_ast.specs.Utf8.{ScalarIsUtf8, LiteralsAreUtf8}
 use Rattle.sql_parts.specs.Given.{LiteralIsUtf8, AtomIsUtf8}
 use Rattle.java_ast.specs.declared.tree.Op.{Op}
 use Rattle.java_ast.specs.declared.tree.Op.TheVariants as ops
-use Rattle.java_ast.specs.Tree.{Expression, Expressions, NoMore, And, Statement, Declare, Assign, Add, Sort, If, IfElse, ForEach, While, Print, Return, Break, Statements, Nothing, Then}
+use Rattle.java_ast.specs.Tree.{Expression, Statements}
 use Rattle.java_ast.specs.Tree as tree
 use Rattle.java_grammar.specs.Written.{WrittenScalar}
 use Rattle.java_mean.specs.Queries.{Reader}

@@ -2,7 +2,7 @@
 -- program is and can.
 use Rattle.std.proofs.Common.{◌≡◌, ℕ, zero, suc, Bool, true, false, cond, ◌==◌, List, [], ◌∷◌, slice_get, bytes_eq, Option, Some, None}
 use Rattle.java_ast.specs.Path.{found_in, numbered, branch_of, first_of, behind_of}
-use Rattle.java_ast.specs.Tree.{Spelled, ListOf, SetOf, Expression, Statement, Declare, Assign, Add, Sort, If, IfElse, ForEach, While, Print, Return, Break, Statements, Nothing, Then, PlainParam, PlainMethod, PlainProgram}
+use Rattle.java_ast.specs.Tree.{Spelled, ListOf, SetOf, Statement, Declare, Assign, Add, Sort, If, IfElse, ForEach, While, Print, Return, Break, Statements, Nothing, Then, PlainParam, PlainMethod, PlainProgram}
 use Rattle.java_ast.specs.Tree as tree
 use Rattle.java_grammar.specs.InGrammar.{IsElement, IsType, IsScalarType, InParams, InMethod, InMethods, IsInGrammar}
 use Rattle.java_grammar.specs.Written.{WrittenType, WrittenParams, WrittenMethods, IsWritten}

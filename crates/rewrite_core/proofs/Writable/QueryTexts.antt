@@ -19,7 +19,7 @@ use Rattle.sql_ast.specs.Grammar.{HasOpnd, col_opnd, long_opnd, text_opnd, true_
 use Rattle.sql_ast.specs.Names.{◌>>=◌, each_of, Scope, known_parts, froms_of, inside, named_col, named_opnd, named_condition, named_filter, named_item, named_group, named_key, named_kind, outermost, named_listing, named_number, named_truth, named_query}
 use Rattle.sql_ast.specs.Texts.{with_types, judged_named, judged, HasQuery}
 use Rattle.sql_ast.specs.Tokens.{Token, Digits, Quoted, Test, Open, Close, Comma, is_name, is_number, sign_of, HasSpelling, word, digits, negative, quoted, param, test, unlike, opened, closed, comma, dot, star, HasTokens, nothing, blank, token}
-use Rattle.sql_ast.specs.Tree.{Condition, Filter, PlainListing, PlainNumber, PlainTruth, PlainQuery}
+use Rattle.sql_ast.specs.Tree.{PlainListing, PlainNumber, PlainTruth, PlainQuery}
 use Rattle.sql_ast.specs.Tree as plain
 use Rattle.sql_ast.specs.Typing.{types_fit, group_fits, params_of, with_params}
 use Rattle.sql_ast.specs.Utf8.{OperandIsUtf8, ConditionIsUtf8, FilterIsUtf8, LiteralsAreUtf8}
