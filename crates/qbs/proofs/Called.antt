@@ -16,16 +16,13 @@ use Rattle.java_mean.specs.declared.types.Single.TheVariants.{ScalarOf}
 use Rattle.java_mean.specs.Types.{IsArgument, AreArguments, single_spelled}
 use Rattle.schema.specs.declared.fault.DataRule.{DataRule}
 use Rattle.schema.specs.Rows.{cell_of}
-use Rattle.qbs.specs.Running.{param_type, found, argument_of, with_argument, fields_of, at_place, method_named}
-use Rattle.qbs_base.specs.declared.status.Status.{Status}
+use Rattle.qbs.specs.Calls.{param_type, found, argument_of, with_argument, fields_of, method_at, method_named, word_refusal}
 use Rattle.java_mean.specs.declared.rule.TypeRule.TheVariants as types
 use Rattle.qbs.specs.declared.fetch.Stop.{Stop}
-use Rattle.qbs.specs.Fetch.{StopsWith}
-use Rattle.qbs.specs.Lines.{word_text}
-use Rattle.qbs.specs.Plan.{refusal}
+use Rattle.qbs.specs.Code.{StopsWith}
 use Rattle.qbs.specs.Words.{IsTaken, AreTaken, ReadsArguments}
 
-scalar_param : (schema : Schema) (ty : Spelled) (t : Ty) → param_type ty ≡ Some t → single_spelled schema ty ≡ Some (ScalarOf t)
+pub scalar_param : (schema : Schema) (ty : Spelled) (t : Ty) → param_type ty ≡ Some t → single_spelled schema ty ≡ Some (ScalarOf t)
 scalar_param schema Int t e = let same : tys.Long ≡ t = cc in ap (λ (u : Ty). Some (ScalarOf u)) same
 scalar_param schema Long t e = let same : tys.Long ≡ t = cc in ap (λ (u : Ty). Some (ScalarOf u)) same
 scalar_param schema Boolean t e = let same : tys.Bool ≡ t = cc in ap (λ (u : Ty). Some (ScalarOf u)) same
@@ -62,8 +59,8 @@ many_mapped f (x ∷ xs) = ap suc (many_mapped f xs)
 pub position_mapped : {A B : Type 0} (f : A → B) (p : B → Bool) (xs : List A) → position p (map f xs) ≡ position (λ x. p (f x)) xs
 position_mapped f p xs = rw (prefix_mapped f (λ y. not (p y)) xs, many_mapped f xs) refl
 
-pub place_found : (ms : List Method) (name : List ℕ) (place : Option ℕ) → place ≡ position (λ m. bytes_eq m.name name) ms → at_place (map plain_method ms) place ≡ method_named name (map plain_method ms)
-place_found ms name place e = ap (at_place (map plain_method ms)) (e ∙ sym (position_mapped plain_method (λ (m : PlainMethod). bytes_eq m.name name) ms))
+pub place_found : (ms : List Method) (name : List ℕ) (place : Option ℕ) → place ≡ position (λ m. bytes_eq m.name name) ms → method_at (map plain_method ms) place ≡ method_named name (map plain_method ms)
+place_found ms name place e = ap (method_at (map plain_method ms)) (e ∙ sym (position_mapped plain_method (λ (m : PlainMethod). bytes_eq m.name name) ms))
 
 -- ---- arguments one after the other
 
@@ -154,11 +151,11 @@ taking_ends ps ws n taken e same h =
 
 -- ---- the words of a call
 
-pub too_many : (params : List PlainParam) (words : List (List ℕ)) (stop : Stop) → length params ≢ length words → StopsWith (refusal Status.Types (word_text types.Arity)) stop → ReadsArguments (Err stop) params words
+pub too_many : (params : List PlainParam) (words : List (List ℕ)) (stop : Stop) → length params ≢ length words → StopsWith (word_refusal types.Arity) stop → ReadsArguments (Err stop) params words
 too_many params words (Stop.Due plan) e due = (types.Arity, (let no : (length params == length words) ≡ false = search rules in rw no refl), due)
 too_many params words Stop.Memory e due = tt
 
-pub not_fields : (params : List PlainParam) (words : List (List ℕ)) (stop : Stop) → length params ≡ length words → AreTaken None params words → StopsWith (refusal Status.Types (word_text types.Mismatch)) stop → ReadsArguments (Err stop) params words
+pub not_fields : (params : List PlainParam) (words : List (List ℕ)) (stop : Stop) → length params ≡ length words → AreTaken None params words → StopsWith (word_refusal types.Mismatch) stop → ReadsArguments (Err stop) params words
 not_fields params words (Stop.Due plan) e t due = (types.Mismatch, (let yes : (length params == length words) ≡ true = search rules in rw (yes, sym t.are) refl), due)
 not_fields params words Stop.Memory e t due = tt
 
@@ -168,10 +165,10 @@ fields_fit params words args e t = ((let yes : (length params == length words) �
 mapped_as_many : (ps : List Param) (slice words : List (List ℕ)) → slice ≡ words → length ps ≡ length slice → length (map plain_param ps) ≡ length words
 mapped_as_many ps slice words is e = many_mapped plain_param ps ∙ e ∙ ap (λ (ws : List (List ℕ)). length ws) is
 
-pub too_many_words : (ps : List Param) (slice words : List (List ℕ)) (stop : Stop) → slice ≡ words → length ps ≢ length slice → StopsWith (refusal Status.Types (word_text types.Arity)) stop → ReadsArguments (Err stop) (map plain_param ps) words
+pub too_many_words : (ps : List Param) (slice words : List (List ℕ)) (stop : Stop) → slice ≡ words → length ps ≢ length slice → StopsWith (word_refusal types.Arity) stop → ReadsArguments (Err stop) (map plain_param ps) words
 too_many_words ps slice words stop is differ due =
     too_many (map plain_param ps) words stop (λ e. differ (sym (many_mapped plain_param ps) ∙ e ∙ ap (λ (ws : List (List ℕ)). length ws) (sym is))) due
 
-pub words_not_fields : (ps : List Param) (slice words : List (List ℕ)) (stop : Stop) (found : Option (List Scalar)) → slice ≡ words → length ps ≡ length slice → found ≡ None → AreTaken found (map plain_param ps) slice → StopsWith (refusal Status.Types (word_text types.Mismatch)) stop → ReadsArguments (Err stop) (map plain_param ps) words
+pub words_not_fields : (ps : List Param) (slice words : List (List ℕ)) (stop : Stop) (found : Option (List Scalar)) → slice ≡ words → length ps ≡ length slice → found ≡ None → AreTaken found (map plain_param ps) slice → StopsWith (word_refusal types.Mismatch) stop → ReadsArguments (Err stop) (map plain_param ps) words
 words_not_fields ps slice words stop found is same none t due =
     not_fields (map plain_param ps) words stop (mapped_as_many ps slice words is same) (subst (λ (o : Option (List Scalar)). AreTaken o (map plain_param ps) words) none (subst (AreTaken found (map plain_param ps)) is t)) due

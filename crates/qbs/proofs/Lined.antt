@@ -1,8 +1,10 @@
 -- Lines in the order in which they are written.
-use Rattle.std.proofs.Common.{◌≡◌, ℕ, List, ◌++◌, codes, append_assoc}
+use Rattle.std.proofs.Common.{◌≡◌, ℕ, List, ◌++◌, codes, append_assoc, refl, ap, ◌∙◌}
 use Rattle.std.specs.Fmt.{decimal}
 use Rattle.qbs_base.specs.declared.span.Span.{Span}
-use Rattle.qbs.specs.Lines.{rule_text, found_text, row_text}
+use Rattle.rewrite_core.specs.declared.rewritten.LoopVerdict.{LoopVerdict}
+use Rattle.rewrite_core.specs.declared.rewritten.Said.TheVariants as says
+use Rattle.qbs.specs.Lines.{place_text, rule_text, row_text, said_text, verdict_line, pruned_line}
 use Rattle.qbs.specs.Plan.{line}
 
 pub rule_lined : (text : List ℕ) (number : ℕ) (name : List ℕ) (at : Span) →
@@ -10,12 +12,39 @@ pub rule_lined : (text : List ℕ) (number : ℕ) (name : List ℕ) (at : Span) 
     ≡ line (text ++ rule_text number name at)
 rule_lined text number name at = simp append_assoc
 
-pub found_lined : (at : Span) →
-    codes "loop " ++ (decimal at.line ++ (codes ":" ++ (decimal at.column ++ codes " found 1\npruned 0\n")))
-    ≡ line (found_text at) ++ line (codes "pruned 0")
-found_lined at = simp append_assoc
-
 pub row_lined : (table : List ℕ) (number : ℕ) (name : List ℕ) (row : ℕ) →
     codes "qbs: data: " ++ (table ++ (codes ": " ++ (decimal number ++ (codes " " ++ (name ++ (codes " at row " ++ (decimal row ++ codes "\n")))))))
     ≡ line (row_text table number name row)
 row_lined table number name row = simp append_assoc
+
+-- ---- reports
+
+pub place_lined : (at : Span) → decimal at.line ++ (codes ":" ++ decimal at.column) ≡ place_text at
+place_lined at = simp append_assoc
+
+pub found_lined : (k : ℕ) → codes "found " ++ decimal k ≡ said_text (says.Found k)
+found_lined k = refl
+
+pub none_lined : (n : ℕ) → codes "none of " ++ decimal n ≡ said_text (says.NoneOf n)
+none_lined n = refl
+
+pub budget_lined : (b n : ℕ) → codes "budget " ++ (decimal b ++ (codes " of " ++ decimal n)) ≡ said_text (says.Budget b n)
+budget_lined b n = simp append_assoc
+
+outside_joined : (rule : ℕ) (place : List ℕ) → codes "outside K" ++ (decimal rule ++ (codes " at " ++ place)) ≡ codes "outside K" ++ decimal rule ++ codes " at " ++ place
+outside_joined rule place = simp append_assoc
+
+pub outside_lined : (rule : ℕ) (at : Span) (place : List ℕ) → place ≡ place_text at → codes "outside K" ++ (decimal rule ++ (codes " at " ++ place)) ≡ said_text (says.Outside rule at)
+outside_lined rule at place is = outside_joined rule place ∙ ap (λ (text : List ℕ). codes "outside K" ++ decimal rule ++ codes " at " ++ text) is
+
+verdict_joined : (place said : List ℕ) → codes "loop " ++ (place ++ (codes " " ++ (said ++ codes "\n"))) ≡ line (codes "loop " ++ place ++ codes " " ++ said)
+verdict_joined place said = simp append_assoc
+
+pub verdict_lined : (v : LoopVerdict) (place said : List ℕ) → place ≡ place_text v.at → said ≡ said_text v.said → codes "loop " ++ (place ++ (codes " " ++ (said ++ codes "\n"))) ≡ verdict_line v
+verdict_lined v place said is kept =
+    verdict_joined place said
+    ∙ ap (λ (text : List ℕ). line (codes "loop " ++ text ++ codes " " ++ said)) is
+    ∙ ap (λ (text : List ℕ). line (codes "loop " ++ place_text v.at ++ codes " " ++ text)) kept
+
+pub pruned_lined : (n : ℕ) → codes "pruned " ++ (decimal n ++ codes "\n") ≡ pruned_line n
+pruned_lined n = simp append_assoc

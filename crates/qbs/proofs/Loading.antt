@@ -1,5 +1,5 @@
 -- Tables that are loaded one after the other are those that the texts have.
-use Rattle.std.proofs.Common.{◌≡◌, ℕ, zero, suc, ◌+◌, ◌-◌, ◌<◌, ◌≤◌, ◌^◌, Bool, false, List, [], ◌∷◌, ◌++◌, length, map, take, drop, get_or, Option, Some, None, Result, Ok, Err, refl, sym, ap, subst, ◌∙◌, arith, append_assoc, inl, inr, codes, IfSome, ◌⊎◌}
+use Rattle.std.proofs.Common.{◌≡◌, ℕ, zero, suc, ◌+◌, ◌<◌, ◌≤◌, ◌^◌, Bool, false, List, [], ◌∷◌, ◌++◌, length, map, take, drop, get_or, Option, Some, None, Result, Ok, Err, refl, sym, ap, subst, ◌∙◌, arith, append_assoc}
 use Rattle.std.specs.Prelude.{slice_get, slice_set}
 use Rattle.std.specs.List.{AllByRecursion, IsDistinct}
 use Rattle.std.specs.Str.{bytes_eq}
@@ -8,7 +8,6 @@ use Rattle.std.proofs.lemmas.Option.{slice_get-get_or}
 use Rattle.qbs_base.specs.declared.columns.Table.{Table}
 use Rattle.qbs_base.specs.declared.scalar.Row.{Row}
 use Rattle.qbs_base.specs.Named.{at_name}
-use Rattle.qbs_base.specs.Outside.{Rose}
 use Rattle.qbs_base.specs.Tables.{NamedRows, with_row}
 use Rattle.qbs_base.specs.Values.{Schema, Database, IsRowOf, AreTables, IsDatabaseOf}
 use Rattle.schema.specs.declared.fault.DataFault.{DataFault}
@@ -17,27 +16,10 @@ use Rattle.schema.specs.Rules.{IsSchema}
 use Rattle.qbs_base.specs.declared.status.Status.{Status}
 use Rattle.qbs.specs.declared.plan.Plan.{Plan}
 use Rattle.qbs.specs.declared.fetch.Stop.{Stop}
-use Rattle.qbs.specs.Fetch.{StopsWith, Fetches, OrMemory}
+use Rattle.qbs.specs.Code.{StopsWith}
 use Rattle.qbs.specs.Lines.{data_text}
-use Rattle.qbs.specs.Plan.{Given, Script, ends, reads, Due, refusal, read_fault, too_long}
-use Rattle.qbs.specs.Tables.{TableFault, read_tables, table_file, AreRead, Reads, with_rows, loaded_from, loaded, with_rows_at, IsFresh, IsNext, IsNoNext, LoadsNext, Loads, data_refusal}
-
--- ---- files that were read
-
-pub due_read : (files : Given) (folder : List ℕ) (tables : List Table) (left : ℕ) (texts : List (List ℕ)) (next : List (List ℕ) → Script) (plan : Plan) →
-    AreRead files folder tables left texts → Due files (next texts) plan → Due files (read_tables folder tables left next) plan
-unfolding read_tables
-due_read files folder [] left [] next plan r d = d
-due_read files folder [] left (text ∷ texts) next plan r d = absurd r
-due_read files folder (table ∷ tables) left [] next plan r d = absurd r
-due_read files folder (table ∷ tables) left (text ∷ texts) next plan r d =
-    inr (inr (text, r.0, r.1, due_read files folder tables (left - length text) texts (λ rest. next (text ∷ rest)) plan r.2 d))
-
-pub as_many : (files : Given) (folder : List ℕ) (tables : List Table) (left : ℕ) (texts : List (List ℕ)) → AreRead files folder tables left texts → length texts ≡ length tables
-as_many files folder [] left [] r = refl
-as_many files folder [] left (text ∷ texts) r = absurd r
-as_many files folder (table ∷ tables) left [] r = absurd r
-as_many files folder (table ∷ tables) left (text ∷ texts) r = ap suc (as_many files folder tables (left - length text) texts r.2)
+use Rattle.qbs.specs.Plan.{refusal}
+use Rattle.qbs.specs.Tables.{TableFault, with_rows, loaded_from, loaded, with_rows_at, IsFresh, IsNext, IsNoNext, LoadsNext, Loads, data_refusal}
 
 -- ---- rows that were put into the last table
 
@@ -216,7 +198,7 @@ held_in tables schema n table same within is =
     subst (λ (ts : List Table). slice_get ts n ≡ Some table) same
     (slice_get-get_or tables n table (subst (λ (ts : List Table). n < length ts) (sym same) within) ∙ ap (λ (t : Table). Some t) (sym is))
 
-columns_held : (schema : Schema) (n : ℕ) (table : Table) → slice_get schema n ≡ Some table → columns_of schema n ≡ table.columns
+pub columns_held : (schema : Schema) (n : ℕ) (table : Table) → slice_get schema n ≡ Some table → columns_of schema n ≡ table.columns
 columns_held schema n table held = rw (columns_of, held) refl
 
 pub next_loaded : (schema : Schema) (n : ℕ) (text : List ℕ) (old first new : Database) (table : Table) (rows : List Row) (name : List ℕ) (k : ℕ) →
@@ -275,87 +257,3 @@ pub within_texts : (tables schema : List Table) (texts : List (List ℕ)) (n : �
 within_texts tables schema texts n same many lt =
     let within : n < length schema = subst (λ (ts : List Table). n < length ts) same lt in
     (within, subst (λ (k : ℕ). n < k) (sym many) within)
-
--- ---- files that are read one after the other
-
-due_rose : (told : List ℕ → Option (List ℕ)) (before after : Type 0) (script : Script) (plan : Plan) → (before → after) →
-    Due (record { told = told; rose = before }) script plan → Due (record { told = told; rose = after }) script plan
-due_rose told before after (ends due) plan f d = d
-due_rose told before after (reads name limit label next) plan f d =
-    elim d [
-      | inl fault ↦ inl (f fault.0, fault.1)
-      | inr rest ↦ elim rest [
-        | inl long ↦ inr (inl long)
-        | inr step ↦ inr (inr (step.0, step.1, step.2, due_rose told before after (next step.0) plan f step.3))
-      ]
-    ]
-
-pub rose_later : (a b c : ℕ) → a ≤ b → Rose b c → Rose a c
-rose_later a b c le rose = omega arith
-
-pub first_of : (tables : List Table) (table : Table) → 1 ≤ length tables → table ≡ get_or tables 0 table → tables ≡ table ∷ take (length tables - 1) (drop 1 tables)
-first_of [] table some is = absurd (omega arith)
-first_of (t ∷ ts) table some is =
-    let many : length ts ≡ suc (length ts) - 1 = omega arith in
-    ap (λ (u : Table). u ∷ ts) (sym is) ∙ ap (λ (us : List Table). table ∷ us) (sym (all_taken ts (suc (length ts) - 1) many))
-
-pub fetch_stopped : (A : Type 0) (files : Given) (folder : List ℕ) (tables : List Table) (table : Table) (rest : List Table) (left : ℕ) (texts : List (List ℕ)) (name : List ℕ) (stop : Stop) →
-    tables ≡ table ∷ rest → name ≡ table_file folder table.name → Fetches (files.told name) files.rose name left (codes "tables") (Err stop) → Reads {A = A} files folder tables left texts texts (Err stop)
-unfolding read_tables
-fetch_stopped A files folder tables table rest left texts name Stop.Memory is named f = tt
-fetch_stopped A files folder tables table rest left texts name (Stop.Due plan) is named f = λ next.
-    subst (λ (ts : List Table). Due files (read_tables folder ts left next) plan) (sym is)
-    (let here = subst (λ (file : List ℕ). (files.rose × (plan ≡ read_fault file)) ⊎ (IfSome (files.told file) (λ all. left < length all) × (plan ≡ too_long (codes "tables")))) named f in
-    elim here [ inl fault ↦ inl fault | inr long ↦ inr (inl long) ])
-
-pub reads_on : (A : Type 0) (told later : List ℕ → Option (List ℕ)) (rose after : Type 0) (folder : List ℕ) (tables : List Table) (table : Table) (rest : List Table) (left : ℕ) (text : List ℕ) (texts first new : List (List ℕ)) (name : List ℕ) (result : Result A Stop) →
-    later ≡ told → (after → rose) → tables ≡ table ∷ rest → name ≡ table_file folder table.name → (length text ≤ left) × IfSome (told name) (λ all. text ≡ all) → first ≡ texts ++ text ∷ [] →
-    Reads {A = A} (record { told = later; rose = after }) folder rest (left - length text) first new result → Reads {A = A} (record { told = told; rose = rose }) folder tables left texts new result
-unfolding read_tables
-reads_on A told later rose after folder tables table rest left text texts first new name (Ok done) same f is named read pushed h = (
-  text ∷ h.0,
-  h.1 ∙ ap (λ (ts : List (List ℕ)). ts ++ h.0) pushed ∙ append_assoc texts (text ∷ []) h.0,
-  subst (λ (ts : List Table). AreRead (record { told = told; rose = rose }) folder ts left (text ∷ h.0)) (sym is)
-      (read.0, subst (λ (file : List ℕ). IfSome (told file) (λ all. text ≡ all)) named read.1, read_rose told rose after folder rest (left - length text) h.0 (subst (λ (t : List ℕ → Option (List ℕ)). AreRead (record { told = t; rose = after }) folder rest (left - length text) h.0) same h.2)),
-)
-  where
-    read_rose : (told : List ℕ → Option (List ℕ)) (rose after : Type 0) (folder : List ℕ) (tables : List Table) (left : ℕ) (texts : List (List ℕ)) → AreRead (record { told = told; rose = after }) folder tables left texts → AreRead (record { told = told; rose = rose }) folder tables left texts
-    read_rose told rose after folder [] left [] r = r
-    read_rose told rose after folder [] left (t ∷ ts) r = absurd r
-    read_rose told rose after folder (table ∷ tables) left [] r = absurd r
-    read_rose told rose after folder (table ∷ tables) left (t ∷ ts) r = (r.0, r.1, read_rose told rose after folder tables (left - length t) ts r.2)
-reads_on A told later rose after folder tables table rest left text texts first new name (Err (Stop.Due plan)) same f is named read pushed h = λ next.
-    subst (λ (ts : List Table). Due (record { told = told; rose = rose }) (read_tables folder ts left next) plan) (sym is)
-    (inr (inr (
-      text,
-      read.0,
-      subst (λ (file : List ℕ). IfSome (told file) (λ all. text ≡ all)) named read.1,
-      due_rose told after rose (read_tables folder rest (left - length text) (λ texts. next (text ∷ texts))) plan f
-          (subst (λ (t : List ℕ → Option (List ℕ)). Due (record { told = t; rose = after }) (read_tables folder rest (left - length text) (λ texts. next (text ∷ texts))) plan) same (h (λ texts. next (text ∷ texts)))),
-    )))
-reads_on A told later rose after folder tables table rest left text texts first new name (Err Stop.Memory) same f is named read pushed h = tt
-
--- ---- a plan that is due once the tables are read
-
-pub due_after : (told later : List ℕ → Option (List ℕ)) (rose : Type 0) (script : Script) (result : Result Plan Stop) →
-    later ≡ told → OrMemory result (Due (record { told = later; rose = rose }) script) → OrMemory result (Due (record { told = told; rose = rose }) script)
-due_after told later rose script (Ok plan) same h = subst (λ (t : List ℕ → Option (List ℕ)). Due (record { told = t; rose = rose }) script plan) same h
-due_after told later rose script (Err (Stop.Due plan)) same h = subst (λ (t : List ℕ → Option (List ℕ)). Due (record { told = t; rose = rose }) script plan) same h
-due_after told later rose script (Err Stop.Memory) same h = tt
-
--- the first file was read, and what comes behind it is due
-pub due_read_first : (told later : List ℕ → Option (List ℕ)) (rose after : Type 0) (name : List ℕ) (limit : ℕ) (label : List ℕ) (next : List ℕ → Script) (bytes : List ℕ) (result : Result Plan Stop) →
-    later ≡ told → (after → rose) → (length bytes ≤ limit) × IfSome (told name) (λ all. bytes ≡ all) →
-    OrMemory result (Due (record { told = later; rose = after }) (next bytes)) → OrMemory result (Due (record { told = told; rose = rose }) (reads name limit label next))
-due_read_first told later rose after name limit label next bytes (Ok plan) same f read h =
-    inr (inr (bytes, read.0, read.1, due_rose told after rose (next bytes) plan f (subst (λ (t : List ℕ → Option (List ℕ)). Due (record { told = t; rose = after }) (next bytes) plan) same h)))
-due_read_first told later rose after name limit label next bytes (Err (Stop.Due plan)) same f read h =
-    inr (inr (bytes, read.0, read.1, due_rose told after rose (next bytes) plan f (subst (λ (t : List ℕ → Option (List ℕ)). Due (record { told = t; rose = after }) (next bytes) plan) same h)))
-due_read_first told later rose after name limit label next bytes (Err Stop.Memory) same f read h = tt
-
--- the tables were read, and the plan of their texts is due
-pub due_tables : (files : Given) (folder : List ℕ) (tables : List Table) (left : ℕ) (texts : List (List ℕ)) (plan_of : List (List ℕ) → Plan) (result : Result Plan Stop) →
-    AreRead files folder tables left texts → OrMemory result (λ plan. plan ≡ plan_of texts) → OrMemory result (Due files (read_tables folder tables left (λ texts. ends (plan_of texts))))
-due_tables files folder tables left texts plan_of (Ok plan) read h = due_read files folder tables left texts (λ texts. ends (plan_of texts)) plan read h
-due_tables files folder tables left texts plan_of (Err (Stop.Due plan)) read h = due_read files folder tables left texts (λ texts. ends (plan_of texts)) plan read h
-due_tables files folder tables left texts plan_of (Err Stop.Memory) read h = tt

@@ -1,6 +1,7 @@
 -- The lines of refusals and reports.
 use Rattle.std.specs.Prelude.{ℕ, List, ◌++◌, codes}
 use Rattle.std.specs.Fmt.{decimal}
+use Rattle.std.specs.List.{flat_map}
 use Rattle.qbs_base.specs.declared.span.Span.{Span}
 use Rattle.java_lex.specs.declared.token.LexFault.{LexFault}
 use Rattle.java_lex.specs.RuleNames as lexical
@@ -10,9 +11,15 @@ use Rattle.java_mean.specs.declared.rule.TypeRule.{TypeRule}
 use Rattle.java_mean.specs.RuleNames as types
 use Rattle.java_parser.specs.declared.fault.ParseFault.{ParseFault}
 use Rattle.java_parser.specs.RuleNames as grammatical
+use Rattle.rewrite_core.specs.declared.rewritten.Said.{Said}
+use Rattle.rewrite_core.specs.declared.rewritten.Said.TheVariants as says
+use Rattle.rewrite_core.specs.declared.rewritten.LoopVerdict.{LoopVerdict}
+use Rattle.rewrite_core.specs.Rewriting.{verdicts_of}
+use Rattle.rewrite_core.specs.Trying.{Tried}
 use Rattle.schema.specs.declared.fault.DataFault.{DataFault}
 use Rattle.schema.specs.declared.fault.SchemaFault.{SchemaFault}
 use Rattle.schema.specs.RuleNames as schemas
+use Rattle.qbs.specs.Plan.{line}
 
 -- a place as line and column
 abbrev pub place_text : Span → List ℕ
@@ -53,6 +60,21 @@ data_text table fault = row_text table (schemas.data_rule_number fault.rule) (sc
 abbrev pub fault_text : RunFault → Span → List ℕ
 fault_text fault at = codes "qbs: fault: " ++ rule_text (types.fault_number fault) (types.fault_name fault) at
 
--- the report of one loop that was found at candidate 1, where nothing was pruned
-abbrev pub found_text : Span → List ℕ
-found_text at = codes "loop " ++ place_text at ++ codes " found 1"
+-- ---- Reports
+
+abbrev pub said_text : Said → List ℕ
+said_text (says.Found k) = codes "found " ++ decimal k
+said_text (says.NoneOf n) = codes "none of " ++ decimal n
+said_text (says.Budget b n) = codes "budget " ++ decimal b ++ codes " of " ++ decimal n
+said_text (says.Outside rule at) = codes "outside K" ++ decimal rule ++ codes " at " ++ place_text at
+
+-- the line of a loop that was tried
+abbrev pub verdict_line : LoopVerdict → List ℕ
+verdict_line v = line (codes "loop " ++ place_text v.at ++ codes " " ++ said_text v.said)
+
+abbrev pub pruned_line : ℕ → List ℕ
+pruned_line n = line (codes "pruned " ++ decimal n)
+
+-- a line for each try in their order, and how many candidates were dropped
+abbrev pub report_text : List Tried → ℕ → List ℕ
+report_text ts n = flat_map verdict_line (verdicts_of ts) ++ pruned_line n

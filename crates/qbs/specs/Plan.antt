@@ -1,9 +1,11 @@
--- A program that reads files whole, and the plans that it may end with.
-use Rattle.std.specs.Prelude.{◌≡◌, ℕ, ◌<◌, ◌≤◌, ◌⊎◌, List, [], ◌∷◌, ◌++◌, length, codes, IfSome, nat_lt, if◌then◌else◌}
+-- What is to be answered and written, and what is told of a call.
+use Rattle.std.specs.Prelude.{ℕ, List, [], ◌∷◌, ◌++◌, codes}
 use Rattle.std.specs.declared.option.Option.{Option}
-use Rattle.std.specs.declared.option.Option.TheVariants.{Some, None}
+use Rattle.kernel_lang.specs.Plain.{Fragment}
 use Rattle.qbs_base.specs.declared.status.Status.{Status}
 use Rattle.qbs_base.specs.Outside.{Rose}
+use Rattle.query_search.specs.Asking.{Promise}
+use Rattle.rewrite_core.specs.Pruned.{OneDrops, AllKeep}
 use Rattle.qbs.specs.declared.plan.Plan.{Plan}
 
 -- a line of text
@@ -29,11 +31,6 @@ read_fault name = refusal Status.ReadFault (codes "qbs: read " ++ name)
 abbrev pub too_long : List ℕ → Plan
 too_long label = refusal Status.Limit (codes "qbs: limit: " ++ label)
 
--- a program ends with a plan, or reads a file within a limit that has a name, and goes on with its bytes
-pub data Script : Type 0 where
-  ends : Plan → Script
-  reads : (name : List ℕ) → (limit : ℕ) → (label : List ℕ) → (List ℕ → Script) → Script
-
 -- the files of a call: what is told of them, and that their faults rose in the call
 pub record Given : Type 1 where
   pub told : List ℕ → Option (List ℕ)
@@ -42,26 +39,10 @@ pub record Given : Type 1 where
 abbrev pub given : {D : Type 0} → (D → List ℕ → Option (List ℕ)) → (D → ℕ) → D → D → Given
 given told faults old new = record { told = told old; rose = Rose (faults old) (faults new) }
 
--- the plans that a script may end with
-abbrev pub Due : Given → Script → Plan → Type 0
-Due files (ends due) plan = plan ≡ due
-Due files (reads name limit label next) plan =
-    (files.rose × (plan ≡ read_fault name))
-    ⊎ (IfSome (files.told name) (λ all. limit < length all) × (plan ≡ too_long label))
-    ⊎ ((bytes : List ℕ) × (length bytes ≤ limit) × IfSome (files.told name) (λ all. bytes ≡ all) × Due files (next bytes) plan)
+-- the pruners of a call: that some may drop a candidate of a fragment, and that each may keep it
+pub record May : Type 1 where
+  pub drops : Fragment → List ℕ → Type 0
+  pub keeps : Fragment → List ℕ → Type 0
 
--- The plan that a script ends with where what it reads is told, and each read succeeds.
-abbrev pub answer : (List ℕ → Option (List ℕ)) → Script → Option Plan
-answer told (ends plan) = Some plan
-answer told (reads name limit label next) =
-    elim (told name) [
-      | Some bytes ↦ (if nat_lt limit (length bytes) then Some (too_long label) else answer told (next bytes))
-      | None ↦ None
-    ]
-
--- a script comes to the second one by reads that succeed
-pub data Reaches (told : List ℕ → Option (List ℕ)) : Script → Script → Type 0 where
-  here : (script : Script) → Reaches told script script
-  read : (name : List ℕ) (limit : ℕ) (label : List ℕ) (next : List ℕ → Script) (bytes : List ℕ) (last : Script) →
-      length bytes ≤ limit → IfSome (told name) (λ all. bytes ≡ all) → Reaches told (next bytes) last →
-      Reaches told (reads name limit label next) last
+abbrev pub may : {P : Type 0} → (P → Promise) → List P → May
+may post pruners = record { drops = OneDrops post pruners; keeps = AllKeep post pruners }

@@ -1,5 +1,5 @@
 -- The tables of a schema, as files of a folder.
-use Rattle.std.specs.Prelude.{◌≡◌, ℕ, suc, ◌<◌, ◌≤◌, ◌-◌, ◌^◌, ◌⊎◌, List, [], ◌∷◌, ◌++◌, length, codes, IfSome, Result, Ok, Err, ⊤, slice_get}
+use Rattle.std.specs.Prelude.{◌≡◌, ℕ, suc, ◌<◌, ◌-◌, ◌^◌, ◌⊎◌, List, [], ◌∷◌, ◌++◌, length, codes, IfSome, Result, Ok, Err, ⊤, slice_get}
 use Rattle.std.specs.List.{AllByRecursion}
 use Rattle.std.specs.declared.option.Option.{Option}
 use Rattle.std.specs.declared.option.Option.TheVariants.{Some, None}
@@ -15,7 +15,9 @@ use Rattle.schema.specs.Schemas.{schema_of}
 use Rattle.qbs.specs.declared.plan.Plan.{Plan}
 use Rattle.qbs.specs.declared.fetch.Stop.{Stop}
 use Rattle.qbs.specs.Lines.{data_text}
-use Rattle.qbs.specs.Plan.{Given, Script, reads, Due, refusal}
+use Rattle.qbs.specs.Opening.{has_schema}
+use Rattle.qbs.specs.Plan.{Given, refusal}
+use Rattle.qbs.specs.Steps.{Ends, step, refused, finds, IsRead, IsNotRead}
 
 -- the file of a table in a folder
 abbrev pub table_file : List ℕ → List ℕ → List ℕ
@@ -25,11 +27,27 @@ table_file folder table = folder ++ codes "/" ++ table ++ codes ".csv"
 abbrev pub most_bytes : ℕ
 most_bytes = 33554432
 
--- The files of tables are read in order, so many bytes in all, and the script goes on with their texts.
-unfoldable pub read_tables : List ℕ → List Table → ℕ → (List (List ℕ) → Script) → Script
-read_tables folder [] left next = next []
-read_tables folder (table ∷ tables) left next =
-    reads (table_file folder table.name) left (codes "tables") (λ text. read_tables folder tables (left - length text) (λ texts. next (text ∷ texts)))
+-- each text is that of its table's file, in order and all within a limit
+abbrev pub AreRead : Given → List ℕ → List Table → ℕ → List (List ℕ) → Type 0
+AreRead files folder [] left [] = Unit {0}
+AreRead files folder (table ∷ tables) left (text ∷ texts) =
+    IsRead files (table_file folder table.name) left text × AreRead files folder tables (left - length text) texts
+AreRead files folder _ left _ = ⊥
+
+-- the first file that isn't read, behind those before it
+abbrev pub AreNotRead : Given → List ℕ → List Table → ℕ → Ends
+AreNotRead files folder [] left plan = ⊥
+AreNotRead files folder (table ∷ tables) left plan =
+    IsNotRead files (table_file folder table.name) left (codes "tables") plan
+    ⊎ ((text : List ℕ) × IsRead files (table_file folder table.name) left text × AreNotRead files folder tables (left - length text) plan)
+
+-- the files of all tables are read in order
+abbrev pub reads_tables : Given → List ℕ → List Table → (List (List ℕ) → Ends) → Ends
+reads_tables files folder tables next = step (AreRead files folder tables most_bytes) (AreNotRead files folder tables most_bytes) next
+
+-- the bytes are a schema, and then the files of its tables are read
+abbrev pub over_tables : Given → List ℕ → List ℕ → (Schema → List (List ℕ) → Ends) → Ends
+over_tables files folder schema next = has_schema schema (λ tables. reads_tables files folder tables (λ texts. next tables texts))
 
 -- what is wrong with the rows of a table of this name
 pub record TableFault : Type 0 where
@@ -50,32 +68,12 @@ loaded_from schema n _ _ = Ok []
 abbrev pub loaded : Schema → List (List ℕ) → Result Database TableFault
 loaded schema texts = loaded_from schema 0 schema texts
 
--- the texts are those of the tables' files, as far as these are told
-abbrev pub AreTexts : (List ℕ → Option (List ℕ)) → List ℕ → List Table → List (List ℕ) → Type 0
-AreTexts told folder [] [] = Unit {0}
-AreTexts told folder (table ∷ tables) (text ∷ texts) = IfSome (told (table_file folder table.name)) (λ all. text ≡ all) × AreTexts told folder tables texts
-AreTexts told folder _ _ = ⊥
-
 -- a file is one of the tables' files
 abbrev pub IsFileOf : List ℕ → List Table → List ℕ → Type 0
 IsFileOf folder [] name = ⊥
 IsFileOf folder (table ∷ tables) name = (name ≡ table_file folder table.name) ⊎ IsFileOf folder tables name
 
--- the file of one of the tables is longer than what those before it leave of so many bytes
-abbrev pub PassesTables : (List ℕ → Option (List ℕ)) → List ℕ → List Table → ℕ → Type 0
-PassesTables told folder [] left = ⊥
-PassesTables told folder (table ∷ tables) left =
-    IfSome (told (table_file folder table.name)) (λ all. left < length all)
-    ⊎ ((text : List ℕ) × IfSome (told (table_file folder table.name)) (λ all. text ≡ all) × PassesTables told folder tables (left - length text))
-
--- a schema and the texts of its tables, as far as their files are told
-pub record HasTables (told : List ℕ → Option (List ℕ)) (schema folder : List ℕ) (tables : List Table) (texts : List (List ℕ)) : Type 0 where
-  pub bytes : List ℕ
-  pub read : IfSome (told schema) (λ all. bytes ≡ all)
-  pub is_schema : schema_of bytes ≡ Ok tables
-  pub has_texts : AreTexts told folder tables texts
-
--- a file of the tables of a schema was not read
+-- a file is that of a table of the schema
 pub record IsTableFile (told : List ℕ → Option (List ℕ)) (schema folder name : List ℕ) : Type 0 where
   pub bytes : List ℕ
   pub tables : List Table
@@ -83,30 +81,25 @@ pub record IsTableFile (told : List ℕ → Option (List ℕ)) (schema folder na
   pub is_schema : schema_of bytes ≡ Ok tables
   pub file : IsFileOf folder tables name
 
--- the files of the tables of a schema have more than 32 MiB
-pub record TablesPass (told : List ℕ → Option (List ℕ)) (schema folder : List ℕ) : Type 0 where
-  pub bytes : List ℕ
-  pub tables : List Table
-  pub read : IfSome (told schema) (λ all. bytes ≡ all)
-  pub is_schema : schema_of bytes ≡ Ok tables
-  pub passes : PassesTables told folder tables most_bytes
-
 abbrev pub data_refusal : TableFault → Plan
 data_refusal fault = refusal Status.Data (data_text fault.table fault.fault)
 
+abbrev pub LacksRows : Schema → List (List ℕ) → TableFault → Type 0
+LacksRows tables texts fault = loaded tables texts ≡ Err fault
+
+abbrev pub HasRows : Schema → List (List ℕ) → Database → Type 0
+HasRows tables texts db = loaded tables texts ≡ Ok db
+
+-- the texts of the tables have rows of them
+abbrev pub has_rows : Schema → List (List ℕ) → (Database → Ends) → Ends
+has_rows tables texts next = finds (HasRows tables texts) (LacksRows tables texts) data_refusal next
+
 -- ---- What the readers of tables promise
 
--- each text is that of its table's file, and no longer than what is left of the limit
-abbrev pub AreRead : Given → List ℕ → List Table → ℕ → List (List ℕ) → Type 0
-AreRead files folder [] left [] = Unit {0}
-AreRead files folder (table ∷ tables) left (text ∷ texts) =
-    (length text ≤ left) × IfSome (files.told (table_file folder table.name)) (λ all. text ≡ all) × AreRead files folder tables (left - length text) texts
-AreRead files folder _ left _ = ⊥
-
--- texts were put behind those that were there, or what is due is so however the script goes on
+-- texts were put behind those that were there, or what is due without them
 abbrev pub Reads : {A : Type 0} → Given → List ℕ → List Table → ℕ → List (List ℕ) → List (List ℕ) → Result A Stop → Type 0
 Reads files folder tables left old new (Ok done) = (more : List (List ℕ)) × (new ≡ old ++ more) × AreRead files folder tables left more
-Reads files folder tables left old new (Err (Stop.Due plan)) = (next : List (List ℕ) → Script) → Due files (read_tables folder tables left next) plan
+Reads files folder tables left old new (Err (Stop.Due plan)) = AreNotRead files folder tables left plan
 Reads files folder tables left old new (Err Stop.Memory) = ⊤
 
 -- with these rows more in the table with that number
@@ -143,6 +136,6 @@ LoadsNext schema number text old new (Err Stop.Memory) = ⊤
 
 -- the database of the texts, or the refusal of the first table whose text isn't one
 abbrev pub Loads : Schema → List (List ℕ) → Result Database Stop → Type 0
-Loads schema texts (Ok db) = loaded schema texts ≡ Ok db
-Loads schema texts (Err (Stop.Due plan)) = (fault : TableFault) × (loaded schema texts ≡ Err fault) × (plan ≡ data_refusal fault)
+Loads schema texts (Ok db) = HasRows schema texts db
+Loads schema texts (Err (Stop.Due plan)) = refused (LacksRows schema texts) data_refusal plan
 Loads schema texts (Err Stop.Memory) = ⊤

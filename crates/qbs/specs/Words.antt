@@ -3,16 +3,12 @@ use Rattle.std.specs.Prelude.{◌≡◌, ℕ, List, Result, Ok, Err, IfOk, IfSom
 use Rattle.std.specs.declared.option.Option.{Option}
 use Rattle.qbs_base.specs.declared.memory.NoMemory.{NoMemory}
 use Rattle.qbs_base.specs.declared.scalar.Scalar.{Scalar}
-use Rattle.qbs_base.specs.declared.status.Status.{Status}
 use Rattle.qbs_base.specs.Values.{Schema}
 use Rattle.java_ast.specs.Tree.{PlainParam}
 use Rattle.java_mean.specs.declared.rule.TypeRule.{TypeRule}
 use Rattle.java_mean.specs.Types.{IsArgument, AreArguments, single_spelled}
 use Rattle.qbs.specs.declared.fetch.Stop.{Stop}
-use Rattle.qbs.specs.Lines.{word_text}
-use Rattle.qbs.specs.Plan.{refusal}
-use Rattle.qbs.specs.declared.run.Asked.{Asked}
-use Rattle.qbs.specs.Running.{Call, param_type, argument_of, fields_of, arguments}
+use Rattle.qbs.specs.Calls.{param_type, argument_of, fields_of, arguments, word_refusal}
 
 -- the argument of a word is of the parameter's type
 pub record IsTaken (found : Option Scalar) (p : PlainParam) (word : List ℕ) : Type 0 where
@@ -32,9 +28,5 @@ TakesAll result params words = IfOk result (λ found. AreTaken found params word
 -- the arguments that words are, of the parameters' types, or the refusal by the rule that the words break
 abbrev pub ReadsArguments : Result (List Scalar) Stop → List PlainParam → List (List ℕ) → Type 0
 ReadsArguments (Ok args) params words = (arguments params words ≡ Ok args) × ((schema : Schema) → AreArguments schema params args)
-ReadsArguments (Err (Stop.Due plan)) params words = (rule : TypeRule) × (arguments params words ≡ Err rule) × (plan ≡ refusal Status.Types (word_text rule))
+ReadsArguments (Err (Stop.Due plan)) params words = (rule : TypeRule) × (arguments params words ≡ Err rule) × (plan ≡ word_refusal rule)
 ReadsArguments (Err Stop.Memory) params words = ⊤
-
--- what a call asks for, as the code holds it
-abbrev pub call_in : Asked → Call
-call_in c = record { method = c.method.now; words = c.words.now; turns = c.turns; rewritten = c.rewritten }

@@ -2,7 +2,7 @@
 ghost use Rattle.std.specs.Prelude.{◌≡◌, ◌<◌, IfSome, IfOk, option_map, length, map, position, slice_get};
 ghost use Rattle.java_ast.specs.Reading.{spelled, param as plain_param, method as plain_method};
 ghost use Rattle.java_mean.specs.Types.{AreArguments};
-ghost use Rattle.qbs.specs.Running.{param_type as type_of_param, argument_of, fields_of, method_named, at_place};
+ghost use Rattle.qbs.specs.Calls.{param_type as type_of_param, argument_of, fields_of, method_named, method_at};
 ghost use Rattle.qbs.specs.Words.{Takes, TakesAll, ReadsArguments};
 ghost use Rattle.std.specs.Str.{bytes_eq};
 
@@ -24,7 +24,7 @@ fn method_place(methods: &[Method], name: &Name) -> Option<usize>
 /// The place of the first method of this name.
 #[tactic(auto, using(crate::proofs::Called::place_found))]
 pub fn find_method(methods: &[Method], name: &Name) -> Option<usize>
-    ensures named { at_place (map plain_method methods.now) result ≡ method_named name.now (map plain_method methods.now) }
+    ensures named { method_at (map plain_method methods.now) result ≡ method_named name.now (map plain_method methods.now) }
     ensures within { IfSome result (λ n. n < length methods.now) }
 {
     method_place(methods, name)

@@ -3,6 +3,7 @@ ghost use Rattle.std.specs.Prelude.{◌≢◌};
 
 use crate::qbs_main;
 use qbs_base::{CleanFiles, CleanSink, Status, Words};
+use query_search::Pruner;
 use std::alloc::Global;
 
 /// Over files and sinks that never fail no read and no write is reported to have failed.
@@ -12,9 +13,10 @@ pub fn qbs_main_over_clean_ends(
     files: &mut CleanFiles,
     out: &mut CleanSink,
     rep: &mut CleanSink,
+    pruners: &[Pruner],
 ) -> Status
     ensures read { result ≢ Status.ReadFault }
     ensures write { result ≢ Status.WriteFault }
 {
-    qbs_main(alloc, words, files, out, rep)
+    qbs_main(alloc, words, files, out, rep, pruners)
 }

@@ -2,7 +2,9 @@
 ghost use Rattle.std.specs.Prelude.{◌≡◌, ◌<◌, ◌≤◌, MatchResult, IfSome, length};
 ghost use Rattle.qbs_base.specs.Outside.{Rose};
 ghost use Rattle.qbs.specs.declared.fetch.Stop.TheVariants.{Memory};
-ghost use Rattle.qbs.specs.Fetch.{Fetches, StopsFor};
+ghost use Rattle.qbs.specs.Code.{Goes, StopsFor};
+ghost use Rattle.qbs.specs.Plan.{given};
+ghost use Rattle.qbs.specs.Steps.{IsRead, IsNotRead};
 
 use crate::Plan;
 use qbs_base::{Bytes, Files, NoMemory, ReadAnswer, Status, Text};
@@ -39,6 +41,7 @@ impl<T: Drop> From<AllocFailed<T>> for Stop {
     }
 }
 
+/// The bytes of a file within a limit, or what is due without them: the label names the limit.
 pub fn fetch<F: Files>(
     alloc: Global,
     files: &mut F,
@@ -48,7 +51,8 @@ pub fn fetch<F: Files>(
 ) -> Result<Bytes, Stop>
     ensures same { F.told files.new ≡ F.told files.old }
     ensures later { F.faults files.old ≤ F.faults files.new }
-    ensures read { Fetches (F.told files.old name.now) (Rose (F.faults files.old) (F.faults files.new)) name.now limit label.now result }
+    ensures read { Goes result (IsRead (given F.told F.faults files.old files.new) name.now limit)
+        (IsNotRead (given F.told F.faults files.old files.new) name.now limit label.now) }
 {
     match files.read_all(alloc, name, limit) {
         ReadAnswer::Ok(bytes) => Ok(bytes),

@@ -1,7 +1,9 @@
-// The lines of refusals by numbered rules, and of reports.
-ghost use Rattle.std.specs.Prelude.{◌≡◌, ◌++◌, [], IfOk, codes, string_bytes};
-ghost use Rattle.qbs.specs.Fetch.{StopsWith};
-ghost use Rattle.qbs.specs.Lines.{lex_text, parse_text, type_text, nowhere as no_place, word_text, data_text, row_text, fault_text, schema_text, rule_text, found_text};
+// The lines of refusals by numbered rules.
+ghost use Rattle.std.specs.Prelude.{◌≡◌, ◌++◌, [], IfOk, string_bytes};
+ghost use Rattle.qbs.specs.Calls.{word_refusal};
+ghost use Rattle.qbs.specs.Code.{StopsWith};
+ghost use Rattle.qbs.specs.Lines.{nowhere as no_place, data_text, row_text, fault_text, rule_text};
+ghost use Rattle.qbs.specs.Opening.{schema_refusal, lex_refusal, parse_refusal, type_refusal};
 ghost use Rattle.qbs.specs.Plan.{line, refusal};
 
 use crate::Plan;
@@ -41,7 +43,7 @@ fn stop(alloc: Global, status: Status, line: String) -> Stop
 
 /// The refusal of a source without tokens.
 pub fn lex_refused(alloc: Global, fault: &LexFault) -> Stop
-    ensures { StopsWith (refusal Status.Source (lex_text fault.now)) result }
+    ensures { StopsWith (lex_refusal fault.now) result }
 {
     let number = fault.rule.number();
     let name = fault.rule.name();
@@ -53,7 +55,7 @@ pub fn lex_refused(alloc: Global, fault: &LexFault) -> Stop
 
 /// The refusal of a text that is no schema.
 pub fn schema_refused(alloc: Global, fault: &SchemaFault) -> Stop
-    ensures { StopsWith (refusal Status.Schema (schema_text fault.now)) result }
+    ensures { StopsWith (schema_refusal fault.now) result }
 {
     let number = fault.rule.number();
     let name = fault.rule.name();
@@ -65,7 +67,7 @@ pub fn schema_refused(alloc: Global, fault: &SchemaFault) -> Stop
 
 /// The refusal of tokens without a program.
 pub fn parse_refused(alloc: Global, fault: &ParseFault) -> Stop
-    ensures { StopsWith (refusal Status.Source (parse_text fault.now)) result }
+    ensures { StopsWith (parse_refusal fault.now) result }
 {
     let number = fault.rule.number();
     let name = fault.rule.name();
@@ -77,7 +79,7 @@ pub fn parse_refused(alloc: Global, fault: &ParseFault) -> Stop
 
 /// The refusal of a program that breaks a type rule.
 pub fn type_refused(alloc: Global, fault: &TypeFault) -> Stop
-    ensures { StopsWith (refusal Status.Types (type_text fault.now)) result }
+    ensures { StopsWith (type_refusal fault.now) result }
 {
     let number = fault.rule.number();
     let name = fault.rule.name();
@@ -101,7 +103,7 @@ pub fn nowhere() -> Span
 
 /// The refusal of a word beside the source that breaks a type rule.
 pub fn word_refused(alloc: Global, rule: TypeRule) -> Stop
-    ensures { StopsWith (refusal Status.Types (word_text rule)) result }
+    ensures { StopsWith (word_refusal rule) result }
 {
     type_refused(
         alloc,
@@ -147,21 +149,4 @@ pub fn fault_refused(alloc: Global, fault: RunFault, at: Span) -> Stop
         Ok(line) => stop(alloc, Status::Faulted, line),
         Err(_) => Stop::Memory,
     }
-}
-
-fn found_line(alloc: Global, at: Span) -> Result<String, AllocError>
-    ensures { IfOk result (λ s. string_bytes s ≡ line (found_text at) ++ line (codes "pruned 0")) }
-{
-    let row = at.line;
-    let column = at.column;
-    let lines = format!(in alloc; "loop {row}:{column} found 1\npruned 0\n")?;
-    Ok(lines)
-}
-
-/// The report of one loop that was found at candidate 1.
-pub fn found_report(alloc: Global, at: Span) -> Result<Bytes, AllocError>
-    ensures { IfOk result (λ bytes. bytes ≡ line (found_text at) ++ line (codes "pruned 0")) }
-{
-    let lines = found_line(alloc, at)?;
-    Ok(Bytes::from_vec(lines.into_bytes()))
 }

@@ -1,164 +1,140 @@
 // The command `rewrite`.
-ghost use Rattle.std.specs.Prelude.{◌≡◌, IfOk, Some};
-ghost use Rattle.java_lex.specs.Lexing.{lexed};
+ghost use Rattle.std.specs.Prelude.{◌≡◌, ◌≤◌, ◌++◌, IfOk};
+ghost use Rattle.std.specs.List.{flat_map};
+ghost use Rattle.java_ast.specs.Reading.{program as plain_program};
+ghost use Rattle.java_mean.specs.WellTyped.{IsWellTyped};
+ghost use Rattle.java_text.specs.Canonical.{canonical};
+ghost use Rattle.java_types.specs.Texts.{read_by};
 ghost use Rattle.qbs_base.specs.Outside.{Rose};
-ghost use Rattle.qbs.specs.Fetch.{OrMemory};
-ghost use Rattle.qbs.specs.Form.{nodes_of, first_form};
-ghost use Rattle.qbs.specs.Plan.{Due, given};
-ghost use Rattle.qbs.specs.Program.{rewrite, rewriting, with_tokens, with_program, with_types, fault_of, with_form, with_column, loop_place, long_column, is_long_at, is_long_type as type_is_long};
-ghost use Rattle.java_ast.specs.Reading.{program as program_of};
-ghost use Rattle.java_parser.specs.Parsed.{parsed};
+ghost use Rattle.qbs.specs.Code.{OrMemory};
+ghost use Rattle.qbs.specs.Lines.{verdict_line, pruned_line};
+ghost use Rattle.qbs.specs.Opening.{IsProgramOf};
+ghost use Rattle.qbs.specs.Plan.{given, may};
+ghost use Rattle.qbs.specs.Rewrite.{size_of as size_in, budget_of as budget_in, Rewrites, rewrite_of, rewrite as rewrites};
+ghost use Rattle.qbs.specs.Within.{AreWithin};
 
 use crate::Plan;
-use crate::fetch::{Stop, fetch, refused};
-use crate::form::{FirstForm, find_form};
-use crate::lines::{found_report, lex_refused, parse_refused, schema_refused, type_refused};
-use crate::made::rewritten_text;
-use java_ast::Program;
-use java_lex::{Token, Tokens, lex};
-use java_parser::parse;
-use java_types::check;
-use qbs_base::{Bytes, Fail, Files, NoMemory, Span, Status, Text, Ty, columns_at};
-use schema::{Schema, parse_schema};
+use crate::fetch::{Stop, fetch};
+use crate::opening::{open_program, open_schema};
+use crate::report::report;
+use java_grammar::{canonical_text_is_read_back, programs_of_texts_are_read_back};
+use java_text::print_program;
+use java_types::Typed;
+use kernel_lang::{Candidate, KFragment, PruneAnswer};
+use qbs_base::{Bytes, Files, NoMemory, Status, Text};
+use query_search::Pruner;
+use rewrite_core::{Rewritten, rewrite};
+use schema::Schema;
 use std::alloc::Global;
+use words::Options;
 
 /// What is due for the files of a schema and a source.
 pub fn plan_rewrite<F: Files>(
     alloc: Global,
     files: &mut F,
+    options: &Options,
     schema: &Text,
     source: &Text,
+    pruners: &[Pruner],
 ) -> Result<Plan, Stop>
-    ensures { OrMemory result (Due (given F.told F.faults files.old files.new) (rewrite schema.now source.now)) }
+    requires { AreWithin options.now }
+    ensures same { F.told files.new ≡ F.told files.old }
+    ensures later { F.faults files.old ≤ F.faults files.new }
+    ensures due { OrMemory result (rewrites (given F.told F.faults files.old files.new)
+        (may (λ p. ⟦<Box<dyn Fn(&KFragment, &Candidate) -> PruneAnswer> as Fn(&KFragment, &Candidate) -> PruneAnswer>⟧.post p.call) pruners.now)
+        options.now schema.now source.now) }
 {
     let schema = fetch(alloc, files, schema, 262144, "schema")?;
     let source = fetch(alloc, files, source, 1048576, "source")?;
-    plan_rewriting(alloc, schema.as_slice(), source.as_slice())
+    plan_texts(
+        alloc,
+        options,
+        schema.as_slice(),
+        source.as_slice(),
+        pruners,
+    )
 }
 
-fn plan_rewriting(alloc: Global, schema: &[u8], source: &[u8]) -> Result<Plan, Stop>
-    ensures { OrMemory result (λ plan. plan ≡ rewriting schema.now source.now) }
+// What is due for their bytes.
+fn plan_texts(
+    alloc: Global,
+    options: &Options,
+    schema: &[u8],
+    source: &[u8],
+    pruners: &[Pruner],
+) -> Result<Plan, Stop>
+    requires { AreWithin options.now }
+    ensures { OrMemory result (rewrite_of
+        (may (λ p. ⟦<Box<dyn Fn(&KFragment, &Candidate) -> PruneAnswer> as Fn(&KFragment, &Candidate) -> PruneAnswer>⟧.post p.call) pruners.now)
+        options.now schema.now source.now) }
 {
-    match parse_schema(alloc, schema) {
-        Ok(schema) => plan_source(alloc, &schema, source),
-        Err(Fail::Fault(fault)) => Err(schema_refused(alloc, &fault)),
-        Err(Fail::NoMemory) => Err(Stop::Memory),
+    let schema = open_schema(alloc, schema)?;
+    let typed = open_program(alloc, &schema, source)?;
+    plan_program(alloc, options, &schema, source, &typed, pruners)
+}
+
+/// The most formulas of a candidate, where the words give none.
+pub fn size_of(options: &Options) -> u32
+    requires { AreWithin options.now }
+    ensures is { result ≡ size_in options.now }
+    ensures within { result ≤ 8 }
+{
+    match options.size {
+        Some(n) => n as u32,
+        None => 4,
     }
 }
 
-fn plan_source(alloc: Global, schema: &Schema, source: &[u8]) -> Result<Plan, Stop>
-    ensures { OrMemory result (λ plan. plan ≡ with_tokens schema.now (lexed source.now)) }
+/// The most candidates of a loop that are judged, where the words give none.
+pub fn budget_of(options: &Options) -> u64
+    requires { AreWithin options.now }
+    ensures is { result ≡ budget_in options.now }
+    ensures within { result ≤ 1000000 }
 {
-    match lex(alloc, source) {
-        Ok(tokens) => plan_tokens(alloc, schema, &tokens),
-        Err(Fail::Fault(fault)) => Err(lex_refused(alloc, &fault)),
-        Err(Fail::NoMemory) => Err(Stop::Memory),
+    match options.candidates {
+        Some(n) => n,
+        None => 20000,
     }
 }
 
-fn plan_tokens(alloc: Global, schema: &Schema, tokens: &Tokens) -> Result<Plan, Stop>
-    ensures { OrMemory result (λ plan. plan ≡ with_program schema.now tokens.now (parsed tokens.now)) }
-{
-    match parse(alloc, tokens) {
-        Ok(program) => plan_program(alloc, schema, tokens, &program),
-        Err(Fail::Fault(fault)) => Err(parse_refused(alloc, &fault)),
-        Err(Fail::NoMemory) => Err(Stop::Memory),
-    }
-}
-
+// The program that is left, and the report.
 fn plan_program(
     alloc: Global,
+    options: &Options,
     schema: &Schema,
-    tokens: &Tokens,
-    program: &Program,
+    source: &[u8],
+    typed: &Typed,
+    pruners: &[Pruner],
 ) -> Result<Plan, Stop>
-    ensures { OrMemory result (λ plan. plan ≡ with_types schema.now tokens.now (fault_of schema.now (program_of program.now))) }
+    requires within { AreWithin options.now }
+    requires program { IsProgramOf schema.now source.now (plain_program typed.now.program) }
+    ensures { OrMemory result (Rewrites
+        (may (λ p. ⟦<Box<dyn Fn(&KFragment, &Candidate) -> PruneAnswer> as Fn(&KFragment, &Candidate) -> PruneAnswer>⟧.post p.call) pruners.now)
+        schema.now (size_in options.now) (budget_in options.now) (plain_program typed.now.program)) }
 {
-    match check(alloc, schema, program) {
-        Ok(_) => plan_typed(alloc, schema, tokens.list.as_slice()),
-        Err(Fail::Fault(fault)) => Err(type_refused(alloc, &fault)),
-        Err(Fail::NoMemory) => Err(Stop::Memory),
-    }
+    let size = size_of(options);
+    let budget = budget_of(options);
+    let rewritten = rewrite(alloc, schema, typed, size, budget, pruners)?;
+    programs_of_texts_are_read_back();
+    canonical_text_is_read_back();
+    Ok(plan_left(alloc, &rewritten)?)
 }
 
-fn plan_typed(alloc: Global, schema: &Schema, tokens: &[Token]) -> Result<Plan, Stop>
-    ensures { OrMemory result (λ plan. plan ≡ with_form schema.now (loop_place tokens.now) (first_form (nodes_of tokens.now))) }
+// The canonical text of what is left, and the report.
+fn plan_left(alloc: Global, rewritten: &Rewritten) -> Result<Plan, NoMemory>
+    ensures { IfOk result (λ plan.
+        plan
+        ≡ record {
+          status = Status.Ok;
+          out = canonical (plain_program rewritten.now.program);
+          rep = flat_map verdict_line rewritten.now.verdicts ++ pruned_line rewritten.now.dropped;
+        }) }
 {
-    match find_form(tokens)? {
-        Some(form) => plan_form(alloc, schema, &form, place_of_loop(tokens)),
-        None => Err(refused(alloc, Status::NotYet, "qbs: not yet", "")),
-    }
-}
-
-fn plan_form(alloc: Global, schema: &Schema, form: &FirstForm, at: Span) -> Result<Plan, Stop>
-    ensures { OrMemory result (λ plan. plan ≡ with_column form.now at (long_column schema.now form.now)) }
-{
-    match column_of(schema, form) {
-        Some((table, column)) => Ok(plan_found(alloc, form, at, table, column)?),
-        None => Err(refused(alloc, Status::NotYet, "qbs: not yet", "")),
-    }
-}
-
-fn plan_found(
-    alloc: Global,
-    form: &FirstForm,
-    at: Span,
-    table: u32,
-    column: u32,
-) -> Result<Plan, NoMemory>
-    ensures { IfOk result (λ plan. plan ≡ with_column form.now at (Some (table, column))) }
-{
-    let text = rewritten_text(alloc, form, at, table, column)?;
+    let text = print_program(alloc, &rewritten.program)?;
+    let rep = report(alloc, rewritten.verdicts.as_slice(), rewritten.dropped)?;
     Ok(Plan {
         status: Status::Ok,
         out: Bytes::from_vec(text.into_vec()),
-        rep: found_report(alloc, at)?,
+        rep,
     })
-}
-
-/// Where the `for` of the form stands.
-pub fn place_of_loop(tokens: &[Token]) -> Span
-    ensures { result ≡ loop_place tokens.now }
-{
-    match tokens.get(24) {
-        Some(token) => token.span,
-        None => Span {
-            line: 0,
-            column: 0,
-            start: 0,
-            end: 0,
-        },
-    }
-}
-
-/// The numbers of the form's table and of its column, which is of type Long.
-pub fn column_of(schema: &Schema, form: &FirstForm) -> Option<(u32, u32)>
-    ensures { result ≡ long_column schema.now form.now }
-{
-    let table = schema.table(&form.table)?;
-    let column = schema.column(table, &form.column)?;
-    if is_long(schema, table, column) {
-        Some((table, column))
-    } else {
-        None
-    }
-}
-
-fn is_long_type(ty: Ty) -> bool
-    ensures { result ≡ type_is_long ty }
-{
-    match ty {
-        Ty::Long => true,
-        Ty::Bool | Ty::Text => false,
-    }
-}
-
-// Whether the column is of type Long.
-fn is_long(schema: &Schema, table: u32, column: u32) -> bool
-    ensures { result ≡ is_long_at schema.now table column }
-{
-    match columns_at(schema.tables(), table).get(column as usize) {
-        Some(column) => is_long_type(column.ty),
-        None => false,
-    }
 }

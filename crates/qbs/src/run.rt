@@ -1,198 +1,173 @@
 // The command `run`.
-ghost use Rattle.std.specs.Prelude.{◌≡◌, Some, Ok, IfSome, IfOk, length, option_map};
+ghost use Rattle.std.specs.Prelude.{◌≡◌, ◌≤◌, IfOk, length};
 ghost use Rattle.qbs_base.specs.Outside.{Rose};
-ghost use Rattle.java_ast.specs.Reading.{program as program_of};
+ghost use Rattle.java_ast.specs.Reading.{program as plain_program};
 ghost use Rattle.java_interp.specs.Reached.{outcome_in};
-ghost use Rattle.java_lex.specs.Lexing.{lexed};
 ghost use Rattle.java_mean.specs.WellTyped.{IsWellTyped};
-ghost use Rattle.java_parser.specs.Parsed.{parsed};
 ghost use Rattle.java_types.specs.Texts.{read_by};
-ghost use Rattle.qbs.specs.Fetch.{OrMemory};
-ghost use Rattle.qbs.specs.Plan.{Due, given};
-ghost use Rattle.qbs.specs.Words.{call_in};
-ghost use Rattle.schema.specs.Schemas.{schema_of};
-ghost use Rattle.qbs.specs.Running.{run, over_schema, ran, fault_of, with_program, with_types, with_chosen, with_outcome, chosen, rewritten_of as rewritten_in};
+ghost use Rattle.rewrite_core.specs.Trying.{rewritten as rewritten_in};
+ghost use Rattle.qbs.specs.Code.{OrMemory, call_in, run_called};
+ghost use Rattle.qbs.specs.Plan.{given};
+ghost use Rattle.qbs.specs.Rewrite.{size_of as size_in, budget_of as budget_in, IsRewriting};
+ghost use Rattle.qbs.specs.Run.{run as runs, run_of, chooses, call_of, turns_of as turns_in, comes_to};
+ghost use Rattle.qbs.specs.Tables.{over_tables};
+ghost use Rattle.qbs.specs.Within.{AreWithin};
 
 use crate::Plan;
 use crate::arguments::{find_method, read_arguments};
 use crate::fetch::{Stop, fetch, refused};
-use crate::form::find_form;
-use crate::lines::{
-    fault_refused, lex_refused, parse_refused, schema_refused, type_refused, word_refused,
-};
-use crate::made::rewritten_program;
+use crate::lines::{fault_refused, word_refused};
+use crate::opening::{open_program, open_schema};
 use crate::results::output;
-use crate::rewrite::{column_of, place_of_loop};
+use crate::rewrite::{budget_of, size_of};
 use crate::tables::{TableTexts, fetch_tables, load_tables};
-use java_ast::Program;
 use java_interp::{Outcome, run_method};
-use java_lex::{Tokens, lex};
 use java_mean::TypeRule;
-use java_parser::parse;
-use java_types::{Typed, check};
-use qbs_base::{Bytes, Fail, Files, NoMemory, Status, Table, Text, Words};
-use schema::{Schema, parse_schema};
+use java_types::Typed;
+use qbs_base::{Bytes, Files, NoMemory, Status, Table, Text, Words};
+use query_search::Pruner;
+use rewrite_core::rewrite;
+use schema::Schema;
 use std::alloc::Global;
+use words::Options;
 
-/// What the words of a run ask for besides files.
+/// What the words of a run ask for besides files: a method by its name, and a word for each argument.
 #[derive(Clone, Copy)]
 pub struct Asked<'a> {
     pub method: &'a Text,
     pub words: &'a Words,
-    pub turns: u64,
-    pub rewritten: bool,
 }
 
 /// What is due for a schema, a source, the files of the tables in a folder, and a call of a method.
 pub fn plan_run<F: Files>(
     alloc: Global,
     files: &mut F,
+    options: &Options,
     schema: &Text,
     source: &Text,
     folder: &Text,
     call: &Asked,
+    pruners: &[Pruner],
 ) -> Result<Plan, Stop>
-    ensures { OrMemory result (Due (given F.told F.faults files.old files.new) (run schema.now source.now folder.now (call_in call.now))) }
+    requires { AreWithin options.now }
+    ensures same { F.told files.new ≡ F.told files.old }
+    ensures later { F.faults files.old ≤ F.faults files.new }
+    ensures due { OrMemory result (runs (given F.told F.faults files.old files.new) options.now schema.now source.now folder.now (call_in call.now)) }
 {
-    let tables = fetch(alloc, files, schema, 262144, "schema")?;
+    let schema = fetch(alloc, files, schema, 262144, "schema")?;
     let source = fetch(alloc, files, source, 1048576, "source")?;
-    plan_over(
+    plan_tables(
         alloc,
         files,
-        tables.as_slice(),
+        options,
+        schema.as_slice(),
         source.as_slice(),
         folder,
         call,
+        pruners,
     )
 }
 
-fn plan_over<F: Files>(
+// What is due for the bytes of a schema and a source, and the files of the tables.
+fn plan_tables<F: Files>(
     alloc: Global,
     files: &mut F,
+    options: &Options,
     schema: &[u8],
     source: &[u8],
     folder: &Text,
     call: &Asked,
+    pruners: &[Pruner],
 ) -> Result<Plan, Stop>
-    ensures { OrMemory result (Due (given F.told F.faults files.old files.new) (over_schema folder.now source.now (call_in call.now) (schema_of schema.now))) }
+    requires { AreWithin options.now }
+    ensures same { F.told files.new ≡ F.told files.old }
+    ensures later { F.faults files.old ≤ F.faults files.new }
+    ensures due { OrMemory result (
+        over_tables (given F.told F.faults files.old files.new) folder.now schema.now (λ tables texts.
+        run_of options.now tables (call_in call.now) source.now texts)) }
 {
-    match parse_schema(alloc, schema) {
-        Ok(schema) => plan_tables(alloc, files, &schema, source, folder, call),
-        Err(Fail::Fault(fault)) => Err(schema_refused(alloc, &fault)),
-        Err(Fail::NoMemory) => Err(Stop::Memory),
-    }
-}
-
-fn plan_tables<F: Files>(
-    alloc: Global,
-    files: &mut F,
-    schema: &Schema,
-    source: &[u8],
-    folder: &Text,
-    call: &Asked,
-) -> Result<Plan, Stop>
-    ensures { OrMemory result (Due (given F.told F.faults files.old files.new) (over_schema folder.now source.now (call_in call.now) (Ok schema.now))) }
-{
+    let schema = open_schema(alloc, schema)?;
     let mut texts = TableTexts::new(alloc);
     fetch_tables(schema.tables(), alloc, files, folder, 33554432, &mut texts)?;
-    plan_source(alloc, schema, source, texts.as_slice(), call)
+    plan_source(
+        alloc,
+        options,
+        &schema,
+        source,
+        texts.as_slice(),
+        call,
+        pruners,
+    )
 }
 
+// What is due for the bytes of a source and the texts of tables.
 fn plan_source(
     alloc: Global,
+    options: &Options,
     schema: &Schema,
     source: &[u8],
     texts: &[Bytes],
     call: &Asked,
+    pruners: &[Pruner],
 ) -> Result<Plan, Stop>
-    requires { length texts.now ≡ length schema.now }
-    ensures { OrMemory result (λ plan. plan ≡ ran schema.now source.now (call_in call.now) texts.now) }
+    requires within { AreWithin options.now }
+    requires tables { length texts.now ≡ length schema.now }
+    ensures { OrMemory result (run_of options.now schema.now (call_in call.now) source.now texts.now) }
 {
-    match lex(alloc, source) {
-        Ok(tokens) => plan_tokens(alloc, schema, &tokens, texts, call),
-        Err(Fail::Fault(fault)) => Err(lex_refused(alloc, &fault)),
-        Err(Fail::NoMemory) => Err(Stop::Memory),
-    }
+    let typed = open_program(alloc, schema, source)?;
+    plan_chosen(alloc, options, schema, &typed, texts, call, pruners)
 }
 
-fn plan_tokens(
-    alloc: Global,
-    schema: &Schema,
-    tokens: &Tokens,
-    texts: &[Bytes],
-    call: &Asked,
-) -> Result<Plan, Stop>
-    requires { length texts.now ≡ length schema.now }
-    ensures { OrMemory result (λ plan. plan ≡ with_program schema.now texts.now (call_in call.now) tokens.now (parsed tokens.now)) }
-{
-    match parse(alloc, tokens) {
-        Ok(program) => plan_program(alloc, schema, tokens, &program, texts, call),
-        Err(Fail::Fault(fault)) => Err(parse_refused(alloc, &fault)),
-        Err(Fail::NoMemory) => Err(Stop::Memory),
-    }
-}
-
-fn plan_program(
-    alloc: Global,
-    schema: &Schema,
-    tokens: &Tokens,
-    program: &Program,
-    texts: &[Bytes],
-    call: &Asked,
-) -> Result<Plan, Stop>
-    requires { length texts.now ≡ length schema.now }
-    ensures { OrMemory result (λ plan.
-        plan
-        ≡ with_types schema.now texts.now (call_in call.now) tokens.now (program_of program.now) (fault_of schema.now (program_of program.now))) }
-{
-    match check(alloc, schema, program) {
-        Ok(typed) => plan_chosen(alloc, schema, tokens, &typed, texts, call),
-        Err(Fail::Fault(fault)) => Err(type_refused(alloc, &fault)),
-        Err(Fail::NoMemory) => Err(Stop::Memory),
-    }
-}
-
+// What is due for the program, or for the rewritten one.
+#[tactic(auto, using(crate::proofs::Rewritten::run_plain, crate::proofs::Rewritten::run_other))]
 fn plan_chosen(
     alloc: Global,
+    options: &Options,
     schema: &Schema,
-    tokens: &Tokens,
     typed: &Typed,
     texts: &[Bytes],
     call: &Asked,
+    pruners: &[Pruner],
 ) -> Result<Plan, Stop>
+    requires within { AreWithin options.now }
     requires tables { length texts.now ≡ length schema.now }
-    requires typed { IsWellTyped schema.now (read_by schema.now) (program_of typed.now.program) }
-    ensures { OrMemory result (λ plan.
-        plan
-        ≡ with_chosen schema.now texts.now (call_in call.now) (chosen call.now.rewritten schema.now tokens.now (program_of typed.now.program))) }
+    requires typed { IsWellTyped schema.now (read_by schema.now) (plain_program typed.now.program) }
+    ensures { OrMemory result (
+        chooses options.now schema.now (plain_program typed.now.program) (call_of schema.now texts.now (call_in call.now) (turns_in options.now))) }
 {
-    if !call.rewritten {
-        return plan_call(alloc, schema, typed, texts, call);
+    let turns = turns_of(options);
+    if !options.rewritten {
+        return plan_call(alloc, schema, typed, texts, call, turns);
     }
-    match rewritten(alloc, schema, tokens)? {
-        Some(other) => plan_call(alloc, schema, &other, texts, call),
-        None => Err(refused(alloc, Status::NotYet, "qbs: not yet", "")),
-    }
+    let other = rewritten(alloc, options, schema, typed, pruners)?;
+    plan_call(alloc, schema, &other, texts, call, turns)
 }
 
-// The class of the first form with the query in place of its loop.
-fn rewritten(alloc: Global, schema: &Schema, tokens: &Tokens) -> Result<Option<Typed>, NoMemory>
-    ensures is { IfOk result (λ o. option_map (λ t. program_of t.program) o ≡ rewritten_in schema.now tokens.now) }
-    ensures typed { IfOk result (λ o. IfSome o (λ t. IsWellTyped schema.now (read_by schema.now) (program_of t.program))) }
+// The turns of a run, where the words give none.
+fn turns_of(options: &Options) -> u64
+    ensures { result ≡ turns_in options.now }
 {
-    let list = tokens.list.as_slice();
-    let Some(form) = find_form(list)? else {
-        return Ok(None);
-    };
-    let Some((table, column)) = column_of(schema, &form) else {
-        return Ok(None);
-    };
-    let program = rewritten_program(alloc, &form, place_of_loop(list), table, column)?;
-    match check(alloc, schema, &program) {
-        Ok(typed) => Ok(Some(typed)),
-        Err(Fail::Fault(_)) => Ok(None),
-        Err(Fail::NoMemory) => Err(NoMemory),
-    }
+    options.turns.unwrap_or(1000000)
+}
+
+// The program after all tries.
+fn rewritten(
+    alloc: Global,
+    options: &Options,
+    schema: &Schema,
+    typed: &Typed,
+    pruners: &[Pruner],
+) -> Result<Typed, NoMemory>
+    requires within { AreWithin options.now }
+    requires typed { IsWellTyped schema.now (read_by schema.now) (plain_program typed.now.program) }
+    ensures is { IfOk result (λ t.
+        plain_program t.program ≡ rewritten_in schema.now (size_in options.now) (budget_in options.now) (plain_program typed.now.program)) }
+    ensures rewriting { IfOk result (λ _. IsRewriting schema.now (size_in options.now) (budget_in options.now) (plain_program typed.now.program)) }
+{
+    let size = size_of(options);
+    let budget = budget_of(options);
+    let rewritten = rewrite(alloc, schema, typed, size, budget, pruners)?;
+    Ok(Typed::of(rewritten.program))
 }
 
 // What is due for a call of a method of a well-typed program.
@@ -202,10 +177,11 @@ fn plan_call(
     typed: &Typed,
     texts: &[Bytes],
     call: &Asked,
+    turns: u64,
 ) -> Result<Plan, Stop>
     requires tables { length texts.now ≡ length schema.now }
-    requires typed { IsWellTyped schema.now (read_by schema.now) (program_of typed.now.program) }
-    ensures { OrMemory result (λ plan. plan ≡ with_chosen schema.now texts.now (call_in call.now) (Some (program_of typed.now.program))) }
+    requires typed { IsWellTyped schema.now (read_by schema.now) (plain_program typed.now.program) }
+    ensures { OrMemory result (run_called schema.now texts.now (call_in call.now) turns (plain_program typed.now.program)) }
 {
     let methods = typed.program().methods.as_slice();
     let Some(number) = find_method(methods, call.method) else {
@@ -213,12 +189,12 @@ fn plan_call(
     };
     let args = read_arguments(alloc, methods[number].params.as_slice(), call.words)?;
     let db = load_tables(alloc, schema, texts)?;
-    let outcome = run_method(alloc, schema, typed, &db, number as u64, &args, call.turns)?;
+    let outcome = run_method(alloc, schema, typed, &db, number as u64, &args, turns)?;
     plan_outcome(alloc, schema.tables(), outcome)
 }
 
 fn plan_outcome(alloc: Global, tables: &[Table], outcome: Outcome) -> Result<Plan, Stop>
-    ensures { OrMemory result (λ plan. plan ≡ with_outcome tables.now (outcome_in outcome)) }
+    ensures { OrMemory result (comes_to tables.now (outcome_in outcome)) }
 {
     match outcome {
         Outcome::Done { prints, result } => Ok(output(alloc, tables, prints.as_slice(), &result)?),

@@ -1,23 +1,24 @@
 // The command `sql`.
-ghost use Rattle.std.specs.Prelude.{◌≡◌, ◌≤◌, Some, Ok, length};
+ghost use Rattle.std.specs.Prelude.{◌≡◌, ◌≤◌, Some, length};
 ghost use Rattle.qbs_base.specs.Outside.{Rose};
 ghost use Rattle.java_mean.specs.Rules.{has_order as query_has_order};
+ghost use Rattle.java_types.specs.Texts.{read_by};
 ghost use Rattle.sql_ast.specs.Reading.{query as query_of};
-ghost use Rattle.sql_ast.specs.Meaning.{Answered, query_answer};
 ghost use Rattle.sql_exec.specs.Answered.{answered as meaning_of, IsAnswerable};
-ghost use Rattle.qbs.specs.Asking.{sql, over_schema, asked, with_order, with_params, over_rows, answered};
-ghost use Rattle.qbs.specs.Fetch.{OrMemory};
-ghost use Rattle.qbs.specs.Plan.{Due, given};
-ghost use Rattle.qbs.specs.Tables.{loaded};
+ghost use Rattle.qbs.specs.Code.{OrMemory, answer_of, answer_ordered};
+ghost use Rattle.qbs.specs.Plan.{given};
+ghost use Rattle.qbs.specs.Sql.{sql as sqls, sql_of, answer_plan};
+ghost use Rattle.qbs.specs.Tables.{over_tables};
 
 use crate::Plan;
 use crate::fetch::{Stop, fetch};
-use crate::lines::{fault_refused, nowhere, schema_refused, word_refused};
+use crate::lines::{fault_refused, nowhere, word_refused};
+use crate::opening::open_schema;
 use crate::results::output;
 use crate::tables::{TableTexts, fetch_tables, load_tables};
 use java_mean::{RunFault, TypeRule};
 use qbs_base::{Fail, Files, Scalars, Table, Text, Ty, Value};
-use schema::{Schema, parse_schema};
+use schema::Schema;
 use sql_ast::{Query, order_complete};
 use sql_exec::{Answer, answer};
 use sql_parse::parse_query;
@@ -31,36 +32,37 @@ pub fn plan_sql<F: Files>(
     folder: &Text,
     query: &Text,
 ) -> Result<Plan, Stop>
-    ensures { OrMemory result (Due (given F.told F.faults files.old files.new) (sql schema.now folder.now query.now)) }
+    ensures same { F.told files.new ≡ F.told files.old }
+    ensures later { F.faults files.old ≤ F.faults files.new }
+    ensures due { OrMemory result (sqls (given F.told F.faults files.old files.new) schema.now folder.now query.now) }
 {
-    let bytes = fetch(alloc, files, schema, 262144, "schema")?;
-    match parse_schema(alloc, bytes.as_slice()) {
-        Ok(schema) => plan_tables(alloc, files, &schema, folder, query),
-        Err(Fail::Fault(fault)) => Err(schema_refused(alloc, &fault)),
-        Err(Fail::NoMemory) => Err(Stop::Memory),
-    }
+    let schema = fetch(alloc, files, schema, 262144, "schema")?;
+    plan_tables(alloc, files, schema.as_slice(), folder, query)
 }
 
+// What is due for the bytes of a schema, and the files of the tables.
 fn plan_tables<F: Files>(
     alloc: Global,
     files: &mut F,
-    schema: &Schema,
+    schema: &[u8],
     folder: &Text,
     query: &Text,
 ) -> Result<Plan, Stop>
     ensures same { F.told files.new ≡ F.told files.old }
     ensures later { F.faults files.old ≤ F.faults files.new }
-    ensures due { OrMemory result (Due (given F.told F.faults files.old files.new) (over_schema folder.now query.now (Ok schema.now))) }
+    ensures due { OrMemory result (
+        over_tables (given F.told F.faults files.old files.new) folder.now schema.now (λ tables texts. sql_of tables query.now texts)) }
 {
+    let schema = open_schema(alloc, schema)?;
     let mut texts = TableTexts::new(alloc);
     fetch_tables(schema.tables(), alloc, files, folder, 33554432, &mut texts)?;
-    plan_query(alloc, schema, &texts, query)
+    plan_query(alloc, &schema, &texts, query)
 }
 
 #[tactic(auto, using(crate::proofs::Asked::answerable))]
 fn plan_query(alloc: Global, schema: &Schema, texts: &TableTexts, text: &Text) -> Result<Plan, Stop>
     requires { length texts.now ≡ length schema.now }
-    ensures { OrMemory result (λ plan. plan ≡ asked schema.now texts.now text.now) }
+    ensures { OrMemory result (λ plan. plan ≡ answer_of schema.now texts.now (read_by schema.now text.now)) }
 {
     let _size = text.as_str().len();
     match parse_query(alloc, schema, text) {
@@ -76,7 +78,7 @@ fn plan_query(alloc: Global, schema: &Schema, texts: &TableTexts, text: &Text) -
 fn plan_ordered(alloc: Global, schema: &Schema, texts: &TableTexts, q: &Query) -> Result<Plan, Stop>
     requires tables { length texts.now ≡ length schema.now }
     requires answerable { IsAnswerable (query_of q.now) }
-    ensures { OrMemory result (λ plan. plan ≡ with_order schema.now texts.now (query_of q.now) (query_has_order (Some (query_of q.now)))) }
+    ensures { OrMemory result (λ plan. plan ≡ answer_ordered schema.now texts.now (query_of q.now) (query_has_order (Some (query_of q.now)))) }
 {
     if !order_complete(q) {
         return Err(word_refused(alloc, TypeRule::UnorderedQuery));
@@ -90,7 +92,7 @@ fn plan_ordered(alloc: Global, schema: &Schema, texts: &TableTexts, q: &Query) -
 }
 
 fn plan_answer(alloc: Global, tables: &[Table], found: Answer) -> Result<Plan, Stop>
-    ensures { OrMemory result (λ plan. plan ≡ answered tables.now (meaning_of found)) }
+    ensures { OrMemory result (λ plan. plan ≡ answer_plan tables.now (meaning_of found)) }
 {
     match found {
         Answer::Rows(rows) => Ok(output(alloc, tables, &[], &Some(Value::Many(rows)))?),

@@ -2,7 +2,6 @@
 ghost use Rattle.std.specs.Prelude.{◌≡◌, ◌<◌, ◌≤◌, ◌++◌, ◌∷◌, [], length, IfOk, OnOk, IfErr, slice_get, string_bytes};
 ghost use Rattle.qbs_base.specs.Outside.{Rose};
 ghost use Rattle.qbs_base.specs.Values.{IsDatabaseOf};
-ghost use Rattle.qbs.specs.Fetch.{StopsWith};
 ghost use Rattle.qbs.specs.Plan.{given};
 ghost use Rattle.qbs.specs.Tables.{table_file as file_of, IsFresh, Reads, Loads, LoadsNext, with_rows_at};
 

@@ -1,16 +1,17 @@
 // The top call.
-ghost use Rattle.std.specs.Prelude.{◌≡◌, Some};
+ghost use Rattle.std.specs.Prelude.{◌≡◌, ◌≤◌, []};
 ghost use Rattle.std.specs.Io.KnownBytes.{Appends};
-ghost use Rattle.std.specs.Prelude.{[]};
 ghost use Rattle.qbs_base.specs.Outside.{Rose};
 ghost use Rattle.qbs_base.specs.Status.{KeepsOutput};
-ghost use Rattle.words.specs.Reading.{plain};
+ghost use Rattle.qbs.specs.Code.{OrMemory, call_in};
+ghost use Rattle.qbs.specs.Commands.{HasNoWords, program, command as command_ends, without_store};
 ghost use Rattle.qbs.specs.Deliver.{change};
-ghost use Rattle.qbs.specs.Fetch.{OrMemory};
-ghost use Rattle.qbs.specs.Plan.{Due, given};
-ghost use Rattle.qbs.specs.Words.{call_in};
-ghost use Rattle.qbs.specs.Program.{program, script_of, turns_of as turns_in, run_or_not_yet, rewrite_or_not_yet, asks_more as options_ask_more};
-ghost use Rattle.qbs.specs.Statuses.{IsDone, IsAnswered, Ended, CutShort, RefusesWords};
+ghost use Rattle.qbs.specs.Headline.{HasHeadline, DropsNone};
+ghost use Rattle.qbs.specs.Plan.{given, may};
+ghost use Rattle.qbs.specs.Rewrite.{rewrite};
+ghost use Rattle.qbs.specs.Run.{run};
+ghost use Rattle.qbs.specs.Top.{IsDone, CutShort, HasOnePlan, Refuses, IsSame};
+ghost use Rattle.qbs.specs.Within.{AreWithin, IsWithin};
 
 use crate::Plan;
 use crate::deliver::{deliver, deliver_plan};
@@ -18,59 +19,53 @@ use crate::fetch::{Stop, refused};
 use crate::rewrite::plan_rewrite;
 use crate::run::{Asked, plan_run};
 use crate::sql::plan_sql;
+use kernel_lang::{Candidate, KFragment, PruneAnswer};
 use qbs_base::{Files, Sink, Status, Text, Words};
+use query_search::Pruner;
 use std::alloc::Global;
 use words::{Command, Options, read_words};
 
 /// Carries out the command that the words name: reads the files that it names, computes everything,
 /// and then writes the text to `out` by one call and the report, or the line of a refusal, to `rep`
-/// by one call. `words` leaves out the program's own name.
+/// by one call. `words` leaves out the program's own name. The pruners are asked before a candidate is judged.
 pub fn qbs_main<F: Files, O: Sink, E: Sink>(
     alloc: Global,
     words: &Words,
     files: &mut F,
     out: &mut O,
     rep: &mut E,
+    pruners: &[Pruner],
 ) -> Status
     // It ends with a plan that is due, and writes it, first to `out` and then to `rep`.
-    ensures done { IsDone (given F.told F.faults files.old files.new) words.now
-        (change O.told O.faults out.old out.new) (change E.told E.faults rep.old rep.new) result }
+    ensures done { IsDone (given F.told F.faults files.old files.new)
+        (may (λ p. ⟦<Box<dyn Fn(&KFragment, &Candidate) -> PruneAnswer> as Fn(&KFragment, &Candidate) -> PruneAnswer>⟧.post p.call) pruners.now)
+        words.now (change O.told O.faults out.old out.new) (change E.told E.faults rep.old rep.new) result }
 
-    // Where all that is read is told, that plan is the one answer.
-    ensures answered { IsAnswered (given F.told F.faults files.old files.new) words.now
-        (change O.told O.faults out.old out.new) (change E.told E.faults rep.old rep.new) result }
+    // Where all that is read is told, the plan that is due is one but for the number of dropped candidates.
+    ensures one_plan { HasOnePlan (given F.told F.faults files.old files.new)
+        (may (λ p. ⟦<Box<dyn Fn(&KFragment, &Candidate) -> PruneAnswer> as Fn(&KFragment, &Candidate) -> PruneAnswer>⟧.post p.call) pruners.now)
+        words.now }
 
-    // Each status has its cause, and both sinks have grown by what is due with it.
-    ensures ok { result ≡ Status.Ok → Ended (given F.told F.faults files.old files.new) words.now
-        (change O.told O.faults out.old out.new) (change E.told E.faults rep.old rep.new) Status.Ok }
-    ensures bad_words { result ≡ Status.Words → Ended (given F.told F.faults files.old files.new) words.now
-        (change O.told O.faults out.old out.new) (change E.told E.faults rep.old rep.new) Status.Words }
-    ensures words_refused { RefusesWords words.now result }
-    ensures read { result ≡ Status.ReadFault → Ended (given F.told F.faults files.old files.new) words.now
-        (change O.told O.faults out.old out.new) (change E.told E.faults rep.old rep.new) Status.ReadFault }
-    ensures write { result ≡ Status.WriteFault → CutShort (given F.told F.faults files.old files.new) words.now
-        (change O.told O.faults out.old out.new) (change E.told E.faults rep.old rep.new) }
-    ensures schema { result ≡ Status.Schema → Ended (given F.told F.faults files.old files.new) words.now
-        (change O.told O.faults out.old out.new) (change E.told E.faults rep.old rep.new) Status.Schema }
-    ensures source { result ≡ Status.Source → Ended (given F.told F.faults files.old files.new) words.now
-        (change O.told O.faults out.old out.new) (change E.told E.faults rep.old rep.new) Status.Source }
-    ensures types { result ≡ Status.Types → Ended (given F.told F.faults files.old files.new) words.now
-        (change O.told O.faults out.old out.new) (change E.told E.faults rep.old rep.new) Status.Types }
-    ensures data { result ≡ Status.Data → Ended (given F.told F.faults files.old files.new) words.now
-        (change O.told O.faults out.old out.new) (change E.told E.faults rep.old rep.new) Status.Data }
-    ensures faulted { result ≡ Status.Faulted → Ended (given F.told F.faults files.old files.new) words.now
-        (change O.told O.faults out.old out.new) (change E.told E.faults rep.old rep.new) Status.Faulted }
-    ensures turns { result ≡ Status.Turns → Ended (given F.told F.faults files.old files.new) words.now
-        (change O.told O.faults out.old out.new) (change E.told E.faults rep.old rep.new) Status.Turns }
-    ensures memory { result ≡ Status.NoMemory → Ended (given F.told F.faults files.old files.new) words.now
-        (change O.told O.faults out.old out.new) (change E.told E.faults rep.old rep.new) Status.NoMemory }
-    ensures limit { result ≡ Status.Limit → Ended (given F.told F.faults files.old files.new) words.now
-        (change O.told O.faults out.old out.new) (change E.told E.faults rep.old rep.new) Status.Limit }
-    ensures not_yet { result ≡ Status.NotYet → Ended (given F.told F.faults files.old files.new) words.now
-        (change O.told O.faults out.old out.new) (change E.told E.faults rep.old rep.new) Status.NotYet }
+    // Where `rewrite` ends well, what is written does what the program read does, and each loop left stands as it was tried.
+    ensures headline { HasHeadline (given F.told F.faults files.old files.new)
+        (may (λ p. ⟦<Box<dyn Fn(&KFragment, &Candidate) -> PruneAnswer> as Fn(&KFragment, &Candidate) -> PruneAnswer>⟧.post p.call) pruners.now)
+        words.now (change O.told O.faults out.old out.new) (change E.told E.faults rep.old rep.new) result }
+
+    // With no pruners no candidate is dropped.
+    ensures unpruned { pruners.now ≡ [] → DropsNone words.now (change E.told E.faults rep.old rep.new) result }
+
+    // Words that aren't plain are refused, and nothing is read.
+    ensures words { Refuses words.now files.old files.new result }
+    // Status 3 comes only where the count of the files' faults rose.
+    ensures read { result ≡ Status.ReadFault → Rose (F.faults files.old) (F.faults files.new) }
     ensures unchanged { KeepsOutput result → Appends (O.told out.old) (O.told out.new) [] }
+    ensures cut_short { result ≡ Status.WriteFault
+        → CutShort (given F.told F.faults files.old files.new)
+        (may (λ p. ⟦<Box<dyn Fn(&KFragment, &Candidate) -> PruneAnswer> as Fn(&KFragment, &Candidate) -> PruneAnswer>⟧.post p.call) pruners.now)
+        words.now (change O.told O.faults out.old out.new) (change E.told E.faults rep.old rep.new) }
+    ensures same { IsSame F.told F.faults files.old files.new }
 {
-    carry_out(alloc, words, files, out, rep)
+    carry_out(alloc, words, files, out, rep, pruners)
 }
 
 fn carry_out<F: Files, O: Sink, E: Sink>(
@@ -79,11 +74,16 @@ fn carry_out<F: Files, O: Sink, E: Sink>(
     files: &mut F,
     out: &mut O,
     rep: &mut E,
+    pruners: &[Pruner],
 ) -> Status
-    ensures { IsDone (given F.told F.faults files.old files.new) words.now
-        (change O.told O.faults out.old out.new) (change E.told E.faults rep.old rep.new) result }
+    ensures done { IsDone (given F.told F.faults files.old files.new)
+        (may (λ p. ⟦<Box<dyn Fn(&KFragment, &Candidate) -> PruneAnswer> as Fn(&KFragment, &Candidate) -> PruneAnswer>⟧.post p.call) pruners.now)
+        words.now (change O.told O.faults out.old out.new) (change E.told E.faults rep.old rep.new) result }
+    ensures unread { HasNoWords words.now → files.new ≡ files.old }
+    ensures held { F.told files.new ≡ F.told files.old }
+    ensures later { F.faults files.old ≤ F.faults files.new }
 {
-    match plan_of(alloc, words, files) {
+    match plan_of(alloc, words, files, pruners) {
         Ok(plan) => deliver_plan(&plan, out, rep),
         Err(Stop::Due(plan)) => deliver_plan(&plan, out, rep),
         Err(Stop::Memory) => deliver(Status::NoMemory, &[], b"qbs: memory\n", out, rep),
@@ -91,20 +91,24 @@ fn carry_out<F: Files, O: Sink, E: Sink>(
 }
 
 // What is due for the words.
-fn plan_of<F: Files>(alloc: Global, words: &Words, files: &mut F) -> Result<Plan, Stop>
-    ensures { OrMemory result (Due (given F.told F.faults files.old files.new) (program words.now)) }
+#[tactic(auto, using(crate::proofs::Worded::in_range, crate::proofs::Worded::command_due, crate::proofs::Worded::words_due, crate::proofs::Worded::words_read))]
+fn plan_of<F: Files>(
+    alloc: Global,
+    words: &Words,
+    files: &mut F,
+    pruners: &[Pruner],
+) -> Result<Plan, Stop>
+    ensures due { OrMemory result (program (given F.told F.faults files.old files.new)
+        (may (λ p. ⟦<Box<dyn Fn(&KFragment, &Candidate) -> PruneAnswer> as Fn(&KFragment, &Candidate) -> PruneAnswer>⟧.post p.call) pruners.now)
+        words.now) }
+    ensures unread { HasNoWords words.now → files.new ≡ files.old }
+    ensures held { F.told files.new ≡ F.told files.old }
+    ensures later { F.faults files.old ≤ F.faults files.new }
 {
     match read_words(alloc, words)? {
-        Some(command) => plan_command(alloc, files, &command),
+        Some(command) => plan_command(alloc, files, &command, pruners),
         None => Err(refused(alloc, Status::Words, "qbs: words", "")),
     }
-}
-
-// Whether an option is set that isn't built yet.
-fn asks_more(options: &Options) -> bool
-    ensures { result ≡ options_ask_more options.now }
-{
-    options.size.is_some() || options.candidates.is_some() || options.store.is_some()
 }
 
 // What is due for `rewrite`.
@@ -114,20 +118,19 @@ fn plan_rewrite_if_built<F: Files>(
     options: &Options,
     schema: &Text,
     source: &Text,
+    pruners: &[Pruner],
 ) -> Result<Plan, Stop>
-    ensures { OrMemory result (Due (given F.told F.faults files.old files.new) (rewrite_or_not_yet (options_ask_more options.now) schema.now source.now)) }
+    requires { AreWithin options.now }
+    ensures due { OrMemory result (without_store options.now.store (rewrite (given F.told F.faults files.old files.new)
+        (may (λ p. ⟦<Box<dyn Fn(&KFragment, &Candidate) -> PruneAnswer> as Fn(&KFragment, &Candidate) -> PruneAnswer>⟧.post p.call) pruners.now)
+        options.now schema.now source.now)) }
+    ensures held { F.told files.new ≡ F.told files.old }
+    ensures later { F.faults files.old ≤ F.faults files.new }
 {
-    if asks_more(options) {
-        return Err(refused(alloc, Status::NotYet, "qbs: not yet", ""));
+    match &options.store {
+        Some(_) => Err(refused(alloc, Status::NotYet, "qbs: not yet", "")),
+        None => plan_rewrite(alloc, files, options, schema, source, pruners),
     }
-    plan_rewrite(alloc, files, schema, source)
-}
-
-// The turns of a run, where the words give none.
-fn turns_of(options: &Options) -> u64
-    ensures { result ≡ turns_in options.now.turns }
-{
-    options.turns.unwrap_or(1000000)
 }
 
 // What is due for `run`.
@@ -139,27 +142,41 @@ fn plan_run_if_built<F: Files>(
     source: &Text,
     folder: &Text,
     call: &Asked,
+    pruners: &[Pruner],
 ) -> Result<Plan, Stop>
-    ensures { OrMemory result (
-        Due (given F.told F.faults files.old files.new) (
-        run_or_not_yet (options_ask_more options.now) schema.now source.now folder.now (call_in call.now))) }
+    requires { AreWithin options.now }
+    ensures due { OrMemory result (without_store options.now.store (run (given F.told F.faults files.old files.new)
+        options.now schema.now source.now folder.now (call_in call.now))) }
+    ensures held { F.told files.new ≡ F.told files.old }
+    ensures later { F.faults files.old ≤ F.faults files.new }
 {
-    if asks_more(options) {
-        return Err(refused(alloc, Status::NotYet, "qbs: not yet", ""));
+    match &options.store {
+        Some(_) => Err(refused(alloc, Status::NotYet, "qbs: not yet", "")),
+        None => plan_run(alloc, files, options, schema, source, folder, call, pruners),
     }
-    plan_run(alloc, files, schema, source, folder, call)
 }
 
 // What is due for a command.
-fn plan_command<F: Files>(alloc: Global, files: &mut F, command: &Command) -> Result<Plan, Stop>
-    ensures { OrMemory result (Due (given F.told F.faults files.old files.new) (script_of command.now)) }
+#[tactic(auto, using(crate::proofs::Worded::sql_due))]
+fn plan_command<F: Files>(
+    alloc: Global,
+    files: &mut F,
+    command: &Command,
+    pruners: &[Pruner],
+) -> Result<Plan, Stop>
+    requires { IsWithin command.now }
+    ensures due { OrMemory result (command_ends (given F.told F.faults files.old files.new)
+        (may (λ p. ⟦<Box<dyn Fn(&KFragment, &Candidate) -> PruneAnswer> as Fn(&KFragment, &Candidate) -> PruneAnswer>⟧.post p.call) pruners.now)
+        command.now) }
+    ensures held { F.told files.new ≡ F.told files.old }
+    ensures later { F.faults files.old ≤ F.faults files.new }
 {
     match command {
         Command::Rewrite {
             options,
             schema,
             source,
-        } => plan_rewrite_if_built(alloc, files, options, schema, source),
+        } => plan_rewrite_if_built(alloc, files, options, schema, source, pruners),
         Command::Sql {
             schema,
             folder,
@@ -176,10 +193,10 @@ fn plan_command<F: Files>(alloc: Global, files: &mut F, command: &Command) -> Re
             let call = Asked {
                 method,
                 words: arguments,
-                turns: turns_of(options),
-                rewritten: options.rewritten,
             };
-            plan_run_if_built(alloc, files, options, schema, source, folder, &call)
+            plan_run_if_built(
+                alloc, files, options, schema, source, folder, &call, pruners,
+            )
         }
         _ => Err(refused(alloc, Status::NotYet, "qbs: not yet", "")),
     }

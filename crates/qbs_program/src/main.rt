@@ -45,7 +45,7 @@ fn main(rt: HostRuntime) -> ExitCode {
     };
     let mut files = RealFiles::new(&rt);
     let mut out = RealSink::new(rt.stdout());
-    let status = qbs_main(alloc, &words, &mut files, &mut out, &mut rep);
+    let status = qbs_main(alloc, &words, &mut files, &mut out, &mut rep, &[]);
     ExitCode::from(status.code())
 }
 

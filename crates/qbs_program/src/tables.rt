@@ -52,7 +52,7 @@ pub fn is_so(alloc: Global, row: &Row) -> Result<bool, Fail> {
     let mut files = files_of(alloc, row.files)?;
     let mut out = MemSink::with_room(alloc, 1000)?;
     let mut rep = MemSink::with_room(alloc, 100)?;
-    let status = qbs_main(alloc, &words, &mut files, &mut out, &mut rep);
+    let status = qbs_main(alloc, &words, &mut files, &mut out, &mut rep, &[]);
     Ok(
         status.code() == row.code
             && out.bytes() == row.out.as_bytes()

@@ -19,8 +19,8 @@ struct Case {
 const SPACED: &str =
     "class\tA{/* c */List <User>\r\nstaff( ) // d\n{List<User>out=new ArrayList<>();for(User u:\r\n\tdb . fetch(User.class)){if(u.roleId==2){out.add(u);}}return out;}}";
 
-const UNEQUAL: &str =
-    "class A {\n    List<User> staff() {\n        List<User> out = new ArrayList<>();\n        for (User u : db.fetch(User.class)) {\n            if (u.roleId != 2) {\n                out.add(u);\n            }\n        }\n        return out;\n    }\n}\n";
+const WHILE: &str =
+    "class A {\n    int f() {\n        int i = 0;\n        while (i < 3) {\n            i = i + 1;\n        }\n        return i;\n    }\n}\n";
 
 const BY_NAME: &str =
     "class A{List<User>f(){List<User>o=new ArrayList<>();for(User u:db.fetch(User.class)){if(u.name==2){o.add(u);}}return o;}}";
@@ -67,12 +67,12 @@ static CASES: [Case; 31] = [
     },
     Case {
         words: REWRITE,
-        files: &[("s.sql", SCHEMA), ("A.java", UNEQUAL)],
+        files: &[("s.sql", SCHEMA), ("A.java", WHILE)],
         fails: NONE,
         room: 1000,
-        code: 14,
-        out: "",
-        rep: "qbs: not yet\n",
+        code: 0,
+        out: WHILE,
+        rep: "loop 4:9 outside K1 at 4:9\npruned 0\n",
     },
     Case {
         words: REWRITE,
@@ -115,9 +115,9 @@ static CASES: [Case; 31] = [
         files: &[("s.sql", SCHEMA), ("A.java", "class A { } // end")],
         fails: NONE,
         room: 1000,
-        code: 14,
-        out: "",
-        rep: "qbs: not yet\n",
+        code: 0,
+        out: "class A {\n}\n",
+        rep: "pruned 0\n",
     },
     Case {
         words: &["prove", "s.sql", "A.java"],
@@ -130,21 +130,21 @@ static CASES: [Case; 31] = [
     },
     Case {
         words: &["rewrite", "--size", "4", "s.sql", "A.java"],
-        files: &[],
+        files: BOTH,
         fails: NONE,
         room: 1000,
-        code: 14,
-        out: "",
-        rep: "qbs: not yet\n",
+        code: 0,
+        out: REWRITTEN,
+        rep: "loop 4:9 found 1\npruned 0\n",
     },
     Case {
         words: &["rewrite", "--candidates=1", "s.sql", "A.java"],
-        files: &[],
+        files: BOTH,
         fails: NONE,
         room: 1000,
-        code: 14,
-        out: "",
-        rep: "qbs: not yet\n",
+        code: 0,
+        out: STAFF,
+        rep: "loop 4:9 budget 1 of 4\npruned 0\n",
     },
     Case {
         words: &["rewrite", "--store", "x", "s.sql", "A.java"],
@@ -362,9 +362,9 @@ static ROWS: [Row; 24] = [
     Row {
         words: &["run", "--rewritten", "s.sql", "M.java", "d", "oldest"],
         files: TABLES,
-        code: 14,
-        out: "",
-        rep: "qbs: not yet\n",
+        code: 0,
+        out: "return 41\n",
+        rep: "",
     },
     Row {
         words: &["run", "s.sql", "M.java", "d", "show"],
@@ -474,9 +474,9 @@ static ROWS: [Row; 24] = [
     Row {
         words: &["run", "--size", "4", "s.sql", "A.java", "d", "staff"],
         files: TABLES,
-        code: 14,
-        out: "",
-        rep: "qbs: not yet\n",
+        code: 0,
+        out: "return list 2\nUser(1, \"ann\", 2, 30, true)\nUser(3, \"cat\", 2, 41, true)\n",
+        rep: "",
     },
     Row {
         words: &[
@@ -542,7 +542,7 @@ fn each_case_has_its_status_and_texts(rt: HostRuntime) -> Result<(), Fail> {
         if let Some(call) = case.fails[2] {
             rep.fail_at(call)?;
         }
-        let status = qbs_main(alloc, &words, &mut files, &mut out, &mut rep);
+        let status = qbs_main(alloc, &words, &mut files, &mut out, &mut rep, &[]);
         assert_eq!(rt; status.code(), case.code);
         assert_eq!(rt; out.bytes(), case.out.as_bytes());
         assert_eq!(rt; rep.bytes(), case.rep.as_bytes());
@@ -572,7 +572,7 @@ fn clean_ends_carry_out_the_command(rt: HostRuntime) -> Result<(), Fail> {
     }
     let mut out = CleanSink::new();
     let mut rep = CleanSink::new();
-    let status = qbs_main_over_clean_ends(alloc, &words, &mut files, &mut out, &mut rep);
+    let status = qbs_main_over_clean_ends(alloc, &words, &mut files, &mut out, &mut rep, &[]);
     assert_eq!(rt; status, Status::Ok);
     Ok(())
 }
@@ -609,7 +609,7 @@ fn limits_are_kept_to_the_byte(rt: HostRuntime) -> Result<(), Fail> {
         )?;
         let mut out = MemSink::with_room(alloc, 1000)?;
         let mut rep = MemSink::with_room(alloc, 100)?;
-        let status = qbs_main(alloc, &words, &mut files, &mut out, &mut rep);
+        let status = qbs_main(alloc, &words, &mut files, &mut out, &mut rep, &[]);
         assert_eq!(rt; status.code(), code);
         assert_eq!(rt; rep.bytes(), line.as_bytes());
     }

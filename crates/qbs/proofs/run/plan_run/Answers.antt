@@ -1,21 +1,40 @@
+use Rattle.std.proofs.Common.{List, ℕ, subst, ◌∙◌}
+use Rattle.std.proofs.lemmas.Result.{err_from_is_err_and}
 use Rattle.qbs_base.specs.Outside.{Rose}
-use Rattle.std.proofs.Common.{List, ℕ, codes, subst}
-use Rattle.schema.specs.Schemas.{schema_of}
-use Rattle.qbs.specs.Fetch.{OrMemory}
-use Rattle.qbs.specs.Plan.{Due, given, reads}
-use Rattle.qbs.specs.Running.{over_schema}
-use Rattle.qbs.specs.Words.{call_in}
-use Rattle.qbs.proofs.Loading.{rose_later, due_read_first}
+use Rattle.qbs.specs.Code.{OrMemory, call_in}
+use Rattle.qbs.specs.Plan.{given}
+use Rattle.qbs.specs.Run.{run_of}
+use Rattle.qbs.specs.Tables.{over_tables}
+use Rattle.qbs.proofs.Fetched.{rose_later, told_later}
+use Rattle.qbs.proofs.Planned.{first_unread, second_unread, both_read, over_there}
 use Rattle.qbs.proofs.run.plan_run.Goals as goal
 
-pub returns : goal.returns
-returns g c =
-    let over : OrMemory c.plan_over.result (Due (given g.F.Files.told g.F.Files.faults c.fetch-2.new.files c.plan_over.new.files) (over_schema c.args.folder.now c.in_ok-source.source (call_in c.args.call.now) (schema_of c.in_ok-tables.tables))) =
-    subst (λ (bytes : List ℕ). OrMemory c.plan_over.result (Due (given g.F.Files.told g.F.Files.faults c.fetch-2.new.files c.plan_over.new.files) (over_schema c.args.folder.now bytes (call_in c.args.call.now) (schema_of c.in_ok-tables.tables)))) c.as_slice-2.ensures
-    (subst (λ (bytes : List ℕ). OrMemory c.plan_over.result (Due (given g.F.Files.told g.F.Files.faults c.fetch-2.new.files c.plan_over.new.files) (over_schema c.args.folder.now c.as_slice-2.result.now (call_in c.args.call.now) (schema_of bytes)))) c.as_slice.ensures c.plan_over.ensures) in
-    due_read_first (g.F.Files.told c.args.files.now) (g.F.Files.told c.fetch.new.files) (Rose (g.F.Files.faults c.args.files.now) (g.F.Files.faults c.plan_over.new.files)) (Rose (g.F.Files.faults c.fetch.new.files) (g.F.Files.faults c.plan_over.new.files))
-    c.args.schema.now 262144 (codes "schema") (λ tables. reads c.args.source.now 1048576 (codes "source") (λ text. over_schema c.args.folder.now text (call_in c.args.call.now) (schema_of tables))) c.in_ok-tables.tables c.plan_over.result
-    c.fetch.ensures.same (rose_later (g.F.Files.faults c.args.files.now) (g.F.Files.faults c.fetch.new.files) (g.F.Files.faults c.plan_over.new.files) c.fetch.ensures.later) c.in_ok-tables.ensures.read
-    (due_read_first (g.F.Files.told c.fetch.new.files) (g.F.Files.told c.fetch-2.new.files) (Rose (g.F.Files.faults c.fetch.new.files) (g.F.Files.faults c.plan_over.new.files)) (Rose (g.F.Files.faults c.fetch-2.new.files) (g.F.Files.faults c.plan_over.new.files))
-    c.args.source.now 1048576 (codes "source") (λ text. over_schema c.args.folder.now text (call_in c.args.call.now) (schema_of c.in_ok-tables.tables)) c.in_ok-source.source c.plan_over.result
-    c.fetch-2.ensures.same (rose_later (g.F.Files.faults c.fetch.new.files) (g.F.Files.faults c.fetch-2.new.files) (g.F.Files.faults c.plan_over.new.files) c.fetch-2.ensures.later) c.in_ok-source.ensures.read over)
+pub returns-in_err-schema-clause-due : goal.returns-in_err-schema-clause-due
+returns-in_err-schema-clause-due g c =
+    let p = err_from_is_err_and c.from_residual.result c.from_residual.ensures.1 in
+    rw (p.1, p.2)
+    (first_unread (given g.F.Files.told g.F.Files.faults c.args.files.now c.fetch.new.files) c.args.schema.now c.args.source.now
+    (λ s t. over_tables (given g.F.Files.told g.F.Files.faults c.args.files.now c.fetch.new.files) c.args.folder.now s (λ tables texts. run_of c.args.options.now tables (call_in c.args.call.now) t texts)) c.in_err-schema.field-0.0 c.in_err-schema.ensures.read)
+
+pub returns-in_err-source-clause-due : goal.returns-in_err-source-clause-due
+returns-in_err-source-clause-due g c =
+    let p = err_from_is_err_and c.from_residual-in_err-source.result c.from_residual-in_err-source.ensures.1 in
+    rw (p.1, p.2)
+    (second_unread (g.F.Files.told c.args.files.now) (g.F.Files.told c.fetch.new.files) (Rose (g.F.Files.faults c.args.files.now) (g.F.Files.faults c.fetch-2.new.files)) (Rose (g.F.Files.faults c.fetch.new.files) (g.F.Files.faults c.fetch-2.new.files))
+    c.args.schema.now c.args.source.now
+    (λ s t. over_tables (given g.F.Files.told g.F.Files.faults c.args.files.now c.fetch-2.new.files) c.args.folder.now s (λ tables texts. run_of c.args.options.now tables (call_in c.args.call.now) t texts)) c.in_ok-schema.schema c.in_err-source.field-0.0
+    c.fetch.ensures.same (rose_later (g.F.Files.faults c.args.files.now) (g.F.Files.faults c.fetch.new.files) (g.F.Files.faults c.fetch-2.new.files) c.fetch.ensures.later)
+    c.in_ok-schema.ensures.read c.in_err-source.ensures.read)
+
+pub returns-clause-due : goal.returns-clause-due
+returns-clause-due g c =
+    let later = rose_later (g.F.Files.faults c.args.files.now) (g.F.Files.faults c.fetch-2.new.files) (g.F.Files.faults c.plan_tables.new.files) (told_later (g.F.Files.faults c.args.files.now) (g.F.Files.faults c.fetch.new.files) (g.F.Files.faults c.fetch-2.new.files) c.fetch.ensures.later c.fetch-2.ensures.later) in
+    both_read (g.F.Files.told c.args.files.now) (g.F.Files.told c.fetch.new.files) (Rose (g.F.Files.faults c.args.files.now) (g.F.Files.faults c.plan_tables.new.files)) (Rose (g.F.Files.faults c.fetch.new.files) (g.F.Files.faults c.plan_tables.new.files))
+    c.args.schema.now c.args.source.now
+    (λ s t. over_tables (given g.F.Files.told g.F.Files.faults c.args.files.now c.plan_tables.new.files) c.args.folder.now s (λ tables texts. run_of c.args.options.now tables (call_in c.args.call.now) t texts)) c.in_ok-schema.schema c.in_ok-source.source c.plan_tables.result
+    c.fetch.ensures.same c.in_ok-schema.ensures.read c.in_ok-source.ensures.read
+    (over_there (g.F.Files.told c.args.files.now) (g.F.Files.told c.fetch-2.new.files) (Rose (g.F.Files.faults c.args.files.now) (g.F.Files.faults c.plan_tables.new.files)) (Rose (g.F.Files.faults c.fetch-2.new.files) (g.F.Files.faults c.plan_tables.new.files))
+    c.args.folder.now c.in_ok-schema.schema (λ tables texts. run_of c.args.options.now tables (call_in c.args.call.now) c.in_ok-source.source texts) c.plan_tables.result
+    (c.fetch-2.ensures.same ∙ c.fetch.ensures.same) later
+    (subst (λ (t : List ℕ). OrMemory c.plan_tables.result (over_tables (given g.F.Files.told g.F.Files.faults c.fetch-2.new.files c.plan_tables.new.files) c.args.folder.now c.in_ok-schema.schema (λ tables texts. run_of c.args.options.now tables (call_in c.args.call.now) t texts))) c.as_slice-2.ensures
+    (subst (λ (s : List ℕ). OrMemory c.plan_tables.result (over_tables (given g.F.Files.told g.F.Files.faults c.fetch-2.new.files c.plan_tables.new.files) c.args.folder.now s (λ tables texts. run_of c.args.options.now tables (call_in c.args.call.now) c.as_slice-2.result.now texts))) c.as_slice.ensures c.plan_tables.ensures.due)))

@@ -1,15 +1,27 @@
+use Rattle.std.proofs.Common.{List, ℕ, subst}
+use Rattle.std.proofs.lemmas.Result.{err_from_is_err_and}
 use Rattle.qbs_base.specs.Outside.{Rose}
-use Rattle.std.proofs.Common.{◌≡◌, List, ℕ, Ok, codes, subst}
-use Rattle.schema.specs.Schemas.{schema_of}
-use Rattle.qbs.specs.Asking.{over_schema}
-use Rattle.qbs.proofs.Loading.{rose_later, due_read_first}
+use Rattle.qbs.specs.Code.{OrMemory}
+use Rattle.qbs.specs.Plan.{given}
+use Rattle.qbs.specs.Sql.{sql_of}
+use Rattle.qbs.specs.Tables.{over_tables}
+use Rattle.qbs.proofs.Fetched.{rose_later}
+use Rattle.qbs.proofs.Planned.{schema_read, schema_unread, over_there}
 use Rattle.qbs.proofs.sql.plan_sql.Goals as goal
 
-pub returns-in-Ok : goal.returns-in-Ok
-returns-in-Ok g c =
-    let is : schema_of c.as_slice.result.now ≡ Ok c.in-Ok.schema = c.in-Ok.ensures.value in
-    let here : schema_of c.in_ok-bytes.bytes ≡ Ok c.in-Ok.schema = subst (λ (bytes : List ℕ). schema_of bytes ≡ Ok c.in-Ok.schema) c.as_slice.ensures is in
-    due_read_first (g.F.Files.told c.args.files.now) (g.F.Files.told c.fetch.new.files) (Rose (g.F.Files.faults c.args.files.now) (g.F.Files.faults c.plan_tables.new.files)) (Rose (g.F.Files.faults c.fetch.new.files) (g.F.Files.faults c.plan_tables.new.files))
-    c.args.schema.now 262144 (codes "schema") (λ bytes. over_schema c.args.folder.now c.args.query.now (schema_of bytes)) c.in_ok-bytes.bytes c.plan_tables.result
+pub returns-in_err-schema-clause-due : goal.returns-in_err-schema-clause-due
+returns-in_err-schema-clause-due g c =
+    let p = err_from_is_err_and c.from_residual.result c.from_residual.ensures.1 in
+    rw (p.1, p.2)
+    (schema_unread (given g.F.Files.told g.F.Files.faults c.args.files.now c.fetch.new.files) c.args.schema.now
+    (λ s. over_tables (given g.F.Files.told g.F.Files.faults c.args.files.now c.fetch.new.files) c.args.folder.now s (λ tables texts. sql_of tables c.args.query.now texts)) c.in_err-schema.field-0.0 c.in_err-schema.ensures.read)
+
+pub returns-clause-due : goal.returns-clause-due
+returns-clause-due g c =
+    schema_read (g.F.Files.told c.args.files.now) (g.F.Files.told c.fetch.new.files) (Rose (g.F.Files.faults c.args.files.now) (g.F.Files.faults c.plan_tables.new.files)) (Rose (g.F.Files.faults c.args.files.now) (g.F.Files.faults c.fetch.new.files))
+    c.args.schema.now (λ s. over_tables (given g.F.Files.told g.F.Files.faults c.args.files.now c.plan_tables.new.files) c.args.folder.now s (λ tables texts. sql_of tables c.args.query.now texts)) c.in_ok-schema.schema c.plan_tables.result
+    c.in_ok-schema.ensures.read
+    (over_there (g.F.Files.told c.args.files.now) (g.F.Files.told c.fetch.new.files) (Rose (g.F.Files.faults c.args.files.now) (g.F.Files.faults c.plan_tables.new.files)) (Rose (g.F.Files.faults c.fetch.new.files) (g.F.Files.faults c.plan_tables.new.files))
+    c.args.folder.now c.in_ok-schema.schema (λ tables texts. sql_of tables c.args.query.now texts) c.plan_tables.result
     c.fetch.ensures.same (rose_later (g.F.Files.faults c.args.files.now) (g.F.Files.faults c.fetch.new.files) (g.F.Files.faults c.plan_tables.new.files) c.fetch.ensures.later)
-    c.in_ok-bytes.ensures.read (rw here c.plan_tables.ensures.due)
+    (subst (λ (s : List ℕ). OrMemory c.plan_tables.result (over_tables (given g.F.Files.told g.F.Files.faults c.fetch.new.files c.plan_tables.new.files) c.args.folder.now s (λ tables texts. sql_of tables c.args.query.now texts))) c.as_slice.ensures c.plan_tables.ensures.due))

@@ -1,10 +1,15 @@
-use Rattle.std.proofs.Common.{◌≡◌, List, ℕ, ◌++◌, subst, ◌∙◌, ap, length}
+use Rattle.std.proofs.Common.{◌≡◌, List, ℕ, ◌++◌, ◌∙◌, ap, length, refl}
+use Rattle.std.proofs.lemmas.Result.{err_from_is_err_and}
 use Rattle.qbs_base.specs.declared.columns.Table.{Table}
-use Rattle.qbs.specs.Asking.{asked}
-use Rattle.qbs.specs.Fetch.{OrMemory}
+use Rattle.qbs_base.specs.Outside.{Rose}
+use Rattle.java_types.specs.Texts.{read_by}
+use Rattle.qbs.specs.Code.{answer_of}
 use Rattle.qbs.specs.Plan.{given}
-use Rattle.qbs.specs.Tables.{AreRead, most_bytes}
-use Rattle.qbs.proofs.Loading.{as_many, due_tables}
+use Rattle.qbs.specs.Sql.{sql_of}
+use Rattle.qbs.proofs.Fetched.{as_many}
+use Rattle.qbs.proofs.Going.{due_as}
+use Rattle.qbs.proofs.Planned.{no_schema, no_texts, has_texts}
+use Rattle.qbs.proofs.Twins.{sql_steps}
 use Rattle.qbs.proofs.sql.plan_tables.Goals as goal
 
 pub plan_query-requires : goal.plan_query-requires
@@ -14,9 +19,24 @@ plan_query-requires g c =
     ∙ as_many (given g.F.Files.told g.F.Files.faults c.args.files.now c.fetch_tables.new.files) c.args.folder.now c.tables.result.now 33554432 r.0 r.2
     ∙ ap (λ (ts : List Table). length ts) c.tables.ensures.value
 
+pub returns-in_err-schema-clause-due : goal.returns-in_err-schema-clause-due
+returns-in_err-schema-clause-due g c =
+    let p = err_from_is_err_and c.from_residual.result c.from_residual.ensures.1 in
+    rw (p.1, p.2)
+    (no_schema (given g.F.Files.told g.F.Files.faults c.args.files.now c.args.files.now) c.args.folder.now c.args.schema.now (λ tables texts. sql_of tables c.args.query.now texts) c.in_err-schema.field-0.0 c.in_err-schema.ensures)
+
+pub returns-in_err-fetch_tables-clause-due : goal.returns-in_err-fetch_tables-clause-due
+returns-in_err-fetch_tables-clause-due g c =
+    let p = err_from_is_err_and c.from_residual-in_err-fetch_tables.result c.from_residual-in_err-fetch_tables.ensures.1 in
+    rw (p.1, p.2)
+    (no_texts (Unit {0}) (g.F.Files.told c.args.files.now) (g.F.Files.told c.args.files.now) (Rose (g.F.Files.faults c.args.files.now) (g.F.Files.faults c.fetch_tables.new.files)) (Rose (g.F.Files.faults c.args.files.now) (g.F.Files.faults c.fetch_tables.new.files))
+    c.args.folder.now c.args.schema.now (λ tables texts. sql_of tables c.args.query.now texts) c.in_ok-schema.schema c.tables.result.now c.new-texts.result c.fetch_tables.new.texts c.in_err-fetch_tables.field-0.0
+    refl (λ rose. rose) c.in_ok-schema.ensures c.tables.ensures.value c.in_err-fetch_tables.ensures.read)
+
 pub returns-clause-due : goal.returns-clause-due
 returns-clause-due g c =
-    let r = c.in_ok-fetch_tables.ensures.read in
-    due_tables (given g.F.Files.told g.F.Files.faults c.args.files.now c.fetch_tables.new.files) c.args.folder.now c.args.schema.now most_bytes r.0 (λ texts. asked c.args.schema.now texts c.args.query.now) c.plan_query.result
-    (subst (λ (ts : List Table). AreRead (given g.F.Files.told g.F.Files.faults c.args.files.now c.fetch_tables.new.files) c.args.folder.now ts most_bytes r.0) c.tables.ensures.value r.2)
-    (subst (λ (ts : List (List ℕ)). OrMemory c.plan_query.result (λ plan. plan ≡ asked c.args.schema.now ts c.args.query.now)) (r.1 ∙ ap (λ (ts : List (List ℕ)). ts ++ r.0) c.new-texts.ensures) c.plan_query.ensures)
+    has_texts (Unit {0}) (g.F.Files.told c.args.files.now) (g.F.Files.told c.args.files.now) (Rose (g.F.Files.faults c.args.files.now) (g.F.Files.faults c.fetch_tables.new.files)) (Rose (g.F.Files.faults c.args.files.now) (g.F.Files.faults c.fetch_tables.new.files))
+    c.args.folder.now c.args.schema.now (λ tables texts. sql_of tables c.args.query.now texts) c.in_ok-schema.schema c.tables.result.now _ c.fetch_tables.new.texts tt c.plan_query.result
+    refl c.in_ok-schema.ensures c.tables.ensures.value c.new-texts.ensures c.in_ok-fetch_tables.ensures.read
+    (due_as (λ plan. plan ≡ answer_of c.in_ok-schema.schema c.fetch_tables.new.texts (read_by c.in_ok-schema.schema c.args.query.now)) (sql_of c.in_ok-schema.schema c.args.query.now c.fetch_tables.new.texts) c.plan_query.result
+    (λ plan due. sql_steps c.in_ok-schema.schema c.fetch_tables.new.texts c.args.query.now plan due) c.plan_query.ensures)

@@ -1,8 +1,8 @@
-use Rattle.std.proofs.Common.{length, take, drop, ◌-◌, rules}
+use Rattle.std.proofs.Common.{length, take, drop, ◌-◌}
 use Rattle.std.proofs.lemmas.Result.{err_from_is_err_and}
 use Rattle.qbs_base.specs.Outside.{Rose}
 use Rattle.qbs.specs.Plan.{given}
-use Rattle.qbs.proofs.Loading.{rose_later, first_of, fetch_stopped, reads_on}
+use Rattle.qbs.proofs.Fetched.{rose_later, first_of, fetch_stopped, reads_on}
 use Rattle.qbs.proofs.tables.+fetch_tables.Goals as goal
 
 pub returns-in_err-text-in-len1-up-clause-read : goal.returns-in_err-text-in-len1-up-clause-read

@@ -1,0 +1,192 @@
+-- What the top call promises follows from a plan that is due and was delivered.
+use Rattle.std.proofs.Common.{◌≡◌, ◌≢◌, ℕ, ◌⊎◌, inl, inr, List, [], ◌∷◌, subst, sym, refl, ◌∙◌, codes, Option, Some, None}
+use Rattle.std.specs.Io.KnownBytes.{Appends}
+use Rattle.std.specs.List.{flat_map}
+use Rattle.qbs_base.specs.declared.status.Status.{Status}
+use Rattle.qbs_base.specs.declared.status.Status.TheVariants as statuses
+use Rattle.qbs_base.specs.Status.{KeepsOutput}
+use Rattle.qbs_base.specs.declared.columns.Table.{Table}
+use Rattle.qbs_base.specs.Values.{Schema}
+use Rattle.kernel_lang.specs.Plain.{Fragment}
+use Rattle.query_search.specs.Counted.{OneIs}
+use Rattle.rewrite_core.proofs.PrunedTries.{are_pruned, none_pruned}
+use Rattle.rewrite_core.specs.Rewriting.{verdicts_of}
+use Rattle.rewrite_core.specs.Trying.{all_tried}
+use Rattle.words.specs.declared.command.Command.{Command}
+use Rattle.words.specs.declared.command.Command.TheVariants as commands
+use Rattle.words.specs.declared.command.Options.{Options}
+use Rattle.words.specs.Plain.{HasWords}
+use Rattle.words.specs.Reading.{plain}
+use Rattle.words.proofs.Exact.{reads_plain_words}
+use Rattle.qbs.specs.declared.plan.Plan.{Plan}
+use Rattle.qbs.specs.Commands.{without_store, command, HasNoWords, IsDue}
+use Rattle.qbs.specs.Deliver.{Change}
+use Rattle.qbs.specs.Headline.{IsRewritten, IsHeadline, HasHeadline, DropsNone}
+use Rattle.qbs.specs.Lines.{verdict_line, report_text}
+use Rattle.qbs.specs.Opening.{HasNoProgram}
+use Rattle.qbs.specs.Plan.{Given, May}
+use Rattle.qbs.specs.Rewrite.{size_of, budget_of, rewrite_of, rewrite}
+use Rattle.qbs.specs.Steps.{IsRead, IsNotRead}
+use Rattle.qbs.specs.Tables.{AreNotRead}
+use Rattle.qbs.specs.Top.{IsDone, CutShort}
+use Rattle.qbs.proofs.Fair.{IsFair, command_fair}
+
+-- ---- all plans that are due
+
+-- a plan that is due leaves the output alone where its status says so, and says of no write that it failed
+record IsFine (files : Given) (words : List (List ℕ)) (plan : Plan) : Type 0 where
+  out : KeepsOutput plan.status → plan.out ≡ []
+  write : plan.status ≢ statuses.WriteFault
+  only : plan.status ≡ statuses.Words → HasNoWords words
+  all : HasNoWords words → (plan.status ≡ statuses.Words) ⊎ (plan.status ≡ statuses.NoMemory)
+  read : plan.status ≡ statuses.ReadFault → files.rose
+
+due_fine : (files : Given) (may : May) (words : List (List ℕ)) (plan : Plan) → IsDue files may words plan → IsFine files words plan
+due_fine files may words plan (inl memory) =
+    subst (IsFine files words) (sym memory) (record { out = λ k. refl; write = λ e. cc; only = λ e. absurd cc; all = λ none. inr refl; read = λ e. absurd cc })
+due_fine files may words plan (inr (inl bad)) =
+    subst (IsFine files words) (sym bad.1) (record { out = λ k. refl; write = λ e. cc; only = λ e. bad.0; all = λ none. inl refl; read = λ e. absurd cc })
+due_fine files may words plan (inr (inr (c, has, h))) =
+    let fair : IsFair files plan = command_fair files may c plan h in
+    record { out = fair.out; write = fair.write; only = λ e. absurd (fair.words e); all = λ none. absurd (none c has); read = fair.read }
+
+pub record Promised (files : Given) (may : May) (words : List (List ℕ)) (out rep : Change) (result : Status) : Type 0 where
+  pub only : result ≡ statuses.Words → HasNoWords words
+  pub all : HasNoWords words → (result ≡ statuses.Words) ⊎ (result ≡ statuses.NoMemory) ⊎ (result ≡ statuses.WriteFault)
+  pub unchanged : KeepsOutput result → Appends out.old out.new []
+  pub cut_short : result ≡ statuses.WriteFault → CutShort files may words out rep
+  pub read : result ≡ statuses.ReadFault → files.rose
+
+whole : (files : Given) (may : May) (words : List (List ℕ)) (out rep : Change) (plan : Plan) → IsFine files words plan → Appends out.old out.new plan.out → Promised files may words out rep plan.status
+whole files may words out rep plan fine wrote =
+    record {
+      only = fine.only;
+      all = λ none. elim (fine.all none) [ inl h ↦ inl h | inr h ↦ inr (inl h) ];
+      unchanged = λ k. subst (λ text. Appends out.old out.new text) (fine.out k) wrote;
+      cut_short = λ e. absurd (fine.write e);
+      read = fine.read;
+    }
+
+cut : (files : Given) (may : May) (words : List (List ℕ)) (out rep : Change) → CutShort files may words out rep → Promised files may words out rep statuses.WriteFault
+cut files may words out rep short =
+    record { only = λ e. absurd cc; all = λ none. inr (inr refl); unchanged = λ k. absurd k; cut_short = λ e. short; read = λ e. absurd cc }
+
+pub promised : (files : Given) (may : May) (words : List (List ℕ)) (out rep : Change) (result : Status) → IsDone files may words out rep result → Promised files may words out rep result
+promised files may words out rep result done =
+    let P : Status → Type 0 = Promised files may words out rep in
+    elim done.delivered [
+      | inl all ↦ subst P (sym all.0) (whole files may words out rep done.plan (due_fine files may words done.plan done.due) all.1)
+      | inr rest ↦ elim rest [
+        | inl short ↦ subst P (sym short.0) (cut files may words out rep (record { plan = done.plan; due = done.due; cut = inl (short.1, short.2, short.3) }))
+        | inr short ↦ subst P (sym short.0) (cut files may words out rep (record { plan = done.plan; due = done.due; cut = inr (short.1, short.2, short.3) }))
+      ]
+    ]
+
+-- ---- the headline
+
+-- the bytes that `rewrite` read, and what it wrote
+record Rewrote (files : Given) (may : May) (o : Options) (schema source : List ℕ) (plan : Plan) : Type 0 where
+  tables : List ℕ
+  class : List ℕ
+  read_tables : IsRead files schema 262144 tables
+  read_class : IsRead files source 1048576 class
+  is : IsRewritten may (size_of o) (budget_of o) tables class plan.out plan.rep
+
+pub unread : (files : Given) (name : List ℕ) (limit : ℕ) (label : List ℕ) (plan : Plan) → IsNotRead files name limit label plan → plan.status ≡ statuses.Ok → ⊥
+unread files name limit label plan (inl h) ok = let e : statuses.ReadFault ≡ statuses.Ok = subst (λ (p : Plan). p.status ≡ statuses.Ok) h.1 ok in cc
+unread files name limit label plan (inr h) ok = let e : statuses.Limit ≡ statuses.Ok = subst (λ (p : Plan). p.status ≡ statuses.Ok) h.1 ok in cc
+
+pub unread_texts : (files : Given) (folder : List ℕ) (tables : List Table) (left : ℕ) (plan : Plan) → AreNotRead files folder tables left plan → plan.status ≡ statuses.Ok → ⊥
+unread_texts files folder [] left plan h ok = h
+unread_texts files folder (table ∷ tables) left plan (inl h) ok = unread files _ left (codes "tables") plan h ok
+unread_texts files folder (table ∷ tables) left plan (inr h) ok = unread_texts files folder tables _ plan h.2 ok
+
+pub no_program : (tables : Schema) (bytes : List ℕ) (plan : Plan) → HasNoProgram tables bytes plan → plan.status ≡ statuses.Ok → ⊥
+no_program tables bytes plan (inl h) ok = let e : statuses.Source ≡ statuses.Ok = subst (λ (p : Plan). p.status ≡ statuses.Ok) h.2 ok in cc
+no_program tables bytes plan (inr (inl h)) ok = let e : statuses.Source ≡ statuses.Ok = subst (λ (p : Plan). p.status ≡ statuses.Ok) h.2 ok in cc
+no_program tables bytes plan (inr (inr h)) ok = let e : statuses.Types ≡ statuses.Ok = subst (λ (p : Plan). p.status ≡ statuses.Ok) h.2 ok in cc
+
+rewritten_of : (may : May) (o : Options) (s t : List ℕ) (plan : Plan) → rewrite_of may o s t plan → plan.status ≡ statuses.Ok → IsRewritten may (size_of o) (budget_of o) s t plan.out plan.rep
+rewritten_of may o s t plan (inl h) ok = let e : statuses.Schema ≡ statuses.Ok = subst (λ (p : Plan). p.status ≡ statuses.Ok) h.2 ok in absurd cc
+rewritten_of may o s t plan (inr (tables, is, inl h)) ok = absurd (no_program tables t plan h ok)
+rewritten_of may o s t plan (inr (tables, is, inr (p, read, h))) ok =
+    subst (λ (x : Plan). IsRewritten may (size_of o) (budget_of o) s t x.out x.rep) (sym h.written)
+    (record {
+      tables = tables;
+      tokens = read.tokens;
+      program = p;
+      is_schema = is;
+      has_tokens = read.has_tokens;
+      has_program = read.has_program;
+      typed = read.typed;
+      text = h.text;
+      exact = refl;
+      well = h.rewriting.well;
+      keeps = h.rewriting.keeps;
+      pruned = h.pruned;
+      counted = h.counted;
+      report = refl;
+      standing = h.rewriting.standing;
+    })
+
+rewrote : (files : Given) (may : May) (o : Options) (schema source : List ℕ) (plan : Plan) → rewrite files may o schema source plan → plan.status ≡ statuses.Ok → Rewrote files may o schema source plan
+rewrote files may o schema source plan (inl h) ok = absurd (unread files schema 262144 (codes "schema") plan h ok)
+rewrote files may o schema source plan (inr (s, read, inl h)) ok = absurd (unread files source 1048576 (codes "source") plan h ok)
+rewrote files may o schema source plan (inr (s, read, inr (t, has, h))) ok =
+    record { tables = s; class = t; read_tables = read; read_class = has; is = rewritten_of may o s t plan h ok }
+
+stored : (files : Given) (may : May) (o : Options) (schema source : List ℕ) (plan : Plan) (store : Option (List ℕ)) → without_store store (rewrite files may o schema source) plan → plan.status ≡ statuses.Ok →
+    Rewrote files may o schema source plan
+stored files may o schema source plan None h ok = rewrote files may o schema source plan h ok
+stored files may o schema source plan (Some name) h ok = let e : statuses.NotYet ≡ statuses.Ok = subst (λ (p : Plan). p.status ≡ statuses.Ok) h ok in absurd cc
+
+command_is : (o : Option Command) (b c : Command) → o ≡ Some b → o ≡ Some c → b ≡ c
+command_is o b c x y = cc
+
+due_rewrote : (files : Given) (may : May) (words : List (List ℕ)) (o : Options) (schema source : List ℕ) (plan : Plan) → HasWords words (commands.Rewrite o schema source) → IsDue files may words plan → plan.status ≡ statuses.Ok →
+    Rewrote files may o schema source plan
+due_rewrote files may words o schema source plan has (inl memory) ok = let e : statuses.NoMemory ≡ statuses.Ok = subst (λ (p : Plan). p.status ≡ statuses.Ok) memory ok in absurd cc
+due_rewrote files may words o schema source plan has (inr (inl bad)) ok = absurd (bad.0 (commands.Rewrite o schema source) has)
+due_rewrote files may words o schema source plan has (inr (inr (c, is, h))) ok =
+    let same : c ≡ commands.Rewrite o schema source = command_is (plain words) c (commands.Rewrite o schema source) ((reads_plain_words words c).1 is) ((reads_plain_words words (commands.Rewrite o schema source)).1 has) in
+    stored files may o schema source plan o.store (subst (λ (d : Command). command files may d plan) same h) ok
+
+pub headline : (files : Given) (may : May) (words : List (List ℕ)) (out rep : Change) (result : Status) → IsDone files may words out rep result → HasHeadline files may words out rep result
+headline files may words out rep result done o schema source has ok =
+    elim done.delivered [
+      | inl all ↦ (
+          let h : Rewrote files may o schema source done.plan = due_rewrote files may words o schema source done.plan has done.due (sym all.0 ∙ ok) in
+          record {
+            tables = h.tables;
+            class = h.class;
+            text = done.plan.out;
+            lines = done.plan.rep;
+            read_tables = h.read_tables;
+            read_class = h.read_class;
+            is = h.is;
+            wrote_text = all.1;
+            wrote_lines = all.2;
+          })
+      | inr rest ↦ elim rest [
+        | inl short ↦ (let e : statuses.WriteFault ≡ statuses.Ok = sym short.0 ∙ ok in absurd cc)
+        | inr short ↦ (let e : statuses.WriteFault ≡ statuses.Ok = sym short.0 ∙ ok in absurd cc)
+      ]
+    ]
+
+-- ---- without pruners
+
+-- where nothing may be dropped, the report says last that nothing was
+pub drops_none : (files : Given) (may : May) (words : List (List ℕ)) (out rep : Change) (result : Status) → IsDone files may words out rep result → ((f : Fragment) (c : List ℕ) → may.drops f c → ⊥) → DropsNone words rep result
+drops_none files may words out rep result done never o schema source has ok =
+    let h : IsHeadline files may o schema source out rep = headline files may words out rep result done o schema source has ok in
+    let ts = all_tried h.is.tables (size_of o) (budget_of o) h.is.program in
+    let none : h.is.pruned ≡ 0 =
+    none_pruned {P = Unit {0}} (λ p f c. ⊥) may.keeps [] refl (size_of o) ts h.is.pruned
+    (are_pruned may.drops may.keeps (λ f c. OneIs {P = Unit {0}} (λ p. ⊥) []) may.keeps never (λ f c k. k) (size_of o) ts h.is.pruned h.is.counted) in (
+      flat_map verdict_line (verdicts_of ts),
+      subst (λ (n : ℕ). Appends rep.old rep.new (report_text ts n)) none (subst (λ (lines : List ℕ). Appends rep.old rep.new lines) h.is.report h.wrote_lines),
+    )
+
+pub no_one : {P : Type 0} (S : P → Type 0) (ps : List P) → ps ≡ [] → OneIs S ps → ⊥
+no_one S [] e h = h
+no_one S (p ∷ ps) e h = cc

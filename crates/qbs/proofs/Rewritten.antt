@@ -1,0 +1,59 @@
+-- What is due for the bytes of a schema and a source.
+use Rattle.std.proofs.Common.{◌≡◌, ℕ, Bool, true, false, List, Result, Ok, Err, refl, sym, subst, inl, inr}
+use Rattle.rewrite_core.specs.Trying.{rewritten}
+use Rattle.qbs_base.specs.Values.{Schema}
+use Rattle.java_ast.specs.Tree.{PlainProgram}
+use Rattle.words.specs.declared.command.Options.{Options}
+use Rattle.qbs.specs.declared.plan.Plan.{Plan}
+use Rattle.qbs.specs.declared.fetch.Stop.{Stop}
+use Rattle.qbs.specs.Code.{Goes, OrMemory, run_called}
+use Rattle.qbs.specs.Opening.{IsSchemaOf, BreaksSchema, schema_refusal, IsProgramOf, HasNoProgram}
+use Rattle.qbs.specs.Plan.{May}
+use Rattle.qbs.specs.Rewrite.{size_of, budget_of, IsRewriting, Rewrites, rewrite_of}
+use Rattle.qbs.specs.Run.{IsChosen, chooses, call_of, run_of, turns_of}
+use Rattle.qbs.specs.Calls.{Call}
+use Rattle.qbs.specs.Steps.{refused}
+use Rattle.qbs.proofs.Going.{goes_on, due_as}
+use Rattle.qbs.proofs.Twins.{run_steps}
+
+pub schema_lacking : (may : May) (o : Options) (s t : List ℕ) (stop : Stop) → Goes {A = Schema} (Err stop) (IsSchemaOf s) (refused (BreaksSchema s) schema_refusal) → OrMemory (Err stop) (rewrite_of may o s t)
+schema_lacking may o s t (Stop.Due plan) h = inl h
+schema_lacking may o s t Stop.Memory h = tt
+
+pub program_lacking : {A : Type 0} (Is : A → Type 0) (may : May) (o : Options) (s t : List ℕ) (tables : Schema) (stop : Stop) → IsSchemaOf s tables → Goes {A = A} (Err stop) Is (HasNoProgram tables t) → OrMemory (Err stop) (rewrite_of may o s t)
+program_lacking Is may o s t tables (Stop.Due plan) is h = inr (tables, is, inl h)
+program_lacking Is may o s t tables Stop.Memory is h = tt
+
+pub all_found : (may : May) (o : Options) (s t : List ℕ) (tables : Schema) (p : PlainProgram) (result : Result Plan Stop) → IsSchemaOf s tables → IsProgramOf tables t p →
+    OrMemory result (Rewrites may tables (size_of o) (budget_of o) p) → OrMemory result (rewrite_of may o s t)
+all_found may o s t tables p (Ok plan) is has h = inr (tables, is, inr (p, has, h))
+all_found may o s t tables p (Err (Stop.Due plan)) is has h = inr (tables, is, inr (p, has, h))
+all_found may o s t tables p (Err Stop.Memory) is has h = tt
+
+-- ---- `run`
+
+pub run_lacking : {A : Type 0} (Is : A → Type 0) (o : Options) (tables : Schema) (call : Call) (source : List ℕ) (texts : List (List ℕ)) (stop : Stop) → Goes {A = A} (Err stop) Is (HasNoProgram tables source) → OrMemory (Err stop) (run_of o tables call source texts)
+run_lacking Is o tables call source texts (Stop.Due plan) h = inl h
+run_lacking Is o tables call source texts Stop.Memory h = tt
+
+pub run_found : (o : Options) (tables : Schema) (call : Call) (source : List ℕ) (texts : List (List ℕ)) (p : PlainProgram) (result : Result Plan Stop) → IsProgramOf tables source p →
+    OrMemory result (chooses o tables p (call_of tables texts call (turns_of o))) → OrMemory result (run_of o tables call source texts)
+run_found o tables call source texts p result is h =
+    goes_on (IsProgramOf tables source) (HasNoProgram tables source) (λ q. chooses o tables q (call_of tables texts call (turns_of o))) p result is h
+
+pub run_plain : (o : Options) (tables : Schema) (call : Call) (texts : List (List ℕ)) (turns : ℕ) (p : PlainProgram) (result : Result Plan Stop) → o.rewritten ≡ false → turns ≡ turns_of o →
+    OrMemory result (run_called tables texts call turns p) → OrMemory result (chooses o tables p (call_of tables texts call (turns_of o)))
+run_plain o tables call texts turns p result plainly same h =
+    goes_on (IsChosen o.rewritten tables (size_of o) (budget_of o) p) (λ plan. ⊥) (call_of tables texts call (turns_of o)) p result
+    (subst (λ (b : Bool). IsChosen b tables (size_of o) (budget_of o) p p) (sym plainly) refl)
+    (subst (λ (n : ℕ). OrMemory result (call_of tables texts call n p)) same
+    (due_as (run_called tables texts call turns p) (call_of tables texts call turns p) result (λ plan due. run_steps tables texts call turns p plan due) h))
+
+pub run_other : (o : Options) (tables : Schema) (call : Call) (texts : List (List ℕ)) (turns : ℕ) (p q : PlainProgram) (result : Result Plan Stop) → o.rewritten ≡ true → turns ≡ turns_of o →
+    q ≡ rewritten tables (size_of o) (budget_of o) p → IsRewriting tables (size_of o) (budget_of o) p →
+    OrMemory result (run_called tables texts call turns q) → OrMemory result (chooses o tables p (call_of tables texts call (turns_of o)))
+run_other o tables call texts turns p q result other same is rewriting h =
+    goes_on (IsChosen o.rewritten tables (size_of o) (budget_of o) p) (λ plan. ⊥) (call_of tables texts call (turns_of o)) q result
+    (subst (λ (b : Bool). IsChosen b tables (size_of o) (budget_of o) p q) (sym other) (is, rewriting))
+    (subst (λ (n : ℕ). OrMemory result (call_of tables texts call n q)) same
+    (due_as (run_called tables texts call turns q) (call_of tables texts call turns q) result (λ plan due. run_steps tables texts call turns q plan due) h))

@@ -1,0 +1,86 @@
+-- What only the code's contracts speak of: what comes of a step, and a command's last steps as a function.
+use Rattle.std.specs.Prelude.{◌≡◌, ℕ, ◌++◌, List, [], ◌∷◌, Bool, true, false, Result, Ok, Err, ⊤}
+use Rattle.std.specs.declared.option.Option.{Option}
+use Rattle.std.specs.declared.option.Option.TheVariants.{Some, None}
+use Rattle.qbs_base.specs.declared.scalar.Scalar.{Scalar}
+use Rattle.qbs_base.specs.declared.scalar.Ty.{Ty}
+use Rattle.qbs_base.specs.declared.status.Status.{Status}
+use Rattle.qbs_base.specs.Values.{Schema, Database}
+use Rattle.java_ast.specs.Tree.{PlainMethod, PlainProgram}
+use Rattle.java_mean.specs.declared.rule.TypeRule.{TypeRule}
+use Rattle.java_mean.specs.declared.rule.TypeRule.TheVariants as types
+use Rattle.java_mean.specs.Outcome.{outcome, world_with}
+use Rattle.java_mean.specs.Rules.{has_order}
+use Rattle.java_types.specs.Texts.{read_by}
+use Rattle.sql_ast.specs.Meaning.{query_answer}
+use Rattle.sql_ast.specs.Tree.{PlainQuery}
+use Rattle.sql_ast.specs.Valid.{params_in}
+use Rattle.qbs.specs.declared.plan.Plan.{Plan}
+use Rattle.qbs.specs.declared.fetch.Stop.{Stop}
+use Rattle.qbs.specs.declared.run.Asked.{Asked}
+use Rattle.qbs.specs.Calls.{Call, arguments, method_named, word_refusal}
+use Rattle.qbs.specs.Plan.{refusal}
+use Rattle.qbs.specs.Run.{comes_to}
+use Rattle.qbs.specs.Sql.{answer_plan}
+use Rattle.qbs.specs.Steps.{Ends}
+use Rattle.qbs.specs.Tables.{TableFault, loaded, data_refusal}
+
+-- ---- A step
+
+-- what is so is there, or the plan that stops the command, where memory did not run out
+abbrev pub Goes : {A : Type 0} → Result A Stop → (A → Type 0) → Ends → Type 0
+Goes (Ok a) Is Stops = Is a
+Goes (Err (Stop.Due plan)) Is Stops = Stops plan
+Goes (Err Stop.Memory) Is Stops = ⊤
+
+-- the plan of either outcome, where memory did not run out
+abbrev pub OrMemory : Result Plan Stop → Ends → Type 0
+OrMemory result P = Goes result P P
+
+-- a stop that isn't for want of memory is this plan
+abbrev pub StopsWith : Plan → Stop → Type 0
+StopsWith due (Stop.Due plan) = plan ≡ due
+StopsWith due Stop.Memory = ⊤
+
+-- or this refusal
+abbrev pub StopsFor : Status → List ℕ → List ℕ → Stop → Type 0
+StopsFor status text name stop = StopsWith (refusal status (text ++ name)) stop
+
+-- what the words of a run ask for, as the code holds it
+abbrev pub call_in : Asked → Call
+call_in c = record { method = c.method.now; words = c.words.now }
+
+-- ---- The last steps of `run`, from left to right
+
+abbrev pub run_over : Schema → PlainMethod → List Scalar → ℕ → Result Database TableFault → Ends
+run_over tables m args turns (Err fault) plan = plan ≡ data_refusal fault
+run_over tables m args turns (Ok db) plan = comes_to tables (outcome (world_with tables (read_by tables) db) m args turns) plan
+
+abbrev pub run_on : Schema → List (List ℕ) → PlainMethod → ℕ → Result (List Scalar) TypeRule → Ends
+run_on tables texts m turns (Err rule) plan = plan ≡ word_refusal rule
+run_on tables texts m turns (Ok args) plan = run_over tables m args turns (loaded tables texts) plan
+
+abbrev pub run_named : Schema → List (List ℕ) → List (List ℕ) → ℕ → Option PlainMethod → Ends
+run_named tables texts words turns None plan = plan ≡ word_refusal types.Unknown
+run_named tables texts words turns (Some m) plan = run_on tables texts m turns (arguments m.params words) plan
+
+abbrev pub run_called : Schema → List (List ℕ) → Call → ℕ → PlainProgram → Ends
+run_called tables texts call turns p = run_named tables texts call.words turns (method_named call.method p.methods)
+
+-- ---- The last steps of `sql`
+
+abbrev pub answer_over : Schema → PlainQuery → Result Database TableFault → Plan
+answer_over tables q (Err fault) = data_refusal fault
+answer_over tables q (Ok db) = answer_plan tables (query_answer db [] q)
+
+abbrev pub answer_with : Schema → List (List ℕ) → PlainQuery → List Ty → Plan
+answer_with tables texts q (ty ∷ tys) = word_refusal types.Arity
+answer_with tables texts q [] = answer_over tables q (loaded tables texts)
+
+abbrev pub answer_ordered : Schema → List (List ℕ) → PlainQuery → Bool → Plan
+answer_ordered tables texts q false = word_refusal types.UnorderedQuery
+answer_ordered tables texts q true = answer_with tables texts q (params_in q)
+
+abbrev pub answer_of : Schema → List (List ℕ) → Option PlainQuery → Plan
+answer_of tables texts None = word_refusal types.BadQuery
+answer_of tables texts (Some q) = answer_ordered tables texts q (has_order (Some q))

@@ -1,0 +1,64 @@
+-- The command `rewrite`: the loops of a program are tried, and the program that is left is written.
+use Rattle.std.specs.Prelude.{◌≡◌, ℕ, List, codes}
+use Rattle.std.specs.declared.option.Option.{Option}
+use Rattle.std.specs.declared.option.Option.TheVariants.{Some, None}
+use Rattle.qbs_base.specs.declared.status.Status.{Status}
+use Rattle.qbs_base.specs.Values.{Schema}
+use Rattle.java_ast.specs.Tree.{PlainProgram}
+use Rattle.java_mean.specs.Keeps.{Keeps}
+use Rattle.java_mean.specs.WellTyped.{IsWellTyped}
+use Rattle.java_grammar.specs.ReadBack.{IsReadBack}
+use Rattle.java_text.specs.Canonical.{canonical}
+use Rattle.java_types.specs.Texts.{read_by}
+use Rattle.rewrite_core.specs.Pruned.{ArePruned}
+use Rattle.rewrite_core.specs.Rewriting.{StandAsTried}
+use Rattle.rewrite_core.specs.Trying.{all_tried, rewritten}
+use Rattle.words.specs.declared.command.Options.{Options}
+use Rattle.qbs.specs.declared.plan.Plan.{Plan}
+use Rattle.qbs.specs.Lines.{report_text}
+use Rattle.qbs.specs.Opening.{has_schema, has_program}
+use Rattle.qbs.specs.Plan.{Given, May}
+use Rattle.qbs.specs.Steps.{Ends, reads}
+
+-- ---- Options
+
+abbrev pub or_default : ℕ → Option ℕ → ℕ
+or_default default None = default
+or_default default (Some n) = n
+
+-- of at most so many formulas, and so many candidates of each loop
+abbrev pub size_of : Options → ℕ
+size_of o = or_default 4 o.size
+
+abbrev pub budget_of : Options → ℕ
+budget_of o = or_default 20000 o.candidates
+
+-- ---- What is written
+
+-- what rewriting a program gives: one that is well typed and does what this does, and its loops are those that were tried and stand
+pub record IsRewriting (tables : Schema) (size budget : ℕ) (p : PlainProgram) : Type 0 where
+  pub well : IsWellTyped tables (read_by tables) (rewritten tables size budget p)
+  pub keeps : Keeps p (rewritten tables size budget p) tables
+  pub standing : StandAsTried (all_tried tables size budget p) (rewritten tables size budget p)
+
+abbrev pub rewriting_plan : Schema → ℕ → ℕ → PlainProgram → ℕ → Plan
+rewriting_plan tables size budget p pruned =
+    record { status = Status.Ok; out = canonical (rewritten tables size budget p); rep = report_text (all_tried tables size budget p) pruned }
+
+-- the canonical text of the program that is left is written, which is read back as it, and what is said of each loop
+pub record Rewrites (may : May) (tables : Schema) (size budget : ℕ) (p : PlainProgram) (plan : Plan) : Type 0 where
+  pub rewriting : IsRewriting tables size budget p
+  pub text : IsReadBack (canonical (rewritten tables size budget p)) (rewritten tables size budget p)
+  pub pruned : ℕ
+  pub counted : ArePruned may.drops may.keeps size (all_tried tables size budget p) pruned
+  pub written : plan ≡ rewriting_plan tables size budget p pruned
+
+-- ---- The command
+
+-- over the bytes of a schema and a source
+abbrev pub rewrite_of : May → Options → List ℕ → List ℕ → Ends
+rewrite_of may o schema source = has_schema schema (λ tables. has_program tables source (λ p. Rewrites may tables (size_of o) (budget_of o) p))
+
+abbrev pub rewrite : Given → May → Options → List ℕ → List ℕ → Ends
+rewrite files may o schema source =
+    reads files schema 262144 (codes "schema") (λ s. reads files source 1048576 (codes "source") (λ t. rewrite_of may o s t))
