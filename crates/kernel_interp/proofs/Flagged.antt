@@ -65,7 +65,7 @@ placed_at : (loops : List ℕ) (rows : ℕ → Row) (k : ℕ) → placed loops (
 placed_at [] rows k = refl
 placed_at (j ∷ js) rows k = ap (λ (r : Row). if nat_eq j k then rows j else r) (placed_at js rows k)
 
-placed_bound : (loops : List ℕ) (rows : ℕ → Row) → placed loops (map rows loops) ≡ bound loops rows (λ j. plain_row None)
+pub placed_bound : (loops : List ℕ) (rows : ℕ → Row) → placed loops (map rows loops) ≡ bound loops rows (λ j. plain_row None)
 placed_bound loops rows = fun_ext (placed_at loops rows)
 
 pub bound_last : (front : List ℕ) (j : ℕ) (rows own : ℕ → Row) → bound (front ++ j ∷ []) rows own ≡ bound front rows (with_row own j (rows j))
@@ -82,7 +82,7 @@ pub right_true : (a b : Bool) → (a && b) ≡ true → b ≡ true
 right_true true b e = e
 right_true false b e = cc
 
-mark_is : (u : Update) → is_mark u ≡ true → u ≡ updates.Mark
+pub mark_is : (u : Update) → is_mark u ≡ true → u ≡ updates.Mark
 mark_is updates.Mark e = refl
 mark_is (updates.Push x) e = cc
 mark_is (updates.PushNew x) e = cc
@@ -97,13 +97,13 @@ false_is (Some (scalars.Bool true)) e = cc
 false_is (Some (scalars.Long n)) e = cc
 false_is (Some (scalars.Text t)) e = cc
 
-mark_start : (a : Accumulator) → a.update ≡ updates.Mark → starts_rightly a ≡ true → a.start ≡ Some (scalars.Bool false)
+pub mark_start : (a : Accumulator) → a.update ≡ updates.Mark → starts_rightly a ≡ true → a.start ≡ Some (scalars.Bool false)
 unfolding starts_rightly
 mark_start a m s =
     let e : start_is_valid a.update a.start ≡ true = left_true (start_is_valid a.update a.start) (takes_a_column a.update) s in
     false_is a.start (subst (λ (u : Update). start_is_valid u a.start ≡ true) m e)
 
-same_list : (a b : List ℕ) → same_numbers a b ≡ true → a ≡ b
+pub same_list : (a b : List ℕ) → same_numbers a b ≡ true → a ≡ b
 same_list [] [] e = refl
 same_list [] (k ∷ b) e = cc
 same_list (j ∷ a) [] e = cc

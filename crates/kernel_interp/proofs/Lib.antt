@@ -9,3 +9,6 @@ pub mod Starting
 pub mod Lists
 pub mod Numbers
 pub mod Marked
+pub mod Visited
+pub mod Tupled
+pub mod Claimed

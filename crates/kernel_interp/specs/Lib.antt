@@ -2,3 +2,5 @@ pub mod Stops
 pub mod Reading
 pub mod Marking
 pub mod Ends
+pub mod Members
+pub mod Claiming

@@ -2,17 +2,24 @@
 #![tactic(auto)]
 
 mod atom;
+mod choice;
+mod claim;
+mod claims;
 mod end;
 mod fragment;
 mod given;
 mod list;
 mod mark;
+mod member;
+mod members;
 mod order;
 mod place;
 mod run;
 mod running;
 mod setting;
 mod truth;
+mod visit;
 
+pub use claim::ends_as_claimed;
 pub use end::FragmentEnd;
 pub use fragment::run_fragment;

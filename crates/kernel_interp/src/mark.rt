@@ -23,7 +23,8 @@ fn truth(setting: Setting, k: u32, place: &Place) -> bool
     }
 }
 
-fn holds(setting: Setting, f: &Formula, place: &Place) -> bool
+/// The truth of a formula that reads no flag.
+pub fn holds(setting: Setting, f: &Formula, place: &Place) -> bool
     ensures { result ≡ spec.holds (world_of setting.entry) (plain_of setting.entry).atoms (rows_in place.now) (form_of f.now) }
 {
     match f {

@@ -27,7 +27,8 @@ pub enum Running {
     Mark(bool),
 }
 
-fn elem_at(alloc: Global, e: Elem, place: &Place) -> Result<Row, NoMemory>
+/// An element at a place.
+pub fn elem_at(alloc: Global, e: Elem, place: &Place) -> Result<Row, NoMemory>
     ensures { IfOk result (λ r. r ≡ spec.elem_at (rows_in place.now) e) }
 {
     match e {

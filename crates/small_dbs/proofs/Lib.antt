@@ -1,0 +1,4 @@
+pub mod Adding
+pub mod Later
+pub mod Fitted
+pub mod Entered

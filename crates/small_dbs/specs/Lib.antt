@@ -1,0 +1,8 @@
+pub mod Lent
+pub mod Held
+pub mod Literals
+pub mod Chosen
+pub mod Adding
+pub mod Small
+pub mod Pruned
+pub mod Worked
