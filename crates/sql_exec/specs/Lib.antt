@@ -3,4 +3,5 @@ pub mod Found
 pub mod Answered
 pub mod Firsts
 pub mod Early
+pub mod Lookups
 pub mod Worked
