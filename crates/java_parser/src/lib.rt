@@ -1,6 +1,7 @@
 //! Programs from tokens.
 #![tactic(auto)]
 
+mod bounds;
 mod fault;
 mod once;
 mod parser;

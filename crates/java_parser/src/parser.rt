@@ -14,6 +14,7 @@ ghost use Rattle.java_grammar.specs.ReadingPrograms.{program_in};
 ghost use Rattle.java_parser.specs.Kept.{fault_at, place_of, kept, IsKept};
 ghost use Rattle.java_parser.specs.Parsed.{parsed};
 
+use crate::bounds::fits_stack;
 use crate::fault::{ParseFault, ParseRule};
 use java_ast::{Expr, JTy, Program};
 use java_grammar::{expression, key, program, spelling, unexpected};
@@ -141,9 +142,21 @@ pub fn parse_expression(alloc: Global, tokens: &Tokens) -> Result<Expr, Fail<Par
     }
 }
 
+/// Whether reading these tokens, and walking the program, fits a small stack.
+fn is_light(alloc: Global, room: u32, tokens: &[Token]) -> bool {
+    if room <= DEEPEST {
+        matches!(fits_stack(alloc, tokens, 320, 64, 65), Ok(true))
+    } else {
+        matches!(fits_stack(alloc, tokens, 352, 512, 8193), Ok(true))
+    }
+}
+
 fn whole_program(alloc: Global, room: u32, tokens: &[Token]) -> Result<Program, ReadError>
     ensures { Gives (λ p. program_of p) result (whole (program_in room) (all_strict tokens.now)) }
 {
+    if !is_light(alloc, room, tokens) {
+        return Err(ReadError::Memory);
+    }
     let (program, rest) = program(alloc, room, tokens)?;
     if !rest.is_empty() {
         return Err(unexpected(rest));
@@ -156,6 +169,9 @@ fn whole_program(alloc: Global, room: u32, tokens: &[Token]) -> Result<Program, 
 ///
 /// The fault that is kept stands at the first token with which no program goes on, or at the end:
 /// `TooDeep` where one would go on if the token's depth were left aside, else `Unexpected`.
+///
+/// The stack is memory too, and wants where the expressions of a statement stand too deep in each other: an open parenthesis counts four, an
+/// operator of a chain one, and a sum of 320 is the most. A stack of 256 KB is enough for all others.
 pub fn parse(alloc: Global, tokens: &Tokens) -> Result<Program, Fail<ParseFault>>
     // What is read has these tokens.
     ensures found { IfOk result (λ p. IsReadable tokens.now.list (program_of p)) }
@@ -179,8 +195,7 @@ const ROOMIEST: u32 = 512;
 /// none where they are no program. It reads canonical texts again, in which one parenthesis more may
 /// be open than in the source, and chains may be longer.
 ///
-/// The stack is memory too, and may want where more than 448 things are open at a token, or a chain
-/// has more than 8192 operators or parts.
+/// The stack is memory too, and wants where expressions stand too deep in each other, as for `parse`: a sum of 352 is the most here.
 pub fn parse_grammar(alloc: Global, tokens: &Tokens) -> Result<Option<Program>, NoMemory>
     // What is read has these tokens.
     ensures found { IfOk result (λ r. IfSome r (λ p. IsProgram tokens.now.list (program_of p))) }
