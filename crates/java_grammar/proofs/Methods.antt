@@ -323,7 +323,7 @@ program_has p us k h =
       same = ap (λ (ms : List PlainMethod). record p { methods = ms }) f.same;
     }
 
-free_tokens : (ts : List Token) → AreTokens (all_free ts) (nodes_of ts)
+pub free_tokens : (ts : List Token) → AreTokens (all_free ts) (nodes_of ts)
 free_tokens [] = tt
 free_tokens (t ∷ ts) = (refl, refl, free_tokens ts)
 

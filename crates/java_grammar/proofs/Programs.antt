@@ -54,15 +54,15 @@ simple_shut margin x m h r = reads_shut (margin ++ x) (codes ";" ++ line_end) m 
 named_read : (ty : Spelled) (w : List ℕ) → WrittenType ty → IsWord w → Reads ((canonical_type ty ++ codes " ") ++ w) (type_tokens ty ++ word w)
 named_read ty w h k = shut_reads (canonical_type ty ++ codes " ") w (type_tokens ty) (word w) (reads_gap (canonical_type ty) (codes " ") (type_tokens ty) (type_reads ty h) refl space_shut) (word_reads w k)
 
-declared_read : (ty : Spelled) (w : List ℕ) (e : Expression) → WrittenType ty → IsWord w → WrittenExpression e → Reads (declared_text ty w e) (declared_tokens ty w e)
+pub declared_read : (ty : Spelled) (w : List ℕ) (e : Expression) → WrittenType ty → IsWord w → WrittenExpression e → Reads (declared_text ty w e) (declared_tokens ty w e)
 declared_read ty w e h k l =
     shut_reads (((canonical_type ty ++ codes " ") ++ w) ++ codes " = ") (canonical_expression 8 e) ((type_tokens ty ++ word w) ++ sign (codes "=")) (expression_tokens 8 e)
     (reads_shut ((canonical_type ty ++ codes " ") ++ w) (codes " = ") (type_tokens ty ++ word w) (sign (codes "=")) (named_read ty w h k) refl equals_shut) (expression_reads e l)
 
-assigned_read : (w : List ℕ) (e : Expression) → IsWord w → WrittenExpression e → Reads ((w ++ codes " = ") ++ canonical_expression 8 e) ((word w ++ sign (codes "=")) ++ expression_tokens 8 e)
+pub assigned_read : (w : List ℕ) (e : Expression) → IsWord w → WrittenExpression e → Reads ((w ++ codes " = ") ++ canonical_expression 8 e) ((word w ++ sign (codes "=")) ++ expression_tokens 8 e)
 assigned_read w e h k = shut_reads (w ++ codes " = ") (canonical_expression 8 e) (word w ++ sign (codes "=")) (expression_tokens 8 e) (method_of w (codes " = ") (sign (codes "=")) h refl equals_shut) (expression_reads e k)
 
-added_shut : (w : List ℕ) (e : Expression) → IsWord w → WrittenExpression e → Shut (((w ++ codes ".add(") ++ canonical_expression 8 e) ++ codes ")") (((word w ++ call (codes "add")) ++ expression_tokens 8 e) ++ sign (codes ")"))
+pub added_shut : (w : List ℕ) (e : Expression) → IsWord w → WrittenExpression e → Shut (((w ++ codes ".add(") ++ canonical_expression 8 e) ++ codes ")") (((word w ++ call (codes "add")) ++ expression_tokens 8 e) ++ sign (codes ")"))
 added_shut w e h k =
     closed_by ((w ++ codes ".add(") ++ canonical_expression 8 e) ((word w ++ call (codes "add")) ++ expression_tokens 8 e)
     (shut_reads (w ++ codes ".add(") (canonical_expression 8 e) (word w ++ call (codes "add")) (expression_tokens 8 e) (method_of w (codes ".add(") (call (codes "add")) h refl (fixed (short 46 ∷ name (codes "add") ∷ short 40 ∷ []) refl)) (expression_reads e k))
@@ -99,16 +99,16 @@ keys_shut further (key ∷ keys) (down ∷ downs) h =
     shut_shut (canonical_key further key ++ reversed_text down (first_or_false downs)) (canonical_keys true keys downs) (key_tokens further key ++ reversed_tokens down (first_or_false downs)) (keys_tokens true keys downs)
     (shut_shut (canonical_key further key) (reversed_text down (first_or_false downs)) (key_tokens further key) (reversed_tokens down (first_or_false downs)) (key_shut further key h.0) (reversed_shut down (first_or_false downs))) (keys_shut true keys downs h.1)
 
-sorted_shut : (w : List ℕ) (keys : List (List ℕ)) (downs : List Bool) → IsWord w → WrittenKeys keys downs → Shut (((w ++ codes ".sort(") ++ canonical_keys false keys downs) ++ codes ")") (((word w ++ call (codes "sort")) ++ keys_tokens false keys downs) ++ sign (codes ")"))
+pub sorted_shut : (w : List ℕ) (keys : List (List ℕ)) (downs : List Bool) → IsWord w → WrittenKeys keys downs → Shut (((w ++ codes ".sort(") ++ canonical_keys false keys downs) ++ codes ")") (((word w ++ call (codes "sort")) ++ keys_tokens false keys downs) ++ sign (codes ")"))
 sorted_shut w keys downs h k =
     shut_shut ((w ++ codes ".sort(") ++ canonical_keys false keys downs) (codes ")") ((word w ++ call (codes "sort")) ++ keys_tokens false keys downs) (sign (codes ")"))
     (shut_shut (w ++ codes ".sort(") (canonical_keys false keys downs) (word w ++ call (codes "sort")) (keys_tokens false keys downs) (method_of w (codes ".sort(") (call (codes "sort")) h refl (fixed (short 46 ∷ name (codes "sort") ∷ short 40 ∷ []) refl)) (keys_shut false keys downs k)) close_shut
 
-returned_read : (value : Option Expression) → WrittenReturn value → Reads (returned_text value) (returned_tokens value)
+pub returned_read : (value : Option Expression) → WrittenReturn value → Reads (returned_text value) (returned_tokens value)
 returned_read None h = word_reads (codes "return") refl
 returned_read (Some e) h = shut_reads (codes "return ") (canonical_expression 8 e) (word (codes "return")) (expression_tokens 8 e) (fixed (name (codes "return") ∷ white 32 ∷ []) refl) (expression_reads e h)
 
-tested_shut : (head : List ℕ) (m : List TokenNode) (e : Expression) → Shut head m → WrittenExpression e → Shut (tested_text head e) (tested_tokens m e)
+pub tested_shut : (head : List ℕ) (m : List TokenNode) (e : Expression) → Shut head m → WrittenExpression e → Shut (tested_text head e) (tested_tokens m e)
 tested_shut head m e h k = closed_by (head ++ canonical_expression 8 e) (m ++ expression_tokens 8 e) (shut_reads head (canonical_expression 8 e) m (expression_tokens 8 e) h (expression_reads e k))
 
 if_shut : Shut (codes "if (") (word (codes "if") ++ sign (codes "("))
@@ -117,7 +117,7 @@ if_shut = fixed (name (codes "if") ∷ white 32 ∷ short 40 ∷ []) refl
 while_shut : Shut (codes "while (") (word (codes "while") ++ sign (codes "("))
 while_shut = fixed (name (codes "while") ∷ white 32 ∷ short 40 ∷ []) refl
 
-print_shut : Shut (codes "System.out.println(") print_head
+pub print_shut : Shut (codes "System.out.println(") print_head
 print_shut = fixed (name (codes "System") ∷ short 46 ∷ name (codes "out") ∷ short 46 ∷ name (codes "println") ∷ short 40 ∷ []) refl
 
 abbrev for_head : List TokenNode
@@ -397,7 +397,7 @@ unfolding tokens_from
 nothing_left q ts = ap (λ (us : List Token). Ok us) (append-nil ts)
 
 -- a text that is read as whole tokens has them
-has_nodes : (text : List ℕ) (nodes : List TokenNode) → Shut text nodes → HasNodes text nodes
+pub has_nodes : (text : List ℕ) (nodes : List TokenNode) → Shut text nodes → HasNodes text nodes
 has_nodes text nodes h =
     let l : Leads first_place text [] nodes = leads first_place text [] nodes (h.by []) in
     let read : tokens_from first_place 0 text ≡ Ok l.tokens = ap (tokens_from first_place 0) (sym (append-nil text)) ∙ l.read ∙ nothing_left (place_after first_place text) l.tokens in

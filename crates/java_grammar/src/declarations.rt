@@ -52,6 +52,7 @@ fn declared_as(
 }
 
 /// A declaration.
+#[inline(never)]
 #[tactic(auto, unfolding(crate::specs::ReadingBodies::declaration_at))]
 pub fn declaration(
     alloc: Global,
@@ -125,6 +126,7 @@ fn word_rest<'a>(
 }
 
 /// A declaration, or a statement, that begins with a name.
+#[inline(never)]
 #[tactic(auto, unfolding(crate::specs::ReadingBodies::named_item_at))]
 pub fn named_item(alloc: Global, room: u32, tokens: &[Token]) -> Result<(Stmt, &[Token]), ReadError>
     ensures { Gives (λ x. (statement_of x.0, all_strict x.1.now)) result (named_item_at room (all_strict tokens.now)) }
@@ -138,6 +140,7 @@ pub fn named_item(alloc: Global, room: u32, tokens: &[Token]) -> Result<(Stmt, &
 
 // ---- heads
 
+#[inline(never)]
 #[tactic(auto, unfolding(crate::specs::ReadingBodies::if_head_at))]
 pub fn if_head(
     alloc: Global,
@@ -151,6 +154,7 @@ pub fn if_head(
     Ok((condition, rest))
 }
 
+#[inline(never)]
 #[tactic(auto, unfolding(crate::specs::ReadingBodies::while_head_at))]
 pub fn while_head(
     alloc: Global,
@@ -195,6 +199,7 @@ fn walk_part(
 }
 
 /// The type and the name of what walks over a list, and the list.
+#[inline(never)]
 #[tactic(auto, unfolding(crate::specs::ReadingBodies::for_head_at))]
 pub fn for_head(
     alloc: Global,

@@ -338,6 +338,7 @@ fn breaking(tokens: &[Token]) -> Result<(Stmt, &[Token]), ReadError>
 }
 
 /// A statement that has no body and is no declaration.
+#[inline(never)]
 #[tactic(auto, unfolding(crate::specs::ReadingStatements::plain_at))]
 pub fn plain(alloc: Global, room: u32, tokens: &[Token]) -> Result<(Stmt, &[Token]), ReadError>
     ensures { Gives (λ x. (statement_of x.0, all_strict x.1.now)) result (plain_at room (all_strict tokens.now)) }

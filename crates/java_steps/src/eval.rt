@@ -48,6 +48,7 @@ fn list<'b, 'a>(store: &'b Store<'a>, number: usize, name: &Name) -> Result<&'b 
 }
 
 // The cell of a row.
+#[inline(never)]
 fn cell_of(source: &Source, row: &Row, name: &Name) -> Result<Scalar, Stop>
     ensures { Gives result (cell_in (world source.now) row.now name.now) }
 {
@@ -58,6 +59,7 @@ fn cell_of(source: &Source, row: &Row, name: &Name) -> Result<Scalar, Stop>
 }
 
 // The member at a place of a list.
+#[inline(never)]
 fn member<'a>(alloc: Global, rows: &[Row], n: i64, at: Span) -> Result<Held<'a>, Stop>
     ensures { GivesBy value_in result (member_at at rows.now n) }
 {
@@ -67,6 +69,7 @@ fn member<'a>(alloc: Global, rows: &[Row], n: i64, at: Span) -> Result<Held<'a>,
     }
 }
 
+#[inline(never)]
 fn fetched<'a>(source: &Source<'a>, table: &Name) -> Result<Held<'a>, Stop>
     ensures { GivesBy value_in result (fetched_in (world source.now) table.now) }
 {
@@ -77,6 +80,7 @@ fn fetched<'a>(source: &Source<'a>, table: &Name) -> Result<Held<'a>, Stop>
 }
 
 // The cell of the row that an expression gives. The row of a variable isn't copied.
+#[inline(never)]
 #[cycle(eval)]
 fn field(row: &Expr, source: &Source, store: &Store, name: &Name) -> Result<Scalar, Stop>
     ensures { Gives result (field_in (expression row.now) (world source.now) store.now name.now) }
@@ -149,6 +153,7 @@ pub fn eval<'a>(e: &Expr, source: &Source<'a>, store: &Store<'a>) -> Result<Held
 }
 
 // The answer of a text's query to the scalars of expressions.
+#[inline(never)]
 #[cycle(eval)]
 fn asked<'a>(
     args: &[Expr],
@@ -164,6 +169,7 @@ fn asked<'a>(
 }
 
 // The scalars of expressions from left to right.
+#[inline(never)]
 #[cycle(eval)]
 #[tactic(auto, using(crate::proofs::Occurring::scalars_step, crate::proofs::Occurring::scalars_stop, crate::proofs::Occurring::scalars_stuck, crate::proofs::Occurring::scalars_begin))]
 fn scalars(es: &[Expr], source: &Source, store: &Store) -> Result<Scalars, Stop>

@@ -38,6 +38,7 @@ fn firsts_of(alloc: Global, rows: &[Row]) -> Result<Vec<Row>, NoMemory>
 }
 
 /// Each row once, in the order in which they occur first.
+#[inline(never)]
 pub fn first_rows<'a>(alloc: Global, list: &List) -> Result<List<'a>, NoMemory>
     ensures { IfOk result (λ l. rows_in l ≡ firsts same_member (rows_in list.now)) }
 {

@@ -55,6 +55,7 @@ pub fn list_again<'a>(list: &List<'a>) -> Result<List<'a>, NoMemory>
 }
 
 /// The same value once more.
+#[inline(never)]
 pub fn held_again<'a>(alloc: Global, held: &Held<'a>) -> Result<Held<'a>, NoMemory>
     ensures { IfOk result (λ h. value_in h ≡ value_in held.now) }
 {

@@ -17,7 +17,8 @@ use crate::stop::Stop;
 use java_mean::{Ending, RunFault};
 use qbs_base::{Scalars, Span, Text};
 use sql_ast::Query;
-use sql_exec::{Answer, answer};
+use sql_exec::Answer;
+use sql_index::answer_indexed;
 use std::alloc::Global;
 
 fn value_of<'a>(alloc: Global, answer: Answer, at: Span) -> Result<Held<'a>, Stop>
@@ -42,7 +43,11 @@ fn answer_of<'a>(
     requires { IsRead source.now.queries text.now (query q.now) }
     ensures { GivesBy value_in result (meant.answered at ((world source.now).ask text.now args.now)) }
 {
-    value_of(source.alloc, answer(source.alloc, q, source.db, args)?, at)
+    value_of(
+        source.alloc,
+        answer_indexed(source.alloc, q, source.db, args)?,
+        at,
+    )
 }
 
 /// The answer of a text's query to these arguments.

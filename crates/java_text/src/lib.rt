@@ -4,4 +4,4 @@
 mod literals;
 mod printing;
 
-pub use printing::print_program;
+pub use printing::{print_program, print_statements};

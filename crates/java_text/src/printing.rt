@@ -643,3 +643,12 @@ pub fn print_program(alloc: Global, program: &Program) -> Result<Text, NoMemory>
     put_program(alloc, &mut out, program)?;
     Ok(Text::from_string(out))
 }
+
+/// The canonical lines of statements behind a margin, each with its line end.
+pub fn print_statements(alloc: Global, margin: &str, block: &[Stmt]) -> Result<Text, NoMemory>
+    ensures { IfOk result (λ text. text ≡ canonical_statements margin.now (statements block.now)) }
+{
+    let mut out = String::new(alloc);
+    put_statements(alloc, &mut out, margin, block)?;
+    Ok(Text::from_string(out))
+}

@@ -33,6 +33,14 @@ impl Typed {
         Typed { program }
     }
 
+    /// The same of a program whose literals are known to have 64 bits, which isn't looked at.
+    pub fn with_numbers(program: Program) -> Typed
+        requires { NumbersFit (reading.program program) }
+        ensures { result.program ≡ program }
+    {
+        Typed { program }
+    }
+
     /// The program that was checked.
     pub fn program(&self) -> &Program
         ensures { result.now ≡ self.now.program }

@@ -117,6 +117,7 @@ fn returned(
 }
 
 /// The rules at a statement.
+#[inline(never)]
 #[tactic(auto, using(crate::proofs::Kept::parts))]
 pub fn at_step(
     s: &Stmt,

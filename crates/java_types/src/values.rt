@@ -328,6 +328,7 @@ fn at_truth(
 }
 
 /// The rules at an expression.
+#[inline(never)]
 #[tactic(auto, using(crate::proofs::Kept::parts, java_ast::proofs::Nodes::nodes))]
 pub fn at_value(
     alloc: Global,

@@ -1,10 +1,10 @@
 //! The paths of the loops of a program.
 ghost use Rattle.std.specs.Prelude.{◌≡◌, ◌++◌, ◌∷◌, [], OnOk, IfOk};
-ghost use Rattle.java_ast.specs.Reading.{statement, statements, program as plain_program};
+ghost use Rattle.java_ast.specs.Reading.{statement, statements, method as plain_method, program as plain_program};
 ghost use Rattle.loop_text.specs.Statements.Loops as specs;
 ghost use Rattle.loop_text.specs.Statements.Loops.{loops_in, loops_among};
 
-use java_ast::{Path, Paths, Program, Stmt, StmtNode};
+use java_ast::{Method, Path, Paths, Program, Stmt, StmtNode};
 use qbs_base::NoMemory;
 use std::alloc::Global;
 
@@ -101,6 +101,16 @@ fn push_statement(
         | StmtNode::Return { .. }
         | StmtNode::Break => Ok(()),
     }
+}
+
+/// The paths of the loops of the method with this number, in text order. The only error is want of memory.
+pub fn loops_of_method(alloc: Global, number: u64, m: &Method) -> Result<Paths, NoMemory>
+    ensures { IfOk result (λ paths. paths ≡ loops_among (number ∷ []) 0 (plain_method m.now).body) }
+{
+    let mut found = Paths::new(alloc);
+    let path = longer(alloc, &[], number)?;
+    push_block(alloc, path.as_slice(), m.body.as_slice(), &mut found)?;
+    Ok(found)
 }
 
 /// The paths of all loops of a program, for-each and `while`, in text order: a loop before those inside
