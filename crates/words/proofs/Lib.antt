@@ -1,3 +1,4 @@
 pub mod Exact
 pub mod Numbers
 pub mod Spelt
+pub mod Marked

@@ -1,3 +1,4 @@
 pub mod Options
 pub mod Plain
 pub mod Reading
+pub mod Marks

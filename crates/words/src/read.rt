@@ -20,7 +20,7 @@ pub enum Spelling<'a> {
     Other,
 }
 
-fn verb_of(word: &str) -> Option<Verb>
+pub fn verb_of(word: &str) -> Option<Verb>
     ensures { result ≡ verb_of word.now }
 {
     match word {
@@ -37,7 +37,7 @@ fn verb_of(word: &str) -> Option<Verb>
     }
 }
 
-fn spelling_of(word: &str) -> Spelling<'_>
+pub fn spelling_of(word: &str) -> Spelling<'_>
     ensures { spelling result ≡ spelled word.now }
 {
     if word == "--rewritten" {
@@ -84,7 +84,7 @@ fn value_of(word: &str) -> Spelling<'_>
     Spelling::Other
 }
 
-fn takes(verb: Verb, key: Key) -> bool
+pub fn takes(verb: Verb, key: Key) -> bool
     ensures { result ≡ takes verb key }
 {
     match verb {
@@ -315,7 +315,7 @@ fn begins_with_dash(word: &[u8]) -> bool
 }
 
 // The other words; None where one begins with `-` and no `--` stands before them.
-fn others_of(words: &[Text]) -> Option<&[Text]>
+pub fn others_of(words: &[Text]) -> Option<&[Text]>
     ensures { MatchOption result (others_of words.now ≡ None) (λ names. others_of words.now ≡ Some names.now) }
 {
     let [first, rest @ ..] = words else {
