@@ -1,0 +1,113 @@
+// The tables: users of any number, and five roles.
+ghost use Rattle.std.specs.Prelude.{◌≡◌, ◌<◌, ◌^◌, [], ◌∷◌, ◌++◌, IfOk, OnOk, codes, string_bytes};
+ghost use Rattle.std.specs.Fmt.{decimal};
+ghost use Rattle.qbs_base.specs.declared.scalar.Scalar.TheVariants as scalars;
+ghost use Rattle.qbs_base.specs.Tables.{NamedRows};
+ghost use Rattle.qbs_base.specs.Values.{IsDatabaseOf};
+ghost use Rattle.sample.specs.Tables as specs;
+
+use qbs_base::{Cells, Db, Fail, Kind, Name, NoMemory, Row, Scalar, Text};
+use schema::{Schema, parse_schema};
+use std::alloc::{AllocError, Global};
+
+static TEXT: &str =
+    "CREATE TABLE User (id BIGINT, name TEXT, roleId BIGINT, age BIGINT, active BOOLEAN);CREATE TABLE Role (id BIGINT, label TEXT);";
+
+/// The schema of the tables. Only want of memory is an error.
+pub fn sample_schema(alloc: Global) -> Result<Schema, NoMemory>
+    ensures { IfOk result (λ schema. schema ≡ specs.sample_schema) }
+{
+    match parse_schema(alloc, TEXT.as_bytes()) {
+        Ok(schema) => Ok(schema),
+        Err(Fail::NoMemory) => Err(NoMemory),
+        Err(Fail::Fault(_)) => unreachable!(),
+    }
+}
+
+// ---- Rows
+
+fn user_name(alloc: Global, number: u64) -> Result<String, AllocError>
+    ensures { IfOk result (λ s. string_bytes s ≡ codes "n" ++ decimal number) }
+{
+    let text = format!(in alloc; "n{number}")?;
+    Ok(text)
+}
+
+fn role_label(alloc: Global, number: u64) -> Result<String, AllocError>
+    ensures { IfOk result (λ s. string_bytes s ≡ codes "r" ++ decimal number) }
+{
+    let text = format!(in alloc; "r{number}")?;
+    Ok(text)
+}
+
+// The user with this number.
+fn user_row(alloc: Global, i: u64) -> Result<Row, NoMemory>
+    requires { i < 2 ^ 63 }
+    ensures { IfOk result (λ row. row ≡ specs.user_row i) }
+{
+    let name = Text::from_string(user_name(alloc, i % 7)?);
+    let cells = vec![in alloc;
+        Scalar::Long(i as i64),
+        Scalar::Text(name),
+        Scalar::Long((i % 5) as i64),
+        Scalar::Long((i % 10) as i64),
+        Scalar::Bool(i % 2 == 0),
+    ]?;
+    Ok(Row {
+        kind: Kind::Table(0),
+        cells: Cells::from_vec(cells),
+    })
+}
+
+// The role with this number.
+fn role_row(alloc: Global, j: u64) -> Result<Row, NoMemory>
+    requires { j < 2 ^ 63 }
+    ensures { IfOk result (λ row. row ≡ specs.role_row j) }
+{
+    let label = Text::from_string(role_label(alloc, j)?);
+    let cells = vec![in alloc; Scalar::Long(j as i64), Scalar::Text(label)]?;
+    Ok(Row {
+        kind: Kind::Table(1),
+        cells: Cells::from_vec(cells),
+    })
+}
+
+// ---- Tables
+
+// Adds the users to the first table.
+fn put_users(alloc: Global, n: u64, db: &mut Db) -> Result<(), NoMemory>
+    requires few { n < 2 ^ 63 }
+    requires one { db.old ≡ (specs.User, []) ∷ [] }
+    ensures { OnOk result (db.new ≡ (specs.User, specs.users n) ∷ []) }
+{
+    for i in 0..n {
+        db.put_row(0, user_row(alloc, i)?)?;
+    }
+    Ok(())
+}
+
+// Adds roles to the second table.
+fn put_roles(alloc: Global, n: u64, db: &mut Db) -> Result<(), NoMemory>
+    requires few { n < 2 ^ 63 }
+    requires two { (users : NamedRows) × (db.old ≡ users ∷ (specs.Role, []) ∷ []) }
+    ensures { (users : NamedRows) → db.old ≡ users ∷ (specs.Role, []) ∷ [] → OnOk result (db.new ≡ users ∷ (specs.Role, specs.roles n) ∷ []) }
+{
+    for j in 0..n {
+        db.put_row(1, role_row(alloc, j)?)?;
+    }
+    Ok(())
+}
+
+/// The tables with so many users, in linear time. Only want of memory is an error.
+pub fn sample_tables(alloc: Global, n: u64) -> Result<Db, NoMemory>
+    requires { n < 2 ^ 63 }
+    ensures exact { IfOk result (λ db. db ≡ specs.sample_rows n) }
+    ensures database { IfOk result (λ db. IsDatabaseOf specs.sample_schema db) }
+{
+    let mut db = Db::new(alloc);
+    db.add_table(Name::from_str(alloc, "User")?)?;
+    put_users(alloc, n, &mut db)?;
+    db.add_table(Name::from_str(alloc, "Role")?)?;
+    put_roles(alloc, 5, &mut db)?;
+    Ok(db)
+}
