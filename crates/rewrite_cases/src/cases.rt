@@ -1,4 +1,5 @@
-// Files of cases: a line of `==== SIZE BUDGET` begins one, the lines up to one of `----` are its schema, and those behind it its source.
+// Files of cases: a line of `==== SIZE BUDGET` begins one, the lines up to one of `----` are its schema, and those behind it its source. A line
+// feed alone ends a line. Where a further line of `----` stands behind the source, the source's last line has no end.
 use crate::limits::{Limits, limits_of};
 use crate::sources::put_source;
 use qbs_base::NoMemory;
@@ -24,6 +25,9 @@ fn begun(alloc: Global, limits: Limits) -> Case {
 
 fn put_line(case: &mut Case, line: &str) -> Result<(), NoMemory> {
     if line == "----" {
+        if case.in_source {
+            let _ = case.source.pop();
+        }
         case.in_source = true;
         return Ok(());
     }
@@ -55,7 +59,7 @@ fn put_answer(out: &mut String, alloc: Global, case: &Case) -> Result<(), NoMemo
 pub fn text_of_answers(alloc: Global, cases: &str) -> Result<String, NoMemory> {
     let mut out = String::new(alloc);
     let mut case = begun(alloc, limits_of(""));
-    for line in cases.lines() {
+    for line in cases.split_terminator('\n') {
         match line.strip_prefix("==== ") {
             Some(limits) => {
                 put_answer(&mut out, alloc, &case)?;

@@ -1,4 +1,4 @@
-//! Reads files of cases, each a schema and a source, and prints for each what is said of its loops and the program in which
+//! Reads files of cases, each a schema and a source, and prints for each what is said of its loops and the source in which
 //! they have given way to queries.
 #![tactic(auto)]
 

@@ -1,4 +1,7 @@
 // Sources under schemas.
+ghost use Rattle.std.specs.Prelude.{◌≡◌, Ok};
+ghost use Rattle.java_lex.specs.Lexing.{lexed};
+
 use crate::limits::Limits;
 use crate::rewriting::put_rewritten;
 use java_lex::{Tokens, lex};
@@ -11,11 +14,14 @@ fn put_tokens(
     out: &mut String,
     alloc: Global,
     schema: &Schema,
+    source: &[u8],
     tokens: &Tokens,
     limits: Limits,
-) -> Result<(), NoMemory> {
+) -> Result<(), NoMemory>
+    requires { lexed source.now ≡ Ok tokens.now }
+{
     match parse(alloc, tokens) {
-        Ok(program) => put_rewritten(out, alloc, schema, &program, limits),
+        Ok(program) => put_rewritten(out, alloc, schema, source, &program, limits),
         Err(Fail::Fault(_)) => Ok(out.push_str("no program\n")?),
         Err(Fail::NoMemory) => Err(NoMemory),
     }
@@ -29,14 +35,14 @@ fn put_lexed(
     limits: Limits,
 ) -> Result<(), NoMemory> {
     match lex(alloc, source) {
-        Ok(tokens) => put_tokens(out, alloc, schema, &tokens, limits),
+        Ok(tokens) => put_tokens(out, alloc, schema, source, &tokens, limits),
         Err(Fail::Fault(_)) => Ok(out.push_str("no tokens\n")?),
         Err(Fail::NoMemory) => Err(NoMemory),
     }
 }
 
-/// Appends what is said of the loops of a source under a schema, and the canonical text of the program in which those have given way
-/// for which a candidate was found; or why it is no program.
+/// Appends what is said of the loops of a source under a schema, and the source in which those have given way for which a candidate was
+/// found; or why it is no program.
 pub fn put_source(
     out: &mut String,
     alloc: Global,

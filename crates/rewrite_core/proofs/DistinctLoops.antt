@@ -1,5 +1,5 @@
 -- No two loops of a program have one path.
-use Rattle.std.proofs.Common.{◌≡◌, ℕ, zero, suc, ◌+◌, ◌≤◌, List, [], ◌∷◌, ◌++◌, slice_get, Some, refl, sym, ap, ◌∙◌, arith, append_assoc, append-nil}
+use Rattle.std.proofs.Common.{◌≡◌, ℕ, zero, suc, ◌≤◌, List, [], ◌∷◌, ◌++◌, slice_get, Some, refl, sym, ap, ◌∙◌, arith, append_assoc, append-nil}
 use Rattle.std.specs.List.{AllByRecursion}
 use Rattle.qbs_base.proofs.Order.{all_more}
 use Rattle.sql_ast.proofs.Tools.{all_joined, all_at}
@@ -66,6 +66,13 @@ mutual
       all_joined (GoesOn pre j) (loops_in (pre ++ j ∷ []) s) (loops_among pre (suc j) ss)
       (all_more (Begins (pre ++ j ∷ [])) (GoesOn pre j) (λ x b. here pre j x b) (loops_in (pre ++ j ∷ []) s) (begin_in s (pre ++ j ∷ [])))
       (all_more (GoesOn pre (suc j)) (GoesOn pre j) (λ x g. later pre j x g) (loops_among pre (suc j) ss) (go_on ss pre (suc j)))
+
+-- the paths of the loops of a method begin with its number
+pub begin_with_method : (n : ℕ) (ss : Statements) (i : ℕ) (x : List ℕ) → slice_get (loops_among (n ∷ []) 0 ss) i ≡ Some x → (rest : List ℕ) × (x ≡ n ∷ rest)
+begin_with_method n ss i x there =
+    let g : GoesOn (n ∷ []) 0 x = all_at (GoesOn (n ∷ []) 0) (loops_among (n ∷ []) 0 ss) i x (go_on ss (n ∷ []) 0) there in
+    let b : Begins (n ∷ []) x = shorter (n ∷ []) (g.number ∷ []) x g.begins in
+    (b.rest, b.is)
 
 go_on_methods : (ms : List PlainMethod) (j : ℕ) → AllByRecursion (GoesOn [] j) (loops_of_methods j ms)
 go_on_methods [] j = tt

@@ -19,7 +19,7 @@ use Rattle.java_mean.specs.Numbers.{NumbersFit}
 use Rattle.java_mean.specs.Types.{Types}
 use Rattle.java_mean.specs.WellTyped.{IsWellTyped}
 use Rattle.loop_text.specs.Statements.Fragment.{Fragment, fragment_at}
-use Rattle.loop_text.specs.Statements.KeptStatements.{AreKept, with_numbers}
+use Rattle.loop_text.specs.Statements.KeptStatements.{AreKept, first_at, with_numbers}
 use Rattle.loop_text.specs.Statements.Names.{Names}
 use Rattle.java_loops.specs.Kernel.Kernel.{broken, lowering, types_at, setting_there, setting_at}
 use Rattle.java_loops.specs.Kernel.Setting.{Setting, setting_of}
@@ -38,6 +38,7 @@ use Rattle.fragments.specs.Lowers.{lowering_in_code}
 use Rattle.rewrite_core.specs.Asked.{Place, asks_of, number_of, replaced}
 use Rattle.rewrite_core.specs.Asking.{HasAsks, MayBeAsked}
 use Rattle.rewrite_core.specs.Looped.{Looped, asked_from, AreValidFrom}
+use Rattle.rewrite_core.specs.Patches.{instead}
 use Rattle.rewrite_core.proofs.HasAsks.{may_with}
 use Rattle.rewrite_core.proofs.Giving.{looped_at, all_asked, all_are_valid}
 
@@ -121,14 +122,22 @@ module _ (schema : Schema) (read : List ℕ → Option PlainQuery) (p : PlainPro
         let stands : LoopStands p path w.fragment l.first = setting_stands schema read p path w l.first there k.begins in
         looped_is run at (run_is w.fragment found.fragment_is) (at_is w.fragment.loop stands.there)
 
-    -- The program with the statements that code makes in place of the run and the loop is the one that is defined.
+    first_is : number_of (first_at path p) ≡ l.first
+    first_is = ap number_of k.begins
+
+    -- The statements that code makes in place of the run and the loop are those that are defined.
+    pub instead_is : (run : Statements) (at : Span) → ((f : Fragment) → fragment_at path p ≡ Some f → run ≡ f.run) → ((s : Statement) → statement_at path p ≡ Some s → at ≡ place_of s) → (new : Statements) → new ≡ and_then (with_numbers l.kept l.first w.fragment.run) (asked_from (made schema run at (lowering_in_code l) (map query l.known)) 0 l.names) → new ≡ instead place
+    instead_is run at run_is at_is new news =
+        news
+        ∙ ap₂ (λ (ns : List ℕ) (ss : Statements). and_then (with_numbers ns l.first w.fragment.run) ss) kept_are (asks_are (made schema run at (lowering_in_code l) (map query l.known)) (found_looped run at run_is at_is))
+        ∙ ap (λ (n : ℕ). and_then (with_numbers (kept_numbers w.fragment (names_read (lowering w).entries) n w.fragment.run) n w.fragment.run) (asked (asks_of place))) (sym first_is)
+
+    -- The program with them is the one that is defined.
     pub replaced_is : (run : Statements) (at : Span) → ((f : Fragment) → fragment_at path p ≡ Some f → run ≡ f.run) → ((s : Statement) → statement_at path p ≡ Some s → at ≡ place_of s) → (q : PlainProgram) (new : Statements) → new ≡ and_then (with_numbers l.kept l.first w.fragment.run) (asked_from (made schema run at (lowering_in_code l) (map query l.known)) 0 l.names) → q ≡ replaced_at path l.first new p → q ≡ replaced place
     replaced_is run at run_is at_is q new news e =
         e
-        ∙ ap (λ (ss : Statements). replaced_at path l.first ss p)
-        (news
-        ∙ ap₂ (λ (ns : List ℕ) (ss : Statements). and_then (with_numbers ns l.first w.fragment.run) ss) kept_are (asks_are (made schema run at (lowering_in_code l) (map query l.known)) (found_looped run at run_is at_is)))
-        ∙ ap (λ (n : ℕ). replaced_at path n (and_then (with_numbers (kept_numbers w.fragment (names_read (lowering w).entries) n w.fragment.run) n w.fragment.run) (asked (asks_of place))) p) (sym (ap number_of k.begins))
+        ∙ ap (λ (ss : Statements). replaced_at path l.first ss p) (instead_is run at run_is at_is new news)
+        ∙ ap (λ (n : ℕ). replaced_at path n (instead place) p) (sym first_is)
 
     -- the loop has asks
     pub has_there : (run : Statements) (at : Span) → ((f : Fragment) → fragment_at path p ≡ Some f → run ≡ f.run) → ((s : Statement) → statement_at path p ≡ Some s → at ≡ place_of s) → AreKnownTo schema (fragment_of l.frag) (map query l.known) l.known_args → AreValidFrom (made schema run at (lowering_in_code l) (map query l.known)) 0 l.names → HasAsks schema read p path w candidate

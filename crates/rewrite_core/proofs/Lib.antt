@@ -1,3 +1,4 @@
+pub mod AcceptedBundles
 pub mod AllAnswer
 pub mod AllTries
 pub mod Answering
@@ -25,16 +26,25 @@ pub mod HasAsks
 pub mod Keeping
 pub mod KeptFaultless
 pub mod Known
+pub mod Listing
 pub mod LoopOutcomes
+pub mod LoopPlaces
 pub mod LoopSites
 pub mod LoopThere
+pub mod LoopsApart
 pub mod LoopsAround
 pub mod May
 pub mod NoReturns
 pub mod NumbersStay
 pub mod Outer
+pub mod PatchedTexts
+pub mod PatchesMade
+pub mod PlacesInOrder
 pub mod PrunedTries
 pub mod Pushed
+pub mod ShownLoops
+pub mod SomeAsked
+pub mod SourceFits
 pub mod SpelledElements
 pub mod Standing
 pub mod Standings
@@ -47,3 +57,4 @@ pub mod TypedArguments
 pub mod TypedAsks
 pub mod Untried
 pub mod Writable
+pub mod WritableBundles

@@ -19,7 +19,7 @@ use Rattle.vc_gen.specs.Soundness.{EndsAnywhere}
 use Rattle.java_ast.specs.Path.{last_of, replaced_at, found_in}
 use Rattle.java_ast.specs.Reading.{statements}
 use Rattle.java_ast.specs.Spans.{place_of}
-use Rattle.java_ast.specs.Tree.{PlainProgram}
+use Rattle.java_ast.specs.Tree.{Statements, PlainProgram}
 use Rattle.java_loops.specs.Kernel.Kernel.{Broken, broken, lowering, setting_at, outside_at}
 use Rattle.java_loops.specs.Kernel.Setting.{Setting}
 use Rattle.java_loops.specs.Lowering.Lowered.{Lowering}
@@ -29,12 +29,14 @@ use Rattle.fragments.specs.declared.lowering.lowered.Lowered.{Lowered}
 use Rattle.fragments.specs.Lowers.{lowering_in_code}
 use Rattle.rewrite_core.specs.declared.outcome.GivesWay.{GivesWay}
 use Rattle.rewrite_core.specs.declared.outcome.Outcome.{Outcome}
+use Rattle.rewrite_core.specs.declared.patch.Patch.{Patch}
 use Rattle.rewrite_core.specs.declared.rewritten.Said.{Said}
 use Rattle.rewrite_core.specs.declared.rewritten.Said.TheVariants as says
 use Rattle.rewrite_core.specs.declared.rewritten.LoopVerdict.{LoopVerdict}
-use Rattle.rewrite_core.specs.Asked.{replaced}
+use Rattle.rewrite_core.specs.Asked.{number_of, first_of_run}
 use Rattle.rewrite_core.specs.Asking.{HasAsks, MayBeAsked}
-use Rattle.rewrite_core.specs.Outcome.{try_with, IsOutcomeOf, program_with, entries_with, standing_with, BeginsBefore}
+use Rattle.rewrite_core.specs.Outcome.{try_with, IsOutcomeOf, program_with, entries_with, standing_with, patches_with, BeginsBefore}
+use Rattle.rewrite_core.specs.Patches.{instead, put_patch, patches_by}
 use Rattle.rewrite_core.specs.Pruned.{OfNumber, IsPrunedBy}
 use Rattle.rewrite_core.specs.Rewriting.{said_by, verdict_of, entry_by, entry_for}
 use Rattle.rewrite_core.specs.TriedAsking.{MayBeAskedBy}
@@ -63,6 +65,7 @@ record Stays (schema : Schema) (t : Tried) : Type 0 where
   entry : entry_for t ≡ []
   standing : (n : ℕ) → standing_after n t.answer ≡ suc n
   asked : MayBeAskedBy schema t t.answer
+  patches : (source : List ℕ) (ps : List Patch) → patches_by source t t.answer ps ≡ ps
 
 module _ (D K : Fragment → List ℕ → Type 0) (schema : Schema) (size budget : ℕ) (p : PlainProgram) (path : List ℕ) (w : Setting) where
   abbrev answered : Answer → Tried
@@ -81,6 +84,7 @@ module _ (D K : Fragment → List ℕ → Type 0) (schema : Schema) (size budget
         entry = h.entry ∙ ap (λ (x : Option GivesWay). entries_with o.verdict.at x) (sym none);
         standing = λ n. h.standing n ∙ ap (standing_with n) (sym none);
         begins = subst (BeginsBefore path) (sym none) tt;
+        patches = λ source ps. h.patches source ps ∙ ap (λ (x : Option GivesWay). patches_with source x path p ps) (sym none);
       }
 
   module _ (at : Span) (at_is : at ≡ place_of w.fragment.loop) (o : Outcome) where
@@ -91,7 +95,7 @@ module _ (D K : Fragment → List ℕ → Type 0) (schema : Schema) (size budget
     pub outside_outcome : (b : Broken) → broken w ≡ Some b → o.verdict ≡ said_there at (says.Outside b.rule b.at) → o.dropped ≡ 0 → o.way ≡ None → IsOutcomeOf D K schema size (try_with size budget p path w) o
     outside_outcome b breaks said none stands =
         by_answer (Outside b) o (ap (answer_unless size budget w) breaks)
-        (stays (Outside b) o (record { program = refl; entry = refl; standing = λ n. refl; asked = tt }) (said_at (Outside b) said) none stands)
+        (stays (Outside b) o (record { program = refl; entry = refl; standing = λ n. refl; asked = tt; patches = λ source ps. refl }) (said_at (Outside b) said) none stands)
 
     module _ (unbroken : broken w ≡ None) (v : Verdict) (is : v ≡ verdict (lowering w).fragment size budget) where
       searched : answer_unless size budget w (broken w) ≡ Searched (lowering w).fragment v
@@ -102,35 +106,39 @@ module _ (D K : Fragment → List ℕ → Type 0) (schema : Schema) (size budget
         pub none_outcome : (n : ℕ) → v ≡ NoneOf n → o.verdict ≡ said_there at (says.NoneOf n) → o.way ≡ None → IsOutcomeOf D K schema size (try_with size budget p path w) o
         none_outcome n e said stands =
             by_answer (Searched (lowering w).fragment (NoneOf n)) o (searched ∙ ap (Searched (lowering w).fragment) e)
-            (stays (Searched (lowering w).fragment (NoneOf n)) o (record { program = refl; entry = refl; standing = λ k. refl; asked = tt }) (said_at (Searched (lowering w).fragment (NoneOf n)) said)
+            (stays (Searched (lowering w).fragment (NoneOf n)) o (record { program = refl; entry = refl; standing = λ k. refl; asked = tt; patches = λ source ps. refl }) (said_at (Searched (lowering w).fragment (NoneOf n)) said)
             (subst (λ (x : Verdict). IsPrunedBy D K size (Searched (lowering w).fragment x) o.dropped) e counted) stands)
 
         -- or none of those that may be judged
         pub budget_outcome : (b n : ℕ) → v ≡ Budget b n → o.verdict ≡ said_there at (says.Budget b n) → o.way ≡ None → IsOutcomeOf D K schema size (try_with size budget p path w) o
         budget_outcome b n e said stands =
             by_answer (Searched (lowering w).fragment (Budget b n)) o (searched ∙ ap (Searched (lowering w).fragment) e)
-            (stays (Searched (lowering w).fragment (Budget b n)) o (record { program = refl; entry = refl; standing = λ k. refl; asked = tt }) (said_at (Searched (lowering w).fragment (Budget b n)) said)
+            (stays (Searched (lowering w).fragment (Budget b n)) o (record { program = refl; entry = refl; standing = λ k. refl; asked = tt; patches = λ source ps. refl }) (said_at (Searched (lowering w).fragment (Budget b n)) said)
             (subst (λ (x : Verdict). IsPrunedBy D K size (Searched (lowering w).fragment x) o.dropped) e counted) stands)
 
         -- or one with an accepted candidate
         pub found_outcome : (h : Hit) (way : GivesWay) → v ≡ Found h → o.verdict ≡ said_there at (says.Found h.k) → o.way ≡ Some way → way.k ≡ h.k → proofs_in way.proofs ≡ h.proofs
             → MayBeAsked schema (read_by schema) p path w h.candidate → way.first ≤ last_of path
-            → replaced_at path way.first (statements way.others.items) p ≡ replaced (record { program = p; path = path; setting = w; candidate = h.candidate })
+            → way.first ≡ first_of_run (record { program = p; path = path; setting = w; candidate = h.candidate })
+            → statements way.others.items ≡ instead (record { program = p; path = path; setting = w; candidate = h.candidate })
             → IsOutcomeOf D K schema size (try_with size budget p path w) o
-        found_outcome h way e said gives number proofs may begins becomes =
+        found_outcome h way e said gives number proofs may begins first others =
             let stood : place_of w.fragment.loop ≡ o.verdict.at = ap (λ (x : LoopVerdict). x.at) (said_at (Searched (lowering w).fragment (Found h)) said) in
             by_answer (Searched (lowering w).fragment (Found h)) o (searched ∙ ap (Searched (lowering w).fragment) e)
             (record {
               verdict = said_at (Searched (lowering w).fragment (Found h)) said;
               pruned = subst (λ (x : Verdict). IsPrunedBy D K size (Searched (lowering w).fragment x) o.dropped) e counted;
               asked = may;
-              program = sym becomes ∙ ap (λ (x : Option GivesWay). program_with x path p) (sym gives);
+              program = ap₂ (λ (n : ℕ) (ss : Statements). replaced_at path n ss p) (sym first) (sym others) ∙ ap (λ (x : Option GivesWay). program_with x path p) (sym gives);
               entry =
                   ap (λ (x : Span). entry_by x (Searched (lowering w).fragment (Found h))) stood
                   ∙ ap₂ (λ (n : ℕ) (ds : List Proof). entry_by o.verdict.at (Searched (lowering w).fragment (Found (record { k = n; candidate = h.candidate; proofs = ds })))) (sym number) (sym proofs)
                   ∙ ap (entries_with o.verdict.at) (sym gives);
               standing = λ n. ap (standing_with n) (sym gives);
               begins = subst (BeginsBefore path) (sym gives) begins;
+              patches = λ source ps.
+                  ap₂ (λ (n : ℕ) (ss : Statements). put_patch source path n ss p ps) (sym first) (sym others)
+                  ∙ ap (λ (x : Option GivesWay). patches_with source x path p ps) (sym gives);
             })
 
 -- ---- Of a loop that is lowered
@@ -205,15 +213,15 @@ module _ (D K : Fragment → List ℕ → Type 0) (schema : Schema) (size budget
 
     pub code_found : (j : ℕ) (candidate : List ℕ) (ds : List Derivation) (m : ℕ) (way : GivesWay) → r ≡ codes.Found j candidate ds m → o.verdict ≡ said_there at (says.Found j) → o.dropped ≡ m → o.way ≡ Some way → way.k ≡ j → way.proofs ≡ ds
         → IsFoundOf (fragment_of l.frag) r → HasAsks schema (read_by schema) p path k.setting candidate → way.first ≤ last_of path
-        → replaced_at path way.first (statements way.others.items) p ≡ replaced (record { program = p; path = path; setting = k.setting; candidate = candidate })
+        → way.first ≡ l.first → statements way.others.items ≡ instead (record { program = p; path = path; setting = k.setting; candidate = candidate })
         → Comes
-    code_found j candidate ds m way is said count gives number proofs found has begins becomes =
+    code_found j candidate ds m way is said count gives number proofs found has begins first others =
         let accepted : IsAcceptedFor (fragment_of l.frag) candidate (proofs_in ds) = subst (IsFoundOf (fragment_of l.frag)) is found in (
           k.setting,
           k.there,
           found_outcome D K schema size budget p path k.setting at place o k.unbroken (verdict_in r) searches (counted m (ap dropped_in is) count)
               (record { k = j; candidate = candidate; proofs = proofs_in ds }) way (ap verdict_in is) said gives number (ap proofs_in proofs)
-              (may_there D K schema (read_by schema) p path l k size budget (verdict_in r) exact candidate has accepted.ends) begins becomes,
+              (may_there D K schema (read_by schema) p path l k size budget (verdict_in r) exact candidate has accepted.ends) begins (first ∙ sym (ap number_of k.begins)) others,
         )
 
 -- its number is small

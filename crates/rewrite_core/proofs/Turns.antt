@@ -39,7 +39,7 @@ module _ (schema : Schema) where
   through p q r h k = record { keeps = keeps_through schema p q r h.keeps k.keeps; typed = λ t. k.typed (h.typed t); numbers = λ n. k.numbers (h.numbers n); written = λ w. k.written (h.written w) }
 
   -- one try
-  one_follows : (t : Tried) (a : Answer) → MayBeAskedBy schema t a → Follows schema t.program (program_by t a)
+  pub one_follows : (t : Tried) (a : Answer) → MayBeAskedBy schema t a → Follows schema t.program (program_by t a)
   one_follows t (Searched f (Found h)) may =
       record {
         keeps = loops_give_way schema reader (record { program = t.program; path = t.path; setting = t.setting; candidate = h.candidate }) may;

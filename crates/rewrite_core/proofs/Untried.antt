@@ -119,7 +119,7 @@ same_statement : (o : Option Statement) (a b : Statement) → o ≡ Some a → o
 same_statement o a b e h = cc
 
 -- the loop of a setting stands at its site
-site_there : (schema : Schema) (p : PlainProgram) (path : List ℕ) (n : ℕ) (w : Setting) → slice_get (loops_of p) n ≡ Some path → setting_at schema (read_by schema) path p ≡ Some w → slice_get (sites_of p) n ≡ Some (site path (place_of w.fragment.loop))
+pub site_there : (schema : Schema) (p : PlainProgram) (path : List ℕ) (n : ℕ) (w : Setting) → slice_get (loops_of p) n ≡ Some path → setting_at schema (read_by schema) path p ≡ Some w → slice_get (sites_of p) n ≡ Some (site path (place_of w.fragment.loop))
 site_there schema p path n w e there =
     let got = got_mapped (λ (s : Site). s.path) (sites_of p) n path (ap (λ xs. slice_get xs n) (paths_are p) ∙ e) in
     let stands : StandsAt p got.0 = all_at (StandsAt p) (sites_of p) n got.0 (all_stand_at p) got.1 in

@@ -1,10 +1,15 @@
 pub mod Asked
 pub mod Asking
+pub mod Checked
+pub mod Checking
 pub mod Looped
 pub mod Outcome
+pub mod Output
+pub mod Patches
 pub mod Progress
 pub mod Pruned
 pub mod Rewriting
+pub mod Stages
 pub mod TriedAsking
 pub mod Trying
 pub mod Worked

@@ -12,6 +12,7 @@ ghost use Rattle.vc_gen.specs.Conditions.{conditions};
 ghost use Rattle.vc_gen.specs.Soundness.{AllAccepted, EndsAnywhere};
 ghost use Rattle.sql_ast.specs.Tree.{PlainQuery};
 ghost use Rattle.sql_parts.specs.Given.{IsHeld, QueryIsCounted};
+ghost use Rattle.java_grammar.specs.ReadBack.{IsReadBack};
 ghost use Rattle.java_ast.specs.Tree.{Spelled, Statement, Statements, Nothing, Then, PlainMethod, PlainProgram};
 ghost use Rattle.java_mean.specs.Asks.{frame_of};
 ghost use Rattle.java_mean.specs.Fits.{in_first};
@@ -35,6 +36,10 @@ ghost use Rattle.java_loops.specs.Walks.Replacing.{Ask, asked, is_asked, replace
 ghost use Rattle.java_loops.specs.Walks.Runs.{kept, KeptRead};
 ghost use Rattle.fragments.specs.Asked.{queries_in, IsKernelLoop, HasQueriesOf};
 ghost use Rattle.rewrite_core.specs.Asked.{Place, asks_of, replaced};
+ghost use Rattle.rewrite_core.specs.Output.{IsSourceOf};
+ghost use Rattle.rewrite_core.specs.Patches.{patched_text};
+ghost use Rattle.rewrite_core.specs.TriedAsking.{AllMayBeAsked};
+ghost use Rattle.rewrite_core.specs.Trying.{all_tried, rewritten};
 ghost use Rattle.rewrite_core.specs.Asking.{IsGivenThere, QueriesAreValid, HasAsks, MayBeAsked, AgreeOnEntries, IsTypedAsk, SeesEntries, IsFaultlessAsk, Sees, AlikeOn, AllMayStand};
 
 /// At a loop of the kernel form, in a world of its method's frame, entry values and whole answers of the known queries are
@@ -169,4 +174,13 @@ pub fn loops_give_way_to_queries()
     ensures { (schema : Schema) (reader : Reader schema) (l : Place)
         → MayBeAsked schema reader.read l.program l.path l.setting l.candidate
         → Keeps l.program (replaced l) schema }
+{}
+
+/// The text of a source in which the loops that gave way are replaced is a text of the rewritten program, but for places: the loops that give way may
+/// be asked for with the candidates that are found.
+pub fn patched_texts_are_read_back()
+    ensures { (schema : Schema) (size budget : ℕ) (source : List ℕ) (p : PlainProgram)
+        → IsSourceOf source p
+        → AllMayBeAsked schema (all_tried schema size budget p)
+        → IsReadBack (patched_text source (all_tried schema size budget p)) (rewritten schema size budget p) }
 {}

@@ -2,20 +2,29 @@
 #![tactic(auto)]
 
 mod asking;
+pub mod bundled;
+mod checking;
 pub mod laws;
 mod looped;
 mod outcome;
+mod output;
+mod patch;
+mod patching;
 mod progress;
 pub mod pruned;
+mod replaced;
 mod replacing;
 mod rewriting;
 mod rewritten;
 mod spelling;
+mod stage;
 pub mod tried;
 mod values;
 pub mod worked;
 pub mod written;
 
+pub use checking::{Checked, check_bundle};
+pub use replaced::{Replaced, replace_loops};
 pub use replacing::replace_loop;
 pub use rewriting::{rewrite, rewrite_with};
 pub use rewritten::{LoopVerdict, Rewritten, Said, Verdicts};

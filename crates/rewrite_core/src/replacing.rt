@@ -29,6 +29,7 @@ ghost use Rattle.fragments.specs.Lowers.{lowering_in_code};
 ghost use Rattle.rewrite_core.specs.Asked.{replaced};
 ghost use Rattle.rewrite_core.specs.Asking.{HasAsks};
 ghost use Rattle.rewrite_core.specs.Looped.{looped_in_code, asked_from, AreValidFrom};
+ghost use Rattle.rewrite_core.specs.Patches.{instead};
 
 use crate::asking::push_asks;
 use crate::looped::Looped;
@@ -94,6 +95,10 @@ fn in_place_at(
     requires numbers { NumbersFit (plain_program program.now) }
     requires lowered { IsLowered schema.now (read_by schema.now) (plain_program program.now) path.now (lowering_in_code lowered.now) lowered.now.first lowered.now.kept }
     requires known { AreKnownTo schema.now (fragment_of lowered.now.frag) (map query lowered.now.known) lowered.now.known_args }
+    ensures instead { IfOk result (λ others.
+        (w : Setting)
+        → setting_at schema.now (read_by schema.now) path.now (plain_program program.now) ≡ Some w
+        → statements others.items ≡ instead (record { program = plain_program program.now; path = path.now; setting = w; candidate = candidate.now })) }
     ensures exact { IfOk result (λ others.
         (w : Setting)
         → setting_at schema.now (read_by schema.now) path.now (plain_program program.now) ≡ Some w
@@ -117,8 +122,8 @@ fn in_place_at(
 }
 
 /// The statements that come in place of a loop of a well-typed program and of the run before it, where the loop has the kernel form and
-/// is lowered so: the kept statements of the run, and those that run the queries. Put there from the number `lowered.first` on, they make
-/// the program in which the loop gives way (`exact`). The loop has its asks (`asks`). Only want of memory is an error.
+/// is lowered so: the kept statements of the run, and those that run the queries (`instead`). Put there from the number `lowered.first` on,
+/// they make the program in which the loop gives way (`exact`). The loop has its asks (`asks`). Only want of memory is an error.
 pub fn statements_instead(
     alloc: Global,
     schema: &Schema,
@@ -130,6 +135,10 @@ pub fn statements_instead(
     requires typed { IsWellTyped schema.now (read_by schema.now) (plain_program typed.now.program) }
     requires lowered { IsLowered schema.now (read_by schema.now) (plain_program typed.now.program) path.now (lowering_in_code lowered.now) lowered.now.first lowered.now.kept }
     requires known { AreKnownTo schema.now (fragment_of lowered.now.frag) (map query lowered.now.known) lowered.now.known_args }
+    ensures instead { IfOk result (λ others.
+        (w : Setting)
+        → setting_at schema.now (read_by schema.now) path.now (plain_program typed.now.program) ≡ Some w
+        → statements others.items ≡ instead (record { program = plain_program typed.now.program; path = path.now; setting = w; candidate = candidate.now })) }
     ensures exact { IfOk result (λ others.
         (w : Setting)
         → setting_at schema.now (read_by schema.now) path.now (plain_program typed.now.program) ≡ Some w
@@ -144,7 +153,7 @@ pub fn statements_instead(
 }
 
 /// A checked program with others in place of the statements from a number to the one that a path leads to. The program is moved, not
-/// copied. Only want of memory is an error.
+/// copied, and its literals aren't looked at. Only want of memory is an error.
 pub fn put_instead(
     alloc: Global,
     typed: Typed,
@@ -152,11 +161,12 @@ pub fn put_instead(
     first: u64,
     others: Vec<Stmt>,
 ) -> Result<Typed, NoMemory>
-    requires { first ≤ last_of path.now }
+    requires first { first ≤ last_of path.now }
+    requires numbers { NumbersFit (replaced_at path.now first (statements others.items) (plain_program typed.program)) }
     ensures { IfOk result (λ q. plain_program q.program ≡ replaced_at path.now first (statements others.items) (plain_program typed.program)) }
 {
     let program = put_at(alloc, typed.into_program(), path, first, others)?;
-    Ok(Typed::of(program))
+    Ok(Typed::with_numbers(program))
 }
 
 // A copy of a program with others in place of the statements from a number to the one that a path leads to.

@@ -5,17 +5,21 @@ ghost use Rattle.java_ast.specs.Reading.{program as plain_program};
 ghost use Rattle.java_mean.specs.Keeps.{Keeps};
 ghost use Rattle.java_mean.specs.WellTyped.{IsWellTyped};
 ghost use Rattle.java_grammar.specs.InGrammar.{IsInGrammar};
+ghost use Rattle.java_grammar.specs.ReadBack.{IsReadBack};
 ghost use Rattle.java_grammar.specs.Written.{IsWritten};
 ghost use Rattle.java_types.specs.Texts.{read_by};
 ghost use Rattle.kernel_lang.specs.declared.prune.PruneAnswer.TheVariants as answers;
 ghost use Rattle.kernel_lang.specs.Pools.{IsCandidateOf};
 ghost use Rattle.kernel_lang.specs.Refuted.{IsRefuted};
 ghost use Rattle.kernel_lang.specs.Whole.{fragment_of};
+ghost use Rattle.rewrite_core.specs.Output.{IsSourceOf};
+ghost use Rattle.rewrite_core.specs.Patches.{with_patches, patched_text};
 ghost use Rattle.rewrite_core.specs.Pruned.{ArePruned, OneDrops, AllKeep, SomeDrops, EachKeeps};
 ghost use Rattle.rewrite_core.specs.Rewriting.{verdicts_of, bundle_of, StandAsTried};
 ghost use Rattle.rewrite_core.specs.Trying.{all_tried, rewritten};
 
-use crate::progress::try_all;
+use crate::output::patched;
+use crate::progress::{AllTried, try_all};
 use crate::rewritten::Rewritten;
 use java_types::Typed;
 use kernel_lang::{Candidate, KFragment};
@@ -24,6 +28,31 @@ use query_search::{Extra, PruneAnswer, Pruner};
 use schema::Schema;
 use std::alloc::Global;
 
+// The source with the patches of all tries in place, with what is said and kept.
+fn with_output(alloc: Global, source: &[u8], all: AllTried) -> Result<Rewritten, NoMemory>
+    ensures program { IfOk result (λ r. r.program ≡ all.program) }
+    ensures verdicts { IfOk result (λ r. r.verdicts ≡ all.verdicts) }
+    ensures bundle { IfOk result (λ r. r.bundle ≡ all.bundle) }
+    ensures dropped { IfOk result (λ r. r.dropped ≡ all.dropped) }
+    ensures text { IfOk result (λ r. r.text ≡ with_patches source.now 0 all.patches) }
+{
+    let AllTried {
+        program,
+        verdicts,
+        bundle,
+        dropped,
+        patches,
+    } = all;
+    let text = patched(alloc, source, patches.as_slice())?;
+    Ok(Rewritten {
+        program,
+        verdicts,
+        bundle,
+        dropped,
+        text,
+    })
+}
+
 /// The loops of a well-typed program are tried in text order, an outer one before those inside it, each on the program as it stands:
 /// the search judges candidates of at most `size` formulas, as many as the budget. A loop with an accepted candidate gives way to its queries
 /// and vanishes with all inside it. Only want of memory is an error.
@@ -31,16 +60,20 @@ use std::alloc::Global;
 /// The program after all tries is well typed, keeps what the first one does, and is of the grammar and can be written if the first one
 /// is. The loops that stand are those that were tried and found no candidate. `dropped` is the sum over the loops of the candidates
 /// that the pruners or the further call dropped, which may drop none but refuted ones.
+///
+/// The output is the source with patches in place, which is a text of the program after all tries, but for places: it is read back.
 pub fn rewrite_with<F: Fn(&KFragment, &Candidate) -> PruneAnswer>(
     alloc: Global,
     schema: &Schema,
     typed: &Typed,
+    source: &[u8],
     size: u32,
     budget: u64,
     pruners: &[Pruner],
     extra: &Extra<F>,
 ) -> Result<Rewritten, NoMemory>
     requires typed { IsWellTyped schema.now (read_by schema.now) (plain_program typed.now.program) }
+    requires source { IsSourceOf source.now (plain_program typed.now.program) }
     requires size { size ≤ 8 }
     requires budget { budget ≤ 1000000 }
     requires callable { (f : _) (c : _) → IsCandidateOf (fragment_of f.now) c.now → F.pre extra.now.call f c }
@@ -63,8 +96,11 @@ pub fn rewrite_with<F: Fn(&KFragment, &Candidate) -> PruneAnswer>(
         → IsWritten (plain_program typed.now.program)
         → IsInGrammar (plain_program r.program) × IsWritten (plain_program r.program)) }
     ensures standing { IfOk result (λ r. StandAsTried (all_tried schema.now size budget (plain_program typed.now.program)) (plain_program r.program)) }
+    ensures text { IfOk result (λ r. r.text ≡ patched_text source.now (all_tried schema.now size budget (plain_program typed.now.program))) }
+    ensures read_back { IfOk result (λ r. IsReadBack r.text (plain_program r.program)) }
 {
-    try_all(alloc, schema, typed, size, budget, pruners, extra)
+    let all = try_all(alloc, schema, typed, source, size, budget, pruners, extra)?;
+    with_output(alloc, source, all)
 }
 
 // The same with a further call that never drops a candidate: it doesn't count.
@@ -72,12 +108,14 @@ fn rewrite_past<F: Fn(&KFragment, &Candidate) -> PruneAnswer>(
     alloc: Global,
     schema: &Schema,
     typed: &Typed,
+    source: &[u8],
     size: u32,
     budget: u64,
     pruners: &[Pruner],
     kept: &Extra<F>,
 ) -> Result<Rewritten, NoMemory>
     requires typed { IsWellTyped schema.now (read_by schema.now) (plain_program typed.now.program) }
+    requires source { IsSourceOf source.now (plain_program typed.now.program) }
     requires size { size ≤ 8 }
     requires budget { budget ≤ 1000000 }
     requires callable { (f : _) (c : _) → IsCandidateOf (fragment_of f.now) c.now → F.pre kept.now.call f c }
@@ -97,8 +135,10 @@ fn rewrite_past<F: Fn(&KFragment, &Candidate) -> PruneAnswer>(
         → IsWritten (plain_program typed.now.program)
         → IsInGrammar (plain_program r.program) × IsWritten (plain_program r.program)) }
     ensures standing { IfOk result (λ r. StandAsTried (all_tried schema.now size budget (plain_program typed.now.program)) (plain_program r.program)) }
+    ensures text { IfOk result (λ r. r.text ≡ patched_text source.now (all_tried schema.now size budget (plain_program typed.now.program))) }
+    ensures read_back { IfOk result (λ r. IsReadBack r.text (plain_program r.program)) }
 {
-    rewrite_with(alloc, schema, typed, size, budget, pruners, kept)
+    rewrite_with(alloc, schema, typed, source, size, budget, pruners, kept)
 }
 
 /// As `rewrite_with`, with no further call.
@@ -106,11 +146,13 @@ pub fn rewrite(
     alloc: Global,
     schema: &Schema,
     typed: &Typed,
+    source: &[u8],
     size: u32,
     budget: u64,
     pruners: &[Pruner],
 ) -> Result<Rewritten, NoMemory>
     requires typed { IsWellTyped schema.now (read_by schema.now) (plain_program typed.now.program) }
+    requires source { IsSourceOf source.now (plain_program typed.now.program) }
     requires size { size ≤ 8 }
     requires budget { budget ≤ 1000000 }
     ensures exact { IfOk result (λ r. plain_program r.program ≡ rewritten schema.now size budget (plain_program typed.now.program)) }
@@ -128,7 +170,9 @@ pub fn rewrite(
         → IsWritten (plain_program typed.now.program)
         → IsInGrammar (plain_program r.program) × IsWritten (plain_program r.program)) }
     ensures standing { IfOk result (λ r. StandAsTried (all_tried schema.now size budget (plain_program typed.now.program)) (plain_program r.program)) }
+    ensures text { IfOk result (λ r. r.text ≡ patched_text source.now (all_tried schema.now size budget (plain_program typed.now.program))) }
+    ensures read_back { IfOk result (λ r. IsReadBack r.text (plain_program r.program)) }
 {
     let kept = Extra::new(|_frag: &KFragment, _cand: &Candidate| PruneAnswer::Keep);
-    rewrite_past(alloc, schema, typed, size, budget, pruners, &kept)
+    rewrite_past(alloc, schema, typed, source, size, budget, pruners, &kept)
 }

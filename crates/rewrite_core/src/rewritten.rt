@@ -1,7 +1,7 @@
 // What comes of a program whose loops were tried.
 use deriv_check::Bundle;
 use java_ast::Program;
-use qbs_base::{Items, Span};
+use qbs_base::{Bytes, Items, Span};
 
 /// What is said of a loop: the number of the candidate that was found, and the loop gave way; or that none of all `n` candidates was
 /// accepted; or none of the first `b`, and there are `n`, which are more; or the rule of the kernel form, from 1 to 9, that the loop
@@ -24,11 +24,12 @@ pub struct LoopVerdict {
 pub type Verdicts = Items<LoopVerdict>;
 
 /// The program after all tries, what is said of each loop in the order of the tries, an entry with its derivations for each loop that
-/// gave way, and how many candidates were dropped in all.
+/// gave way, how many candidates were dropped in all, and the output: the source in which the loops that gave way are replaced.
 #[derive(Drop)]
 pub struct Rewritten {
     pub program: Program,
     pub verdicts: Verdicts,
     pub bundle: Bundle,
     pub dropped: u64,
+    pub text: Bytes,
 }

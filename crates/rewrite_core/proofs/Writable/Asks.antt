@@ -257,12 +257,17 @@ asks_fine schema reader l may fine parts =
     (names_fine _ f.run place.placed.simple parts'.run) (omega arith)))
     may.loop.there may.loop.unbroken may parts
 
--- The program in which the kept statements and the asks stand in place of the run and the loop is of the grammar and can be
--- written.
-pub replaced_fine : (schema : Schema) (reader : Reader schema) (l : Place) → HasAsks schema reader.read l.program l.path l.setting l.candidate → IsFineProgram l.program → IsFineProgram (replaced l)
-replaced_fine schema reader l may fine =
+-- The statements that come in place of a run and its loop are of the grammar and can be written.
+pub instead_fine : (schema : Schema) (reader : Reader schema) (l : Place) → HasAsks schema reader.read l.program l.path l.setting l.candidate → IsFineProgram l.program
+    → AreFineStatements (and_then (with_numbers (kept_numbers l.setting.fragment (names_read (lowering l.setting).entries) (first_of_run l) l.setting.fragment.run) (first_of_run l) l.setting.fragment.run) (asked (asks_of l)))
+instead_fine schema reader l may fine =
     let parts : IsFineFragment l.setting.fragment = fine_fragment l.path l.program l.setting.fragment fine (fragment_leads schema reader.read l may) in
     let numbers : List ℕ = kept_numbers l.setting.fragment (names_read (lowering l.setting).entries) (first_of_run l) l.setting.fragment.run in
     let kept : AreFineStatements (with_numbers numbers (first_of_run l) l.setting.fragment.run) = fine_kept numbers (first_of_run l) l.setting.fragment.run parts.run in
-    fine_replaced l.path (first_of_run l) (and_then (with_numbers numbers (first_of_run l) l.setting.fragment.run) (asked (asks_of l))) l.program
-    (fine_both (with_numbers numbers (first_of_run l) l.setting.fragment.run) (asked (asks_of l)) kept (asked_fine (asks_of l) (asks_fine schema reader l may fine parts))) fine
+    fine_both (with_numbers numbers (first_of_run l) l.setting.fragment.run) (asked (asks_of l)) kept (asked_fine (asks_of l) (asks_fine schema reader l may fine parts))
+
+-- The program in which they stand in place of the run and the loop is of the grammar and can be written.
+pub replaced_fine : (schema : Schema) (reader : Reader schema) (l : Place) → HasAsks schema reader.read l.program l.path l.setting l.candidate → IsFineProgram l.program → IsFineProgram (replaced l)
+replaced_fine schema reader l may fine =
+    let numbers : List ℕ = kept_numbers l.setting.fragment (names_read (lowering l.setting).entries) (first_of_run l) l.setting.fragment.run in
+    fine_replaced l.path (first_of_run l) (and_then (with_numbers numbers (first_of_run l) l.setting.fragment.run) (asked (asks_of l))) l.program (instead_fine schema reader l may fine) fine

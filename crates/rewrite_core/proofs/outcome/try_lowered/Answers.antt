@@ -17,7 +17,7 @@ returns-in_ok-others-in-Found g c =
     c.in-Found.k c.in-Found.cand c.in-Found.proofs c.in-Found.dropped _ c.in-Found.is c.gives_way.ensures.verdict c.gives_way.ensures.dropped c.gives_way.ensures.way refl refl c.in_ok-k.ensures.found
     (c.in_ok-others-in-Found.ensures.asks c.requires.lowered.setting c.requires.lowered.there)
     (first_before c.args.schema.now (read_by c.args.schema.now) (plain_program c.args.typed.now.program) c.args.path.now c.args.lowered.now c.requires.typed c.args.typed.now.numbers c.requires.lowered)
-    (c.in_ok-others-in-Found.ensures.exact c.requires.lowered.setting c.requires.lowered.there)
+    refl (c.in_ok-others-in-Found.ensures.instead c.requires.lowered.setting c.requires.lowered.there)
 
 pub returns-in-NoneOf : goal.returns-in-NoneOf
 returns-in-NoneOf g c =

@@ -4,11 +4,19 @@ use Rattle.java_ast.specs.Path.{replaced_at}
 use Rattle.java_ast.specs.Reading.{statements, program}
 use Rattle.java_types.specs.Texts.{read_by}
 use Rattle.fragments.specs.Lowers.{lowering_in_code}
-use Rattle.rewrite_core.proofs.GivenUp.{fits_schema, replaced_is, has_there}
+use Rattle.rewrite_core.proofs.GivenUp.{fits_schema, instead_is, replaced_is, has_there}
 use Rattle.rewrite_core.proofs.replacing.in_place_at.Goals as goal
 
 pub in_place-requires-clause-typed : goal.in_place-requires-clause-typed
 in_place-requires-clause-typed c = fits_schema c.args.schema.now (read_by c.args.schema.now) (program c.args.program.now) c.args.path.now c.args.lowered.now c.requires.typed c.requires.numbers c.requires.lowered
+
+pub returns-clause-instead : goal.returns-clause-instead
+returns-clause-instead c =
+    IfOk-weaker c.in_place.result _ _
+    (λ others e w there. instead_is c.args.schema.now (read_by c.args.schema.now) (program c.args.program.now) c.args.path.now c.args.lowered.now c.requires.typed c.requires.numbers c.requires.lowered c.args.candidate.now w there
+    (statements c.run_there.result.now) c.place_there.result c.run_there.ensures c.place_there.ensures (statements others.items)
+    (e c.args.schema.now (read_by c.args.schema.now) (lowering_in_code c.args.lowered.now) w c.requires.lowered there))
+    c.in_place.ensures.exact
 
 pub returns-clause-exact : goal.returns-clause-exact
 returns-clause-exact c =

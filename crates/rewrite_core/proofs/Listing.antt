@@ -1,0 +1,113 @@
+-- The loops of a program, method by method.
+use Rattle.std.proofs.Common.{◌≡◌, ℕ, zero, suc, ◌+◌, ◌-◌, ◌<◌, ◌≤◌, List, [], ◌∷◌, ◌++◌, length, take, drop, slice_get, Option, Some, None, refl, sym, ap, ◌∙◌, subst, arith, append_assoc, append-nil, length-append}
+use Rattle.std.proofs.lemmas.Option.{slice_get_past}
+use Rattle.java_ast.specs.Path.{with_method, replaced_at}
+use Rattle.java_ast.specs.Tree.{Statements, PlainMethod, PlainProgram}
+use Rattle.loop_text.specs.Statements.Loops.{loops_among, loops_of_methods}
+use Rattle.rewrite_core.specs.declared.stage.Listed.{Listed}
+use Rattle.rewrite_core.specs.Stages.{loops_there, loops_numbered, Lists}
+use Rattle.rewrite_core.proofs.DistinctLoops.{begin_with_method}
+
+-- ---- Lists
+
+past_front : {A : Type 0} (xs ys : List A) (m n : ℕ) → length xs + m ≡ n → slice_get (xs ++ ys) n ≡ slice_get ys m
+past_front [] ys m n e = let same : n ≡ m = omega (arith, e) in ap (slice_get ys) same
+past_front (x ∷ xs) ys m zero e = absurd (omega (arith, e))
+past_front (x ∷ xs) ys m (suc n) e = past_front xs ys m n (omega (arith, e))
+
+in_front : {A : Type 0} (xs ys : List A) (n : ℕ) → n < length xs → slice_get (xs ++ ys) n ≡ slice_get xs n
+in_front [] ys n h = absurd (omega (arith, h))
+in_front (x ∷ xs) ys zero h = refl
+in_front (x ∷ xs) ys (suc n) h = in_front xs ys n (omega (arith, h))
+
+all_taken : {A : Type 0} (n : ℕ) (xs : List A) → length xs ≤ n → take n xs ≡ xs
+all_taken zero [] h = refl
+all_taken (suc n) [] h = refl
+all_taken zero (x ∷ xs) h = absurd (omega (arith, h))
+all_taken (suc n) (x ∷ xs) h = ap (λ ys. x ∷ ys) (all_taken n xs (omega (arith, h)))
+
+-- ---- Methods
+
+-- the loops before a method, its own, and those behind it
+parts : (k n j : ℕ) (ms : List PlainMethod) → k + n ≡ j → loops_of_methods k ms ≡ loops_of_methods k (take n ms) ++ (loops_there j (slice_get ms n) ++ loops_of_methods (suc j) (drop (suc n) ms))
+parts k zero j [] e = refl
+parts k zero j (m ∷ ms) e = let same : k ≡ j = omega (arith, e) in ap (λ (i : ℕ). loops_among (i ∷ []) 0 m.body ++ loops_of_methods (suc i) ms) same
+parts k (suc n) j [] e = refl
+parts k (suc n) j (m ∷ ms) e =
+    ap (λ (ps : List (List ℕ)). loops_among (k ∷ []) 0 m.body ++ ps) (parts (suc k) n j ms (omega (arith, e)))
+    ∙ sym (append_assoc (loops_among (k ∷ []) 0 m.body) (loops_of_methods (suc k) (take n ms)) (loops_there j (slice_get ms n) ++ loops_of_methods (suc j) (drop (suc n) ms)))
+
+-- the loops of one method more
+one_more : (k n j : ℕ) (ms : List PlainMethod) → k + n ≡ j → loops_of_methods k (take (suc n) ms) ≡ loops_of_methods k (take n ms) ++ loops_there j (slice_get ms n)
+one_more k zero j [] e = refl
+one_more k zero j (m ∷ ms) e = let same : k ≡ j = omega (arith, e) in append-nil (loops_among (k ∷ []) 0 m.body) ∙ ap (λ (i : ℕ). loops_among (i ∷ []) 0 m.body) same
+one_more k (suc n) j [] e = refl
+one_more k (suc n) j (m ∷ ms) e =
+    ap (λ (ps : List (List ℕ)). loops_among (k ∷ []) 0 m.body ++ ps) (one_more (suc k) n j ms (omega (arith, e)))
+    ∙ sym (append_assoc (loops_among (k ∷ []) 0 m.body) (loops_of_methods (suc k) (take n ms)) (loops_there j (slice_get ms n)))
+
+module _ (ms : List PlainMethod) (standing number before : ℕ) (behind : before ≤ standing) (is : before ≡ length (loops_of_methods 0 (take number ms))) where
+  -- a method whose loops reach past those that stand
+  pub lists_within : (paths : List (List ℕ)) → paths ≡ loops_numbered number ms → standing - before < length paths → (l : Listed) → l.number ≡ number → l.before ≡ before → l.paths ≡ paths → Lists ms standing l
+  lists_within paths listed within l n b p =
+      let first : List (List ℕ) = loops_of_methods 0 (take number ms) in
+      let own : List (List ℕ) = loops_numbered number ms in
+      let rest : List (List ℕ) = loops_of_methods (suc number) (drop (suc number) ms) in
+      let many : length paths ≡ length own = ap length listed in
+      let there : slice_get paths (standing - before) ≡ slice_get (loops_of_methods 0 ms) standing =
+      sym (ap (λ (ps : List (List ℕ)). slice_get ps standing) (parts 0 number number ms (omega arith))
+      ∙ past_front first (own ++ rest) (standing - before) standing (omega (arith, is, behind))
+      ∙ in_front own rest (standing - before) (omega (arith, many, within))
+      ∙ ap (λ (ps : List (List ℕ)). slice_get ps (standing - before)) (sym listed)) in
+      record {
+        behind = subst (λ (k : ℕ). k ≤ standing) (sym b) behind;
+        before = b ∙ is ∙ ap (λ (k : ℕ). length (loops_of_methods 0 (take k ms))) (sym n);
+        paths = p ∙ listed ∙ ap (λ (k : ℕ). loops_numbered k ms) (sym n);
+        next = ap (λ (ps : List (List ℕ)). slice_get ps (standing - l.before)) p ∙ ap (λ (k : ℕ). slice_get paths (standing - k)) b ∙ there;
+      }
+
+  -- the end of the methods
+  pub lists_end : length ms ≤ number → (l : Listed) → l.number ≡ number → l.before ≡ before → l.paths ≡ [] → Lists ms standing l
+  lists_end past l n b p =
+      let none : loops_numbered number ms ≡ [] = ap (loops_there number) (slice_get_past ms number past) in
+      let all : length (loops_of_methods 0 ms) ≡ before = sym (is ∙ ap (λ (ns : List PlainMethod). length (loops_of_methods 0 ns)) (all_taken number ms past)) in
+      record {
+        behind = subst (λ (k : ℕ). k ≤ standing) (sym b) behind;
+        before = b ∙ is ∙ ap (λ (k : ℕ). length (loops_of_methods 0 (take k ms))) (sym n);
+        paths = p ∙ sym none ∙ ap (λ (k : ℕ). loops_numbered k ms) (sym n);
+        next = ap (λ (ps : List (List ℕ)). slice_get ps (standing - l.before)) p ∙ sym (slice_get_past (loops_of_methods 0 ms) standing (omega (arith, all, behind)));
+      }
+
+  -- the next method
+  pub one_method_more : (paths : List (List ℕ)) → paths ≡ loops_numbered number ms → before + length paths ≡ length (loops_of_methods 0 (take (suc number) ms))
+  one_method_more paths listed =
+      let many : length paths ≡ length (loops_numbered number ms) = ap length listed in
+      let more : length (loops_of_methods 0 (take (suc number) ms)) ≡ length (loops_of_methods 0 (take number ms) ++ loops_numbered number ms) = ap length (one_more 0 number number ms (omega arith)) in
+      omega (arith, is, many, more, length-append (loops_of_methods 0 (take number ms)) (loops_numbered number ms))
+
+-- ---- What gives way
+
+begin_there : (n : ℕ) (o : Option PlainMethod) (i : ℕ) (x : List ℕ) → slice_get (loops_there n o) i ≡ Some x → (rest : List ℕ) × (x ≡ n ∷ rest)
+begin_there n None i x there = absurd cc
+begin_there n (Some m) i x there = begin_with_method n m.body i x there
+
+earlier_stay : (n : ℕ) (change : PlainMethod → PlainMethod) (ms : List PlainMethod) → take n (with_method n change ms) ≡ take n ms
+earlier_stay zero change [] = refl
+earlier_stay zero change (m ∷ ms) = refl
+earlier_stay (suc n) change [] = refl
+earlier_stay (suc n) change (m ∷ ms) = ap (λ (ns : List PlainMethod). m ∷ ns) (earlier_stay n change ms)
+
+replaced_below : (n : ℕ) (rest : List ℕ) (first : ℕ) (others : Statements) (p : PlainProgram) → take n (replaced_at (n ∷ rest) first others p).methods ≡ take n p.methods
+replaced_below n [] first others p = refl
+replaced_below n (m ∷ rest) first others p = earlier_stay n _ p.methods
+
+-- Where a loop gives way that a list has, the methods before its own are as they were.
+pub methods_before_stay : (ms : List PlainMethod) (standing : ℕ) (l : Listed) (p q : PlainProgram) (path : List ℕ) (first : ℕ) (others : Statements) → p.methods ≡ ms → Lists ms standing l → slice_get l.paths (standing - l.before) ≡ Some path → q ≡ replaced_at path first others p
+    → l.before ≡ length (loops_of_methods 0 (take l.number q.methods))
+methods_before_stay ms standing l p q path first others same lists there is =
+    let k : (rest : List ℕ) × (path ≡ l.number ∷ rest) = begin_there l.number (slice_get ms l.number) (standing - l.before) path (ap (λ (ps : List (List ℕ)). slice_get ps (standing - l.before)) (sym lists.paths) ∙ there) in
+    let stay : take l.number q.methods ≡ take l.number ms =
+    ap (λ (r : PlainProgram). take l.number r.methods) (is ∙ ap (λ (path' : List ℕ). replaced_at path' first others p) k.1)
+    ∙ replaced_below l.number k.0 first others p
+    ∙ ap (take l.number) same in
+    lists.before ∙ ap (λ (ns : List PlainMethod). length (loops_of_methods 0 ns)) (sym stay)

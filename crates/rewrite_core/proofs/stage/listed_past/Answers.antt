@@ -1,0 +1,11 @@
+use Rattle.std.proofs.Common.{◌≡◌, ◌<◌, ◌-◌, length, map, refl, arith}
+use Rattle.java_ast.specs.Reading.{method as plain_method}
+use Rattle.rewrite_core.proofs.Listing.{lists_within}
+use Rattle.rewrite_core.proofs.stage.listed_past.Goals as goal
+
+pub returns-then-standing-listed : goal.returns-then-standing-listed
+returns-then-standing-listed c =
+    let many : c.len.result ≡ length c.args.listed.paths = c.len.ensures in
+    let within : c.args.standing - c.args.listed.before < length c.args.listed.paths = omega (arith, c.if-standing-listed.true) in
+    lists_within (map plain_method c.args.methods.now) c.args.standing c.args.listed.number c.args.listed.before c.requires.behind c.requires.before c.args.listed.paths c.requires.paths within
+    (record { number = c.args.listed.number; before = c.args.listed.before; paths = c.args.listed.paths }) refl refl refl
