@@ -59,7 +59,7 @@ kept_placed : (tables : Schema) (ms ns : List PlainMethod) (o : Option ℕ) (m k
 kept_placed tables ms ns (Some n) m k h e f = kept_at tables ms ns n m k h e f
 kept_placed tables ms ns None m k h e f = absurd cc
 
-kept_named : (tables : Schema) (p q : PlainProgram) (name : List ℕ) (m k : PlainMethod) → Keeps p q tables → method_named name p.methods ≡ Some m → method_named name q.methods ≡ Some k → KeepsMethod tables m k
+pub kept_named : (tables : Schema) (p q : PlainProgram) (name : List ℕ) (m k : PlainMethod) → Keeps p q tables → method_named name p.methods ≡ Some m → method_named name q.methods ≡ Some k → KeepsMethod tables m k
 kept_named tables p q name m k h e f =
     kept_placed tables p.methods q.methods (position (λ (n : PlainMethod). bytes_eq n.name name) q.methods) m k h
     (subst (λ (o : Option ℕ). method_at p.methods o ≡ Some m) (place_kept tables p.methods q.methods name h) e) f
@@ -75,7 +75,7 @@ some_placed : (tables : Schema) (ms ns : List PlainMethod) (o : Option ℕ) (m :
 some_placed tables ms ns (Some n) m h e = some_at tables ms ns n m h e
 some_placed tables ms ns None m h e = absurd cc
 
-some_named : (tables : Schema) (p q : PlainProgram) (name : List ℕ) (m : PlainMethod) → Keeps p q tables → method_named name p.methods ≡ Some m → (k : PlainMethod) × (method_named name q.methods ≡ Some k)
+pub some_named : (tables : Schema) (p q : PlainProgram) (name : List ℕ) (m : PlainMethod) → Keeps p q tables → method_named name p.methods ≡ Some m → (k : PlainMethod) × (method_named name q.methods ≡ Some k)
 some_named tables p q name m h e =
     some_placed tables p.methods q.methods (position (λ (n : PlainMethod). bytes_eq n.name name) q.methods) m h
     (subst (λ (o : Option ℕ). method_at p.methods o ≡ Some m) (place_kept tables p.methods q.methods name h) e)

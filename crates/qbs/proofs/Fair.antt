@@ -1,13 +1,19 @@
 -- What holds of all plans that are due: a refusal has nothing for the output, and none says that a write failed.
-use Rattle.std.proofs.Common.{◌≡◌, ◌≢◌, ℕ, inl, inr, List, [], ◌∷◌, Option, Some, None, subst, sym, refl, ap, codes}
+use Rattle.std.proofs.Common.{◌≡◌, ◌≢◌, ℕ, inl, inr, List, [], ◌∷◌, ◌++◌, Option, Some, None, subst, sym, refl, ap, codes}
 use Rattle.qbs_base.specs.declared.status.Status.{Status}
 use Rattle.qbs_base.specs.declared.status.Status.TheVariants as statuses
 use Rattle.qbs_base.specs.Status.{KeepsOutput}
 use Rattle.qbs_base.specs.declared.columns.Table.{Table}
-use Rattle.qbs_base.specs.Values.{Schema}
-use Rattle.java_ast.specs.Tree.{PlainProgram}
+use Rattle.qbs_base.specs.Values.{Schema, Database}
+use Rattle.java_ast.specs.Tree.{PlainMethod, PlainProgram}
+use Rattle.deriv_check.specs.Bundles.{Entry}
+use Rattle.rewrite_core.specs.Checking.{Checks, All, Refused, checked_from}
 use Rattle.java_mean.specs.Outcome.{Outcome, Done, Faulted, OutOfTurns, Stuck, outcome, world_with}
 use Rattle.java_types.specs.Texts.{read_by}
+use Rattle.rewrite_core.specs.Rewriting.{verdicts_of}
+use Rattle.rewrite_core.specs.Trying.{all_tried}
+use Rattle.sample.specs.Class.{sample_program}
+use Rattle.sample.specs.Tables.{sample_schema, sample_rows}
 use Rattle.sql_ast.specs.Meaning as meaning
 use Rattle.sql_ast.specs.Meaning.{Answered, query_answer}
 use Rattle.words.specs.declared.command.Command.{Command}
@@ -15,9 +21,13 @@ use Rattle.words.specs.declared.command.Command.TheVariants as commands
 use Rattle.words.specs.declared.command.Options.{Options}
 use Rattle.qbs.specs.declared.plan.Plan.{Plan}
 use Rattle.qbs.specs.Calls.{Call}
+use Rattle.qbs.specs.Check.{tells, check_of, check}
 use Rattle.qbs.specs.Commands.{without_store, command}
+use Rattle.qbs.specs.Make.{loops_text, method_text, IsNotDone, outcome_over, runs, make}
 use Rattle.qbs.specs.Opening.{HasNoProgram}
 use Rattle.qbs.specs.Plan.{Given, May, not_yet}
+use Rattle.qbs.specs.Prove.{prove_of, prove}
+use Rattle.qbs.specs.Results.{names_of}
 use Rattle.qbs.specs.Rewrite.{rewrite_of, rewrite}
 use Rattle.qbs.specs.Run.{comes_to, call_of, run_of, run}
 use Rattle.qbs.specs.Sql.{answer_plan, sql_of, sql}
@@ -70,6 +80,39 @@ module _ (files : Given) where
   rewrite_fair may o schema source plan (inr (s, read, inl h)) = not_read_fair source 1048576 (codes "source") plan h
   rewrite_fair may o schema source plan (inr (s, read, inr (t, has, h))) = rewrite_of_fair may o s t plan h
 
+  -- ---- `prove`
+
+  prove_of_fair : (may : May) (o : Options) (s t : List ℕ) (plan : Plan) → prove_of may o s t plan → IsFair files plan
+  prove_of_fair may o s t plan (inl h) = fair_as plan _ h.2 (refusal_fair statuses.Schema _ (λ e. cc) (λ e. cc) (λ e. cc))
+  prove_of_fair may o s t plan (inr (tables, is, inl h)) = no_program_fair tables t plan h
+  prove_of_fair may o s t plan (inr (tables, is, inr (p, read, h))) = done_fair plan (ap (λ (x : Plan). x.status) h.written)
+
+  prove_fair : (may : May) (o : Options) (schema source : List ℕ) (plan : Plan) → prove files may o schema source plan → IsFair files plan
+  prove_fair may o schema source plan (inl h) = not_read_fair schema 262144 (codes "schema") plan h
+  prove_fair may o schema source plan (inr (s, read, inl h)) = not_read_fair source 1048576 (codes "source") plan h
+  prove_fair may o schema source plan (inr (s, read, inr (t, has, h))) = prove_of_fair may o s t plan h
+
+  -- ---- `check`
+
+  refused_fair : (plan : Plan) → plan.status ≡ statuses.Refused → IsFair files plan
+  refused_fair plan is = record { out = λ k. absurd (subst KeepsOutput is k); write = λ e. cc; words = λ e. cc; read = λ e. absurd cc }
+
+  tells_fair : (tables : Schema) (entries : List Entry) (p : PlainProgram) (c : Checks) (plan : Plan) → tells tables entries p c plan → IsFair files plan
+  tells_fair tables entries p (All n q) plan h = done_fair plan (ap (λ (x : Plan). x.status) h.1)
+  tells_fair tables entries p (Refused ordinal) plan h = refused_fair plan (ap (λ (x : Plan). x.status) h)
+
+  check_of_fair : (s t b : List ℕ) (plan : Plan) → check_of s t b plan → IsFair files plan
+  check_of_fair s t b plan (inl h) = fair_as plan _ h.2 (refusal_fair statuses.Schema _ (λ e. cc) (λ e. cc) (λ e. cc))
+  check_of_fair s t b plan (inr (tables, is, inl h)) = no_program_fair tables t plan h
+  check_of_fair s t b plan (inr (tables, is, inr (p, read, inl h))) = fair_as plan _ h.2 (refusal_fair statuses.Bundle _ (λ e. cc) (λ e. cc) (λ e. cc))
+  check_of_fair s t b plan (inr (tables, is, inr (p, read, inr (entries, has, h)))) = tells_fair tables entries p (checked_from tables 0 entries p) plan h
+
+  check_fair : (schema source bundle : List ℕ) (plan : Plan) → check files schema source bundle plan → IsFair files plan
+  check_fair schema source bundle plan (inl h) = not_read_fair schema 262144 (codes "schema") plan h
+  check_fair schema source bundle plan (inr (s, read, inl h)) = not_read_fair source 1048576 (codes "source") plan h
+  check_fair schema source bundle plan (inr (s, read, inr (t, has, inl h))) = not_read_fair bundle 16777216 (codes "bundle") plan h
+  check_fair schema source bundle plan (inr (s, read, inr (t, has, inr (b, there, h)))) = check_of_fair s t b plan h
+
   -- ---- `run`
 
   outcome_fair : (tables : Schema) (o : Outcome) (plan : Plan) → comes_to tables o plan → IsFair files plan
@@ -95,6 +138,24 @@ module _ (files : Given) where
   run_fair o schema source folder call plan (inr (s, read, inr (t, has, inl h))) = fair_as plan _ h.2 (refusal_fair statuses.Schema _ (λ e. cc) (λ e. cc) (λ e. cc))
   run_fair o schema source folder call plan (inr (s, read, inr (t, has, inr (tables, is, inl h)))) = not_texts_fair folder tables _ plan h
   run_fair o schema source folder call plan (inr (s, read, inr (t, has, inr (tables, is, inr (texts, are, h))))) = run_of_fair o tables call t texts plan h
+
+  -- ---- `make`
+
+  not_done_fair : (o : Outcome) (plan : Plan) → IsNotDone o plan → IsFair files plan
+  not_done_fair (Done lines value) plan h = absurd h
+  not_done_fair (Faulted fault at) plan h = fair_as plan _ h (refusal_fair statuses.Faulted _ (λ e. cc) (λ e. cc) (λ e. cc))
+  not_done_fair OutOfTurns plan h = fair_as plan _ h (refusal_fair statuses.Turns _ (λ e. cc) (λ e. cc) (λ e. cc))
+  not_done_fair Stuck plan h = absurd h
+
+  runs_fair : (tables : Schema) (db : Database) (written : List ℕ) (ms : List PlainMethod) (plan : Plan) → runs tables db written ms plan → IsFair files plan
+  unfolding runs
+  runs_fair tables db written [] plan h = done_fair plan (ap (λ (x : Plan). x.status) h)
+  runs_fair tables db written (m ∷ ms) plan (inl h) = not_done_fair (outcome_over tables db m) plan h
+  runs_fair tables db written (m ∷ ms) plan (inr (value, is, h)) = runs_fair tables db (written ++ method_text (names_of tables) m.name value) ms plan h
+
+  make_fair : (n : ℕ) (plan : Plan) → make n plan → IsFair files plan
+  make_fair n plan (inl h) = absurd h
+  make_fair n plan (inr (q, is, h)) = runs_fair sample_schema (sample_rows n) (loops_text (verdicts_of (all_tried sample_schema 4 20000 sample_program))) q.methods plan h
 
   -- ---- `sql`
 
@@ -128,9 +189,9 @@ module _ (files : Given) where
   command_fair may (commands.Run o s t d method words) plan h =
       stored_fair o.store (run files o s t d (record { method = method; words = words })) plan (run_fair o s t d (record { method = method; words = words }) plan) h
   command_fair may (commands.Sql s d q) plan h = sql_fair s d q plan h
-  command_fair may (commands.Prove o s t) plan h = unbuilt_fair plan h
-  command_fair may (commands.Check s t b) plan h = unbuilt_fair plan h
-  command_fair may (commands.Make n) plan h = unbuilt_fair plan h
+  command_fair may (commands.Prove o s t) plan h = stored_fair o.store (prove files may o s t) plan (prove_fair may o s t plan) h
+  command_fair may (commands.Check s t b) plan h = check_fair s t b plan h
+  command_fair may (commands.Make n) plan h = make_fair n plan h
   command_fair may (commands.Unnest o s t) plan h = unbuilt_fair plan h
   command_fair may (commands.Inline s t) plan h = unbuilt_fair plan h
   command_fair may (commands.Gather o s t) plan h = unbuilt_fair plan h

@@ -1,11 +1,15 @@
 pub mod AlikeRuns
 pub mod Asked
 pub mod Called
+pub mod Checked
+pub mod Completing
+pub mod Evident
 pub mod Fair
 pub mod Fetched
 pub mod Going
 pub mod Lined
 pub mod Loading
+pub mod Made
 pub mod OneFound
 pub mod OnePlan
 pub mod OneRead
@@ -13,6 +17,7 @@ pub mod OneStep
 pub mod Opened
 pub mod Planned
 pub mod Promised
+pub mod Proved
 pub mod Ranged
 pub mod Rewritten
 pub mod Rewrote

@@ -54,7 +54,7 @@ joined_on : (db : Database) (name : List ℕ) (rows : List Row) (further : Resul
 joined_on db name rows (Ok further) = ap held_as (sym (append_assoc db ((name, rows) ∷ []) further))
 joined_on db name rows (Err fault) = refl
 
-drop_held : {A : Type 0} (xs : List A) (n : ℕ) (x : A) → slice_get xs n ≡ Some x → drop n xs ≡ x ∷ drop (suc n) xs
+pub drop_held : {A : Type 0} (xs : List A) (n : ℕ) (x : A) → slice_get xs n ≡ Some x → drop n xs ≡ x ∷ drop (suc n) xs
 drop_held [] n x e = absurd cc
 drop_held (y ∷ ys) zero x e = let same : y ≡ x = cc in ap (λ z. z ∷ ys) same
 drop_held (y ∷ ys) (suc n) x e = drop_held ys n x e
@@ -86,7 +86,7 @@ loaded_not schema n texts text old plan has stop e = (
   stop.due,
 )
 
-all_dropped : {A : Type 0} (xs : List A) (n : ℕ) → length xs ≡ n → drop n xs ≡ []
+pub all_dropped : {A : Type 0} (xs : List A) (n : ℕ) → length xs ≡ n → drop n xs ≡ []
 all_dropped [] zero e = refl
 all_dropped [] (suc n) e = absurd cc
 all_dropped (x ∷ xs) zero e = absurd cc

@@ -1,8 +1,14 @@
 -- What texts have is one, or their refusal is.
-use Rattle.std.proofs.Common.{◌≡◌, ◌≢◌, ℕ, inl, inr, Bool, true, false, List, [], ◌∷◌, Option, Some, None, Result, Ok, Err, sym, refl, ap, ◌∙◌}
+use Rattle.std.proofs.Common.{◌≡◌, ◌≢◌, ◌<◌, ℕ, inl, inr, Bool, true, false, List, [], ◌∷◌, Option, Some, None, Result, Ok, Err, sym, refl, ap, ◌∙◌, arith}
+use Rattle.std.proofs.lemmas.Bool.{cases_lt}
 use Rattle.qbs_base.specs.declared.scalar.Scalar.{Scalar}
 use Rattle.qbs_base.specs.declared.scalar.Ty.{Ty}
 use Rattle.qbs_base.specs.Values.{Schema, Database}
+use Rattle.deriv_check.specs.declared.fault.BundleFault.{BundleFault}
+use Rattle.deriv_check.specs.Bundles.{Entry}
+use Rattle.deriv_check.specs.Grammar.{HasBundle, IsOffset}
+use Rattle.deriv_check.proofs.Bundled.{exact_bundle}
+use Rattle.deriv_check.proofs.Whole.{all_read}
 use Rattle.java_ast.specs.Tree.{PlainMethod, PlainProgram}
 use Rattle.java_lex.specs.declared.token.LexFault.{LexFault}
 use Rattle.java_lex.specs.declared.token.Tokens.{Tokens}
@@ -24,11 +30,12 @@ use Rattle.sql_ast.specs.Tree.{PlainQuery}
 use Rattle.sql_ast.specs.Valid.{params_in}
 use Rattle.qbs.specs.declared.plan.Plan.{Plan}
 use Rattle.qbs.specs.Calls.{Call, Called, Calls, CallsNothing, arguments, method_named, word_refusal}
+use Rattle.qbs.specs.Check.{BreaksBundle, bundle_refusal}
 use Rattle.qbs.specs.Opening.{IsSchemaOf, BreaksSchema, schema_refusal, lex_refusal, parse_refusal, type_refusal, IsProgramOf, HasNoProgram}
 use Rattle.qbs.specs.Sql.{IsAsked, AsksNothing}
 use Rattle.qbs.specs.Steps.{refused}
 use Rattle.qbs.specs.Tables.{loaded, HasRows, LacksRows, data_refusal}
-use Rattle.qbs.proofs.OneStep.{IsOne, decided, decided_by, err_of}
+use Rattle.qbs.proofs.OneStep.{IsOne, ok_same, decided, decided_by, err_of}
 
 pub schema_one : (bytes : List ℕ) → IsOne {B = Schema} (IsSchemaOf bytes) (refused (BreaksSchema bytes) schema_refusal)
 schema_one bytes = decided_by (IsSchemaOf bytes) (BreaksSchema bytes) schema_refusal (schema_of bytes) (λ b e. e) (λ f e. e)
@@ -64,6 +71,28 @@ program_lacking tables bytes plan (inr (inr h)) =
 pub program_one : (tables : Schema) (bytes : List ℕ) → IsOne {B = PlainProgram} (IsProgramOf tables bytes) (HasNoProgram tables bytes)
 program_one tables bytes =
     decided (IsProgramOf tables bytes) (HasNoProgram tables bytes) (lexed_or tables (lexed bytes)) (program_found tables bytes) (program_lacking tables bytes)
+
+-- ---- the entries of a bundle
+
+one_bundle : (bytes : List ℕ) (a b : List Entry) → HasBundle bytes a → HasBundle bytes b → a ≡ b
+one_bundle bytes a b x y = ok_same _ a b (all_read exact_bundle tt bytes a x) (all_read exact_bundle tt bytes b y)
+
+-- two longest fronts are one
+one_offset : (bytes : List ℕ) (m n : ℕ) → IsOffset HasBundle bytes m → IsOffset HasBundle bytes n → m ≡ n
+one_offset bytes m n x y = elim (cases_lt m n) [
+  | inl less ↦ absurd (x.longest n less y.within y.begins)
+  | inr more ↦ elim (cases_lt n m) [
+    | inl less ↦ absurd (y.longest m less x.within x.begins)
+    | inr least ↦ omega (arith, more, least)
+  ]
+]
+
+pub bundle_one : (bytes : List ℕ) → IsOne {B = List Entry} (HasBundle bytes) (refused (BreaksBundle bytes) bundle_refusal)
+bundle_one bytes = record {
+  same = λ b c x y. one_bundle bytes b c x y;
+  stops = λ p q x y. x.2 ∙ ap (λ (n : ℕ). bundle_refusal (record { offset = n })) (one_offset bytes x.0.offset y.0.offset x.1 y.1) ∙ sym y.2;
+  apart = λ b p x y. y.1.no_member b x;
+}
 
 -- ---- the call of words
 

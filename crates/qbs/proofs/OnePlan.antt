@@ -1,13 +1,20 @@
 -- Two plans that are due for the same words are one but for the number of dropped candidates.
-use Rattle.std.proofs.Common.{◌≡◌, ℕ, inl, inr, Bool, true, false, List, [], Option, Some, None, sym, refl, ap, ◌∙◌, codes}
+use Rattle.std.proofs.Common.{◌≡◌, ℕ, inl, inr, Bool, true, false, List, [], ◌∷◌, ◌++◌, Option, Some, None, sym, refl, ap, ◌∙◌, codes}
 use Rattle.std.specs.Prelude.{IsSome}
 use Rattle.std.specs.List.{flat_map}
-use Rattle.qbs_base.specs.Values.{Schema}
-use Rattle.java_ast.specs.Tree.{PlainProgram}
+use Rattle.qbs_base.specs.declared.scalar.Value.{Value}
+use Rattle.qbs_base.specs.Values.{Schema, Database}
+use Rattle.java_ast.specs.Tree.{PlainMethod, PlainProgram}
 use Rattle.java_mean.specs.Outcome.{Outcome, Done, Faulted, OutOfTurns, Stuck, outcome, world_with}
 use Rattle.java_types.specs.Texts.{read_by}
+use Rattle.deriv_check.specs.Bundles.{Entry}
+use Rattle.deriv_check.specs.Grammar.{HasBundle}
+use Rattle.rewrite_core.specs.Checking.{Checks, All, Refused, checked_from}
+use Rattle.rewrite_core.specs.Patches.{patched_text}
 use Rattle.rewrite_core.specs.Rewriting.{verdicts_of}
-use Rattle.rewrite_core.specs.Trying.{all_tried}
+use Rattle.rewrite_core.specs.Trying.{all_tried, rewritten}
+use Rattle.sample.specs.Class.{sample_program}
+use Rattle.sample.specs.Tables.{sample_schema, sample_rows}
 use Rattle.sql_ast.specs.Meaning.{query_answer}
 use Rattle.words.specs.declared.command.Command.{Command}
 use Rattle.words.specs.declared.command.Command.TheVariants as commands
@@ -17,10 +24,14 @@ use Rattle.words.specs.Reading.{plain}
 use Rattle.words.proofs.Exact.{reads_plain_words}
 use Rattle.qbs.specs.declared.plan.Plan.{Plan}
 use Rattle.qbs.specs.Calls.{Call, Calls, CallsNothing, word_refusal}
+use Rattle.qbs.specs.Check.{BreaksBundle, bundle_refusal, has_bundle, tells, checks, check_of, check}
 use Rattle.qbs.specs.Commands.{without_store, command, AreRefused}
 use Rattle.qbs.specs.Lines.{verdict_line}
+use Rattle.qbs.specs.Make.{loops_text, method_text, summary, IsResult, IsNotDone, outcome_over, runs, make}
 use Rattle.qbs.specs.Opening.{IsSchemaOf, BreaksSchema, schema_refusal, IsProgramOf, HasNoProgram, has_schema, has_program}
 use Rattle.qbs.specs.Plan.{Given, May, not_yet}
+use Rattle.qbs.specs.Prove.{Proves, prove_of, prove}
+use Rattle.qbs.specs.Results.{names_of}
 use Rattle.qbs.specs.Rewrite.{size_of, budget_of, Rewrites, rewrite_of, rewrite}
 use Rattle.qbs.specs.Run.{IsChosen, chooses, comes_to, comes, call_of, run_of, run, turns_of}
 use Rattle.qbs.specs.Sql.{IsAsked, AsksNothing, answer_plan, answers, sql_of, sql}
@@ -29,12 +40,38 @@ use Rattle.qbs.specs.Tables.{most_bytes, AreRead, AreNotRead, reads_tables, IsFi
 use Rattle.qbs.specs.Top.{MayRead, Alike, HasOnePlan}
 use Rattle.qbs.proofs.OneStep.{IsOne, HasOne, step_one, ends_one}
 use Rattle.qbs.proofs.OneRead.{read_one, tables_one}
-use Rattle.qbs.proofs.OneFound.{schema_one, program_one, rows_one, call_one, query_one}
+use Rattle.qbs.proofs.OneFound.{schema_one, program_one, bundle_one, rows_one, call_one, query_one}
 
 -- ---- `rewrite`
 
-rewrites_alike : (may : May) (tables : Schema) (size budget : ℕ) (t : PlainProgram) (p q : Plan) → Rewrites may tables size budget t p → Rewrites may tables size budget t q → Alike p q
-rewrites_alike may tables size budget t p q a b =
+rewrites_alike : (may : May) (tables : Schema) (size budget : ℕ) (source : List ℕ) (t : PlainProgram) (p q : Plan) → Rewrites may tables size budget source t p → Rewrites may tables size budget source t q → Alike p q
+rewrites_alike may tables size budget source t p q a b =
+    inr (record {
+      lines = flat_map verdict_line (verdicts_of (all_tried tables size budget t));
+      first = a.pruned;
+      second = b.pruned;
+      status = ap (λ (x : Plan). x.status) a.written ∙ sym (ap (λ (x : Plan). x.status) b.written);
+      out = ap (λ (x : Plan). x.out) a.written ∙ (a.output ∙ sym b.output) ∙ sym (ap (λ (x : Plan). x.out) b.written);
+      first_lines = ap (λ (x : Plan). x.rep) a.written;
+      second_lines = ap (λ (x : Plan). x.rep) b.written;
+    })
+
+rewrite_of_one : (may : May) (o : Options) (s t : List ℕ) → HasOne (rewrite_of may o s t)
+rewrite_of_one may o s t =
+    step_one (IsSchemaOf s) (refused (BreaksSchema s) schema_refusal) (λ tables. has_program tables t (λ p. Rewrites may tables (size_of o) (budget_of o) t p)) (schema_one s)
+    (λ tables is. step_one (IsProgramOf tables t) (HasNoProgram tables t) (λ p. Rewrites may tables (size_of o) (budget_of o) t p) (program_one tables t)
+    (λ p read. record { alike = rewrites_alike may tables (size_of o) (budget_of o) t p }))
+
+rewrite_one : (files : Given) (may : May) (o : Options) (schema source : List ℕ) → IsSome (files.told schema) → IsSome (files.told source) → (files.rose → ⊥) → HasOne (rewrite files may o schema source)
+rewrite_one files may o schema source has_schema has_source calm =
+    step_one (IsRead files schema 262144) (IsNotRead files schema 262144 (codes "schema")) (λ s. reads files source 1048576 (codes "source") (λ t. rewrite_of may o s t)) (read_one files schema 262144 (codes "schema") has_schema calm)
+    (λ s is. step_one (IsRead files source 1048576) (IsNotRead files source 1048576 (codes "source")) (λ t. rewrite_of may o s t) (read_one files source 1048576 (codes "source") has_source calm)
+    (λ t has. rewrite_of_one may o s t))
+
+-- ---- `prove`
+
+proves_alike : (may : May) (tables : Schema) (size budget : ℕ) (t : PlainProgram) (p q : Plan) → Proves may tables size budget t p → Proves may tables size budget t q → Alike p q
+proves_alike may tables size budget t p q a b =
     inr (record {
       lines = flat_map verdict_line (verdicts_of (all_tried tables size budget t));
       first = a.pruned;
@@ -45,21 +82,43 @@ rewrites_alike may tables size budget t p q a b =
       second_lines = ap (λ (x : Plan). x.rep) b.written;
     })
 
-rewrite_of_one : (may : May) (o : Options) (s t : List ℕ) → HasOne (rewrite_of may o s t)
-rewrite_of_one may o s t =
-    step_one (IsSchemaOf s) (refused (BreaksSchema s) schema_refusal) (λ tables. has_program tables t (λ p. Rewrites may tables (size_of o) (budget_of o) p)) (schema_one s)
-    (λ tables is. step_one (IsProgramOf tables t) (HasNoProgram tables t) (λ p. Rewrites may tables (size_of o) (budget_of o) p) (program_one tables t)
-    (λ p read. record { alike = rewrites_alike may tables (size_of o) (budget_of o) p }))
+prove_of_one : (may : May) (o : Options) (s t : List ℕ) → HasOne (prove_of may o s t)
+prove_of_one may o s t =
+    step_one (IsSchemaOf s) (refused (BreaksSchema s) schema_refusal) (λ tables. has_program tables t (λ p. Proves may tables (size_of o) (budget_of o) p)) (schema_one s)
+    (λ tables is. step_one (IsProgramOf tables t) (HasNoProgram tables t) (λ p. Proves may tables (size_of o) (budget_of o) p) (program_one tables t)
+    (λ p read. record { alike = proves_alike may tables (size_of o) (budget_of o) p }))
 
-rewrite_one : (files : Given) (may : May) (o : Options) (schema source : List ℕ) → IsSome (files.told schema) → IsSome (files.told source) → (files.rose → ⊥) → HasOne (rewrite files may o schema source)
-rewrite_one files may o schema source has_schema has_source calm =
-    step_one (IsRead files schema 262144) (IsNotRead files schema 262144 (codes "schema")) (λ s. reads files source 1048576 (codes "source") (λ t. rewrite_of may o s t)) (read_one files schema 262144 (codes "schema") has_schema calm)
-    (λ s is. step_one (IsRead files source 1048576) (IsNotRead files source 1048576 (codes "source")) (λ t. rewrite_of may o s t) (read_one files source 1048576 (codes "source") has_source calm)
-    (λ t has. rewrite_of_one may o s t))
+prove_one : (files : Given) (may : May) (o : Options) (schema source : List ℕ) → IsSome (files.told schema) → IsSome (files.told source) → (files.rose → ⊥) → HasOne (prove files may o schema source)
+prove_one files may o schema source has_schema has_source calm =
+    step_one (IsRead files schema 262144) (IsNotRead files schema 262144 (codes "schema")) (λ s. reads files source 1048576 (codes "source") (λ t. prove_of may o s t)) (read_one files schema 262144 (codes "schema") has_schema calm)
+    (λ s is. step_one (IsRead files source 1048576) (IsNotRead files source 1048576 (codes "source")) (λ t. prove_of may o s t) (read_one files source 1048576 (codes "source") has_source calm)
+    (λ t has. prove_of_one may o s t))
+
+-- ---- `check`
+
+tells_one : (tables : Schema) (entries : List Entry) (t : PlainProgram) (c : Checks) (p q : Plan) → tells tables entries t c p → tells tables entries t c q → Alike p q
+tells_one tables entries t (All n made) p q a b = inl (a.1 ∙ sym b.1)
+tells_one tables entries t (Refused ordinal) p q a b = inl (a ∙ sym b)
+
+check_of_one : (s t b : List ℕ) → HasOne (check_of s t b)
+check_of_one s t b =
+    step_one (IsSchemaOf s) (refused (BreaksSchema s) schema_refusal) (λ tables. has_program tables t (λ p. has_bundle b (λ entries. checks tables p entries))) (schema_one s)
+    (λ tables is. step_one (IsProgramOf tables t) (HasNoProgram tables t) (λ p. has_bundle b (λ entries. checks tables p entries)) (program_one tables t)
+    (λ p read. step_one (HasBundle b) (refused (BreaksBundle b) bundle_refusal) (λ entries. checks tables p entries) (bundle_one b)
+    (λ entries has. record { alike = tells_one tables entries p (checked_from tables 0 entries p) })))
+
+check_one : (files : Given) (schema source bundle : List ℕ) → IsSome (files.told schema) → IsSome (files.told source) → IsSome (files.told bundle) → (files.rose → ⊥) → HasOne (check files schema source bundle)
+check_one files schema source bundle has_schema has_source has_evidence calm =
+    step_one (IsRead files schema 262144) (IsNotRead files schema 262144 (codes "schema"))
+    (λ s. reads files source 1048576 (codes "source") (λ t. reads files bundle 16777216 (codes "bundle") (λ b. check_of s t b))) (read_one files schema 262144 (codes "schema") has_schema calm)
+    (λ s is. step_one (IsRead files source 1048576) (IsNotRead files source 1048576 (codes "source"))
+    (λ t. reads files bundle 16777216 (codes "bundle") (λ b. check_of s t b)) (read_one files source 1048576 (codes "source") has_source calm)
+    (λ t has. step_one (IsRead files bundle 16777216) (IsNotRead files bundle 16777216 (codes "bundle")) (λ b. check_of s t b) (read_one files bundle 16777216 (codes "bundle") has_evidence calm)
+    (λ b there. check_of_one s t b)))
 
 -- ---- `run`
 
-chosen_one : (rewritten : Bool) (tables : Schema) (size budget : ℕ) (p : PlainProgram) → IsOne {B = PlainProgram} (IsChosen rewritten tables size budget p) (λ plan. ⊥)
+pub chosen_one : (rewritten : Bool) (tables : Schema) (size budget : ℕ) (p : PlainProgram) → IsOne {B = PlainProgram} (IsChosen rewritten tables size budget p) (λ plan. ⊥)
 chosen_one false tables size budget p = record { same = λ b c x y. x ∙ sym y; stops = λ p q x y. absurd x; apart = λ b p x y. y }
 chosen_one true tables size budget p = record { same = λ b c x y. x.0 ∙ sym y.0; stops = λ p q x y. absurd x; apart = λ b p x y. y }
 
@@ -98,6 +157,27 @@ run_one files o schema source folder call has_schema_file has_source told calm =
     (λ texts. run_of o tables call t texts) (tables_one files folder tables most_bytes (table_files files schema folder s tables read is told) calm)
     (λ texts are. run_of_one o tables call t texts))))
 
+-- ---- `make`
+
+result_one : (o : Outcome) → IsOne {B = Option Value} (IsResult o) (IsNotDone o)
+result_one (Done lines value) = record { same = λ b c x y. x ∙ sym y; stops = λ p q x y. absurd x; apart = λ b p x y. y }
+result_one (Faulted fault at) = record { same = λ b c x y. absurd x; stops = λ p q x y. x ∙ sym y; apart = λ b p x y. x }
+result_one OutOfTurns = record { same = λ b c x y. absurd x; stops = λ p q x y. x ∙ sym y; apart = λ b p x y. x }
+result_one Stuck = record { same = λ b c x y. absurd x; stops = λ p q x y. absurd x; apart = λ b p x y. x }
+
+runs_one : (tables : Schema) (db : Database) (written : List ℕ) (ms : List PlainMethod) → HasOne (runs tables db written ms)
+unfolding runs
+runs_one tables db written [] = ends_one (summary written)
+runs_one tables db written (m ∷ ms) =
+    step_one (IsResult (outcome_over tables db m)) (IsNotDone (outcome_over tables db m)) (λ value. runs tables db (written ++ method_text (names_of tables) m.name value) ms) (result_one (outcome_over tables db m))
+    (λ value is. runs_one tables db (written ++ method_text (names_of tables) m.name value) ms)
+
+make_one : (n : ℕ) → HasOne (make n)
+make_one n =
+    let written = loops_text (verdicts_of (all_tried sample_schema 4 20000 sample_program)) in
+    step_one (IsChosen true sample_schema 4 20000 sample_program) (λ plan. ⊥) (λ q. runs sample_schema (sample_rows n) written q.methods) (chosen_one true sample_schema 4 20000 sample_program)
+    (λ q is. runs_one sample_schema (sample_rows n) written q.methods)
+
 -- ---- `sql`
 
 sql_of_one : (tables : Schema) (query : List ℕ) (texts : List (List ℕ)) → HasOne (sql_of tables query texts)
@@ -134,9 +214,11 @@ command_one files may (commands.Run o schema source folder method words) told ca
     (run_one files o schema source folder (record { method = method; words = words }) (told schema (inl refl)) (told source (inr (inl refl))) (λ name file. told name (inr (inr file))) calm)).alike p q
 command_one files may (commands.Sql schema folder query) told calm p q =
     (sql_one files schema folder query (told schema (inl refl)) (λ name file. told name (inr file)) calm).alike p q
-command_one files may (commands.Prove o s t) told calm p q = unbuilt_one p q
-command_one files may (commands.Check s t b) told calm p q = unbuilt_one p q
-command_one files may (commands.Make n) told calm p q = unbuilt_one p q
+command_one files may (commands.Prove o schema source) told calm p q =
+    (stored_one o.store (prove files may o schema source) (prove_one files may o schema source (told schema (inl refl)) (told source (inr refl)) calm)).alike p q
+command_one files may (commands.Check schema source bundle) told calm p q =
+    (check_one files schema source bundle (told schema (inl refl)) (told source (inr (inl refl))) (told bundle (inr (inr refl))) calm).alike p q
+command_one files may (commands.Make n) told calm p q = (make_one n).alike p q
 command_one files may (commands.Unnest o s t) told calm p q = unbuilt_one p q
 command_one files may (commands.Inline s t) told calm p q = unbuilt_one p q
 command_one files may (commands.Gather o s t) told calm p q = unbuilt_one p q

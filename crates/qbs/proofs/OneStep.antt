@@ -32,7 +32,7 @@ ends_one due = record { alike = λ p q a b. inl (a ∙ sym b) }
 abbrev pub err_of : {A F : Type 0} → F → Result A F
 err_of f = Err f
 
-ok_same : {A F : Type 0} (r : Result A F) (x y : A) → r ≡ Ok x → r ≡ Ok y → x ≡ y
+pub ok_same : {A F : Type 0} (r : Result A F) (x y : A) → r ≡ Ok x → r ≡ Ok y → x ≡ y
 ok_same r x y a b = cc
 
 err_same : {A F : Type 0} (r : Result A F) (x y : F) → r ≡ Err x → r ≡ Err y → x ≡ y

@@ -8,6 +8,7 @@ use Rattle.qbs.specs.declared.fetch.Stop.{Stop}
 use Rattle.qbs.specs.Code.{Goes, OrMemory}
 use Rattle.qbs.specs.Opening.{IsSchemaOf, BreaksSchema, schema_refusal}
 use Rattle.qbs.specs.Plan.{Given, May}
+use Rattle.qbs.specs.Prove.{prove_of, prove}
 use Rattle.qbs.specs.Rewrite.{rewrite_of, rewrite}
 use Rattle.qbs.specs.Steps.{Ends, refused, IsRead, IsNotRead, reads}
 use Rattle.qbs.specs.Tables.{most_bytes, AreRead, AreNotRead, Reads, reads_tables, over_tables}
@@ -56,6 +57,38 @@ pub rewrite_read : (told later : List ℕ → Option (List ℕ)) (rose after : T
 rewrite_read told later rose after may o schema source s t lent lent_too result same read has first second h =
     both_read told later rose after schema source (λ s t. rewrite_of may o s t) s t result same read has
     (subst (λ (x : List ℕ). OrMemory result (rewrite_of may o s x)) second (subst (λ (x : List ℕ). OrMemory result (rewrite_of may o x lent_too)) first h))
+
+-- and of `prove`
+pub prove_unread : (files : Given) (may : May) (o : Options) (schema source : List ℕ) (stop : Stop) →
+    Goes {A = List ℕ} (Err stop) (IsRead files schema 262144) (IsNotRead files schema 262144 (codes "schema")) → OrMemory (Err stop) (prove files may o schema source)
+prove_unread files may o schema source stop h = first_unread files schema source (λ s t. prove_of may o s t) stop h
+
+pub prove_half_read : (told later : List ℕ → Option (List ℕ)) (rose after : Type 0) (may : May) (o : Options) (schema source s : List ℕ) (stop : Stop) →
+    later ≡ told → (after → rose) → IsRead (record { told = told; rose = rose }) schema 262144 s →
+    Goes {A = List ℕ} (Err stop) (IsRead (record { told = later; rose = after }) source 1048576) (IsNotRead (record { told = later; rose = after }) source 1048576 (codes "source")) →
+    OrMemory (Err stop) (prove (record { told = told; rose = rose }) may o schema source)
+prove_half_read told later rose after may o schema source s stop same f read h = second_unread told later rose after schema source (λ s t. prove_of may o s t) s stop same f read h
+
+pub prove_read : (told later : List ℕ → Option (List ℕ)) (rose after : Type 0) (may : May) (o : Options) (schema source s t lent lent_too : List ℕ) (result : Result Plan Stop) →
+    later ≡ told → IsRead (record { told = told; rose = rose }) schema 262144 s → IsRead (record { told = later; rose = after }) source 1048576 t → lent ≡ s → lent_too ≡ t →
+    OrMemory result (prove_of may o lent lent_too) → OrMemory result (prove (record { told = told; rose = rose }) may o schema source)
+prove_read told later rose after may o schema source s t lent lent_too result same read has first second h =
+    both_read told later rose after schema source (λ s t. prove_of may o s t) s t result same read has
+    (subst (λ (x : List ℕ). OrMemory result (prove_of may o s x)) second (subst (λ (x : List ℕ). OrMemory result (prove_of may o x lent_too)) first h))
+
+-- ---- a file that is read later
+
+pub unread_there : (told later : List ℕ → Option (List ℕ)) (rose after : Type 0) (name : List ℕ) (limit : ℕ) (label : List ℕ) (next : List ℕ → Ends) (stop : Stop) → later ≡ told → (after → rose) →
+    Goes {A = List ℕ} (Err stop) (IsRead (record { told = later; rose = after }) name limit) (IsNotRead (record { told = later; rose = after }) name limit label) →
+    OrMemory (Err stop) (reads (record { told = told; rose = rose }) name limit label next)
+unread_there told later rose after name limit label next (Stop.Due plan) same f h = inl (not_read_there told later after rose name limit label plan same f h)
+unread_there told later rose after name limit label next Stop.Memory same f h = tt
+
+pub read_on : (told later : List ℕ → Option (List ℕ)) (rose after : Type 0) (name : List ℕ) (limit : ℕ) (label : List ℕ) (next : List ℕ → Ends) (bytes : List ℕ) (result : Result Plan Stop) → later ≡ told →
+    IsRead (record { told = later; rose = after }) name limit bytes → OrMemory result (next bytes) → OrMemory result (reads (record { told = told; rose = rose }) name limit label next)
+read_on told later rose after name limit label next bytes result same read h =
+    goes_on (IsRead (record { told = told; rose = rose }) name limit) (IsNotRead (record { told = told; rose = rose }) name limit label) next bytes result
+    (read_there told later after rose name limit bytes same read) h
 
 -- ---- a schema, and the files of its tables
 

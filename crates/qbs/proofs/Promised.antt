@@ -1,5 +1,5 @@
 -- What the top call promises follows from a plan that is due and was delivered.
-use Rattle.std.proofs.Common.{◌≡◌, ◌≢◌, ℕ, ◌⊎◌, inl, inr, List, [], ◌∷◌, subst, sym, refl, ◌∙◌, codes, Option, Some, None}
+use Rattle.std.proofs.Common.{◌≡◌, ◌≢◌, ℕ, ◌⊎◌, inl, inr, List, [], ◌∷◌, ◌++◌, subst, sym, refl, ◌∙◌, codes, Option, Some, None}
 use Rattle.std.specs.Io.KnownBytes.{Appends}
 use Rattle.std.specs.List.{flat_map}
 use Rattle.qbs_base.specs.declared.status.Status.{Status}
@@ -10,8 +10,9 @@ use Rattle.qbs_base.specs.Values.{Schema}
 use Rattle.kernel_lang.specs.Plain.{Fragment}
 use Rattle.query_search.specs.Counted.{OneIs}
 use Rattle.rewrite_core.proofs.PrunedTries.{are_pruned, none_pruned}
+use Rattle.rewrite_core.specs.Pruned.{ArePruned}
 use Rattle.rewrite_core.specs.Rewriting.{verdicts_of}
-use Rattle.rewrite_core.specs.Trying.{all_tried}
+use Rattle.rewrite_core.specs.Trying.{Tried, all_tried}
 use Rattle.words.specs.declared.command.Command.{Command}
 use Rattle.words.specs.declared.command.Command.TheVariants as commands
 use Rattle.words.specs.declared.command.Options.{Options}
@@ -21,8 +22,8 @@ use Rattle.words.proofs.Exact.{reads_plain_words}
 use Rattle.qbs.specs.declared.plan.Plan.{Plan}
 use Rattle.qbs.specs.Commands.{without_store, command, HasNoWords, IsDue}
 use Rattle.qbs.specs.Deliver.{Change}
-use Rattle.qbs.specs.Headline.{IsRewritten, IsHeadline, HasHeadline, DropsNone}
-use Rattle.qbs.specs.Lines.{verdict_line, report_text}
+use Rattle.qbs.specs.Headline.{IsRewritten, IsHeadline, HasHeadline}
+use Rattle.qbs.specs.Lines.{verdict_line, pruned_line, report_text}
 use Rattle.qbs.specs.Opening.{HasNoProgram}
 use Rattle.qbs.specs.Plan.{Given, May}
 use Rattle.qbs.specs.Rewrite.{size_of, budget_of, rewrite_of, rewrite}
@@ -120,7 +121,7 @@ rewritten_of may o s t plan (inr (tables, is, inr (p, read, h))) ok =
       has_program = read.has_program;
       typed = read.typed;
       text = h.text;
-      exact = refl;
+      output = h.output;
       well = h.rewriting.well;
       keeps = h.rewriting.keeps;
       pruned = h.pruned;
@@ -140,7 +141,7 @@ stored : (files : Given) (may : May) (o : Options) (schema source : List ℕ) (p
 stored files may o schema source plan None h ok = rewrote files may o schema source plan h ok
 stored files may o schema source plan (Some name) h ok = let e : statuses.NotYet ≡ statuses.Ok = subst (λ (p : Plan). p.status ≡ statuses.Ok) h ok in absurd cc
 
-command_is : (o : Option Command) (b c : Command) → o ≡ Some b → o ≡ Some c → b ≡ c
+pub command_is : (o : Option Command) (b c : Command) → o ≡ Some b → o ≡ Some c → b ≡ c
 command_is o b c x y = cc
 
 due_rewrote : (files : Given) (may : May) (words : List (List ℕ)) (o : Options) (schema source : List ℕ) (plan : Plan) → HasWords words (commands.Rewrite o schema source) → IsDue files may words plan → plan.status ≡ statuses.Ok →
@@ -175,17 +176,22 @@ headline files may words out rep result done o schema source has ok =
 
 -- ---- without pruners
 
--- where nothing may be dropped, the report says last that nothing was
-pub drops_none : (files : Given) (may : May) (words : List (List ℕ)) (out rep : Change) (result : Status) → IsDone files may words out rep result → ((f : Fragment) (c : List ℕ) → may.drops f c → ⊥) → DropsNone words rep result
-drops_none files may words out rep result done never o schema source has ok =
-    let h : IsHeadline files may o schema source out rep = headline files may words out rep result done o schema source has ok in
-    let ts = all_tried h.is.tables (size_of o) (budget_of o) h.is.program in
-    let none : h.is.pruned ≡ 0 =
-    none_pruned {P = Unit {0}} (λ p f c. ⊥) may.keeps [] refl (size_of o) ts h.is.pruned
-    (are_pruned may.drops may.keeps (λ f c. OneIs {P = Unit {0}} (λ p. ⊥) []) may.keeps never (λ f c k. k) (size_of o) ts h.is.pruned h.is.counted) in (
+-- where nothing may be dropped, a report says last that nothing was
+pub none_dropped : (may : May) (size : ℕ) (ts : List Tried) (n : ℕ) (lines : List ℕ) (rep : Change) → ((f : Fragment) (c : List ℕ) → may.drops f c → ⊥) → ArePruned may.drops may.keeps size ts n →
+    lines ≡ report_text ts n → Appends rep.old rep.new lines → (front : List ℕ) × Appends rep.old rep.new (front ++ pruned_line 0)
+none_dropped may size ts n lines rep never counted report wrote =
+    let none : n ≡ 0 =
+    none_pruned {P = Unit {0}} (λ p f c. ⊥) may.keeps [] refl size ts n
+    (are_pruned may.drops may.keeps (λ f c. OneIs {P = Unit {0}} (λ p. ⊥) []) may.keeps never (λ f c k. k) size ts n counted) in (
       flat_map verdict_line (verdicts_of ts),
-      subst (λ (n : ℕ). Appends rep.old rep.new (report_text ts n)) none (subst (λ (lines : List ℕ). Appends rep.old rep.new lines) h.is.report h.wrote_lines),
+      subst (λ (m : ℕ). Appends rep.old rep.new (report_text ts m)) none (subst (λ (text : List ℕ). Appends rep.old rep.new text) report wrote),
     )
+
+pub rewrite_drops_none : (files : Given) (may : May) (words : List (List ℕ)) (out rep : Change) (result : Status) → IsDone files may words out rep result → ((f : Fragment) (c : List ℕ) → may.drops f c → ⊥) →
+    (o : Options) (schema source : List ℕ) → HasWords words (commands.Rewrite o schema source) → result ≡ statuses.Ok → (front : List ℕ) × Appends rep.old rep.new (front ++ pruned_line 0)
+rewrite_drops_none files may words out rep result done never o schema source has ok =
+    let h : IsHeadline files may o schema source out rep = headline files may words out rep result done o schema source has ok in
+    none_dropped may (size_of o) (all_tried h.is.tables (size_of o) (budget_of o) h.is.program) h.is.pruned h.lines rep never h.is.counted h.is.report h.wrote_lines
 
 pub no_one : {P : Type 0} (S : P → Type 0) (ps : List P) → ps ≡ [] → OneIs S ps → ⊥
 no_one S [] e h = h

@@ -23,11 +23,11 @@ all_within (more takes spells sets rest) h = all_within rest (set_within sets h)
 
 named_within : {verb : Verb} {o : Options} {ts : List (List ℕ)} {c : Command} → Names verb o ts c → AreWithin o → IsWithin c
 named_within has.rewrite h = h
-named_within has.prove h = tt
+named_within has.prove h = h
 named_within has.check h = tt
 named_within has.run h = h
 named_within has.sql h = tt
-named_within (has.make a b) h = tt
+named_within (has.make a b) h = b
 named_within has.unnest h = tt
 named_within has.inline h = tt
 named_within has.gather h = tt

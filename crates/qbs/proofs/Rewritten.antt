@@ -9,6 +9,7 @@ use Rattle.qbs.specs.declared.fetch.Stop.{Stop}
 use Rattle.qbs.specs.Code.{Goes, OrMemory, run_called}
 use Rattle.qbs.specs.Opening.{IsSchemaOf, BreaksSchema, schema_refusal, IsProgramOf, HasNoProgram}
 use Rattle.qbs.specs.Plan.{May}
+use Rattle.qbs.specs.Prove.{Proves, prove_of}
 use Rattle.qbs.specs.Rewrite.{size_of, budget_of, IsRewriting, Rewrites, rewrite_of}
 use Rattle.qbs.specs.Run.{IsChosen, chooses, call_of, run_of, turns_of}
 use Rattle.qbs.specs.Calls.{Call}
@@ -25,10 +26,26 @@ program_lacking Is may o s t tables (Stop.Due plan) is h = inr (tables, is, inl 
 program_lacking Is may o s t tables Stop.Memory is h = tt
 
 pub all_found : (may : May) (o : Options) (s t : List ℕ) (tables : Schema) (p : PlainProgram) (result : Result Plan Stop) → IsSchemaOf s tables → IsProgramOf tables t p →
-    OrMemory result (Rewrites may tables (size_of o) (budget_of o) p) → OrMemory result (rewrite_of may o s t)
+    OrMemory result (Rewrites may tables (size_of o) (budget_of o) t p) → OrMemory result (rewrite_of may o s t)
 all_found may o s t tables p (Ok plan) is has h = inr (tables, is, inr (p, has, h))
 all_found may o s t tables p (Err (Stop.Due plan)) is has h = inr (tables, is, inr (p, has, h))
 all_found may o s t tables p (Err Stop.Memory) is has h = tt
+
+-- ---- `prove`
+
+pub prove_schema_lacking : (may : May) (o : Options) (s t : List ℕ) (stop : Stop) → Goes {A = Schema} (Err stop) (IsSchemaOf s) (refused (BreaksSchema s) schema_refusal) → OrMemory (Err stop) (prove_of may o s t)
+prove_schema_lacking may o s t (Stop.Due plan) h = inl h
+prove_schema_lacking may o s t Stop.Memory h = tt
+
+pub prove_program_lacking : {A : Type 0} (Is : A → Type 0) (may : May) (o : Options) (s t : List ℕ) (tables : Schema) (stop : Stop) → IsSchemaOf s tables → Goes {A = A} (Err stop) Is (HasNoProgram tables t) → OrMemory (Err stop) (prove_of may o s t)
+prove_program_lacking Is may o s t tables (Stop.Due plan) is h = inr (tables, is, inl h)
+prove_program_lacking Is may o s t tables Stop.Memory is h = tt
+
+pub prove_found : (may : May) (o : Options) (s t : List ℕ) (tables : Schema) (p : PlainProgram) (result : Result Plan Stop) → IsSchemaOf s tables → IsProgramOf tables t p →
+    OrMemory result (Proves may tables (size_of o) (budget_of o) p) → OrMemory result (prove_of may o s t)
+prove_found may o s t tables p (Ok plan) is has h = inr (tables, is, inr (p, has, h))
+prove_found may o s t tables p (Err (Stop.Due plan)) is has h = inr (tables, is, inr (p, has, h))
+prove_found may o s t tables p (Err Stop.Memory) is has h = tt
 
 -- ---- `run`
 

@@ -1,5 +1,5 @@
 -- What is due for words that are plain, and for others.
-use Rattle.std.proofs.Common.{◌≡◌, ℕ, List, [], Option, Some, None, Result, Err, sym, subst, inl, codes}
+use Rattle.std.proofs.Common.{◌≡◌, ℕ, ◌<◌, ◌≤◌, ◌^◌, List, [], Option, Some, None, Result, Err, sym, subst, inl, codes, arith}
 use Rattle.qbs_base.specs.declared.status.Status.{Status}
 use Rattle.words.specs.declared.command.Command.{Command}
 use Rattle.words.specs.declared.command.Command.TheVariants as commands
@@ -11,7 +11,10 @@ use Rattle.qbs.specs.declared.plan.Plan.{Plan}
 use Rattle.qbs.specs.declared.fetch.Stop.{Stop}
 use Rattle.qbs.specs.Code.{OrMemory, StopsFor}
 use Rattle.qbs.specs.Commands.{without_store, command, HasNoWords, AreRefused, program}
+use Rattle.qbs.specs.Check.{check}
+use Rattle.qbs.specs.Make.{make}
 use Rattle.qbs.specs.Plan.{Given, May}
+use Rattle.qbs.specs.Prove.{prove}
 use Rattle.qbs.specs.Rewrite.{rewrite}
 use Rattle.qbs.specs.Sql.{sql}
 use Rattle.qbs.specs.Within.{IsWithin}
@@ -47,3 +50,17 @@ rewrite_due files may c o schema source result is h = subst (λ (d : Command). O
 pub sql_due : (files : Given) (may : May) (c : Command) (schema folder query : List ℕ) (result : Result Plan Stop) → c ≡ commands.Sql schema folder query →
     OrMemory result (sql files schema folder query) → OrMemory result (command files may c)
 sql_due files may c schema folder query result is h = subst (λ (d : Command). OrMemory result (command files may d)) (sym is) h
+
+pub prove_due : (files : Given) (may : May) (c : Command) (o : Options) (schema source : List ℕ) (result : Result Plan Stop) → c ≡ commands.Prove o schema source →
+    OrMemory result (without_store o.store (prove files may o schema source)) → OrMemory result (command files may c)
+prove_due files may c o schema source result is h = subst (λ (d : Command). OrMemory result (command files may d)) (sym is) h
+
+pub check_due : (files : Given) (may : May) (c : Command) (schema source bundle : List ℕ) (result : Result Plan Stop) → c ≡ commands.Check schema source bundle →
+    OrMemory result (check files schema source bundle) → OrMemory result (command files may c)
+check_due files may c schema source bundle result is h = subst (λ (d : Command). OrMemory result (command files may d)) (sym is) h
+
+pub make_due : (files : Given) (may : May) (c : Command) (n : ℕ) (result : Result Plan Stop) → c ≡ commands.Make n → OrMemory result (make n) → OrMemory result (command files may c)
+make_due files may c n result is h = subst (λ (d : Command). OrMemory result (command files may d)) (sym is) h
+
+pub make_within : (c : Command) (n : ℕ) → c ≡ commands.Make n → IsWithin c → n < 2 ^ 63
+make_within c n is h = let few : n ≤ 100000 = subst IsWithin is h in omega arith

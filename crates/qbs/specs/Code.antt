@@ -1,9 +1,10 @@
 -- What only the code's contracts speak of: what comes of a step, and a command's last steps as a function.
-use Rattle.std.specs.Prelude.{◌≡◌, ℕ, ◌++◌, List, [], ◌∷◌, Bool, true, false, Result, Ok, Err, ⊤}
+use Rattle.std.specs.Prelude.{◌≡◌, ℕ, ◌++◌, List, [], ◌∷◌, Bool, true, false, Result, Ok, Err, ⊤, slice_get}
 use Rattle.std.specs.declared.option.Option.{Option}
 use Rattle.std.specs.declared.option.Option.TheVariants.{Some, None}
 use Rattle.qbs_base.specs.declared.scalar.Scalar.{Scalar}
 use Rattle.qbs_base.specs.declared.scalar.Ty.{Ty}
+use Rattle.qbs_base.specs.declared.scalar.Value.{Value}
 use Rattle.qbs_base.specs.declared.status.Status.{Status}
 use Rattle.qbs_base.specs.Values.{Schema, Database}
 use Rattle.java_ast.specs.Tree.{PlainMethod, PlainProgram}
@@ -19,7 +20,9 @@ use Rattle.qbs.specs.declared.plan.Plan.{Plan}
 use Rattle.qbs.specs.declared.fetch.Stop.{Stop}
 use Rattle.qbs.specs.declared.run.Asked.{Asked}
 use Rattle.qbs.specs.Calls.{Call, arguments, method_named, word_refusal}
+use Rattle.qbs.specs.Make.{method_text, IsResult, IsNotDone, outcome_over}
 use Rattle.qbs.specs.Plan.{refusal}
+use Rattle.qbs.specs.Results.{names_of}
 use Rattle.qbs.specs.Run.{comes_to}
 use Rattle.qbs.specs.Sql.{answer_plan}
 use Rattle.qbs.specs.Steps.{Ends}
@@ -84,3 +87,17 @@ answer_ordered tables texts q true = answer_with tables texts q (params_in q)
 abbrev pub answer_of : Schema → List (List ℕ) → Option PlainQuery → Plan
 answer_of tables texts None = word_refusal types.BadQuery
 answer_of tables texts (Some q) = answer_ordered tables texts q (has_order (Some q))
+
+-- ---- A run of `make`
+
+-- the method with this number is done, and its result is written behind what was
+pub record HasRun (tables : Schema) (db : Database) (ms : List PlainMethod) (n : ℕ) (old new : List ℕ) : Type 0 where
+  pub method : PlainMethod
+  pub value : Option Value
+  pub there : slice_get ms n ≡ Some method
+  pub done : IsResult (outcome_over tables db method) value
+  pub written : new ≡ old ++ method_text (names_of tables) method.name value
+
+-- it isn't done
+abbrev pub HasNoRun : Schema → Database → List PlainMethod → ℕ → Ends
+HasNoRun tables db ms n plan = (m : PlainMethod) × (slice_get ms n ≡ Some m) × IsNotDone (outcome_over tables db m) plan

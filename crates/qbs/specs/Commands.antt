@@ -5,7 +5,10 @@ use Rattle.std.specs.declared.option.Option.TheVariants.{Some, None}
 use Rattle.words.specs.declared.command.Command.{Command}
 use Rattle.words.specs.declared.command.Command.TheVariants as commands
 use Rattle.words.specs.Plain.{HasWords}
+use Rattle.qbs.specs.Check.{check}
 use Rattle.qbs.specs.Plan.{Given, May, no_memory, not_yet, bad_words}
+use Rattle.qbs.specs.Prove.{prove}
+use Rattle.qbs.specs.Make.{make}
 use Rattle.qbs.specs.Rewrite.{rewrite}
 use Rattle.qbs.specs.Run.{run}
 use Rattle.qbs.specs.Sql.{sql}
@@ -19,9 +22,12 @@ without_store (Some name) next plan = ends not_yet plan
 -- the other commands aren't built yet
 abbrev pub command : Given → May → Command → Ends
 command files may (commands.Rewrite o schema source) plan = without_store o.store (rewrite files may o schema source) plan
+command files may (commands.Prove o schema source) plan = without_store o.store (prove files may o schema source) plan
+command files may (commands.Check schema source bundle) plan = check files schema source bundle plan
 command files may (commands.Run o schema source folder method words) plan =
     without_store o.store (run files o schema source folder (record { method = method; words = words })) plan
 command files may (commands.Sql schema folder query) plan = sql files schema folder query plan
+command files may (commands.Make n) plan = make n plan
 command files may _ plan = ends not_yet plan
 
 -- the words aren't plain

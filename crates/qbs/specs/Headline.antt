@@ -1,5 +1,5 @@
--- The headline: what `rewrite` wrote where it ends well, of the very program that was read.
-use Rattle.std.specs.Prelude.{◌≡◌, ℕ, List, ◌++◌, Ok}
+-- The headline: what `rewrite` wrote where it ends well, of the very program and the very bytes that were read.
+use Rattle.std.specs.Prelude.{◌≡◌, ◌⊎◌, ℕ, List, ◌++◌, Ok}
 use Rattle.std.specs.Io.KnownBytes.{Appends}
 use Rattle.qbs_base.specs.declared.status.Status.{Status}
 use Rattle.qbs_base.specs.Values.{Schema}
@@ -10,8 +10,8 @@ use Rattle.java_mean.specs.Keeps.{Keeps}
 use Rattle.java_mean.specs.WellTyped.{IsWellTyped}
 use Rattle.java_grammar.specs.Grammar.{IsReadable}
 use Rattle.java_grammar.specs.ReadBack.{IsReadBack}
-use Rattle.java_text.specs.Canonical.{canonical}
 use Rattle.java_types.specs.Texts.{read_by}
+use Rattle.rewrite_core.specs.Patches.{patched_text}
 use Rattle.rewrite_core.specs.Pruned.{ArePruned}
 use Rattle.rewrite_core.specs.Rewriting.{StandAsTried}
 use Rattle.rewrite_core.specs.Trying.{all_tried, rewritten}
@@ -34,9 +34,10 @@ pub record IsRewritten (may : May) (size budget : ℕ) (schema source out rep : 
   pub has_tokens : lexed source ≡ Ok tokens
   pub has_program : IsReadable tokens.list program
   pub typed : IsWellTyped tables (read_by tables) program
-  -- text: what is written is a text of the program after all tries, which is well typed
+  -- text: what is written is a text of the program after all tries, which is well typed. It is the source with statements in canonical layout in
+  -- place of what gave way: all other bytes stay.
   pub text : IsReadBack out (rewritten tables size budget program)
-  pub exact : out ≡ canonical (rewritten tables size budget program)
+  pub output : out ≡ patched_text source (all_tried tables size budget program)
   pub well : IsWellTyped tables (read_by tables) (rewritten tables size budget program)
   -- meaning
   pub keeps : Keeps program (rewritten tables size budget program) tables
@@ -63,7 +64,7 @@ abbrev pub HasHeadline : Given → May → List (List ℕ) → Change → Change
 HasHeadline files may words out rep result =
     (o : Options) (schema source : List ℕ) → HasWords words (commands.Rewrite o schema source) → result ≡ Status.Ok → IsHeadline files may o schema source out rep
 
--- the report of `rewrite` says last that no candidate was dropped
+-- the report of `rewrite`, or of `prove`, says last that no candidate was dropped
 abbrev pub DropsNone : List (List ℕ) → Change → Status → Type 0
 DropsNone words rep result =
-    (o : Options) (schema source : List ℕ) → HasWords words (commands.Rewrite o schema source) → result ≡ Status.Ok → (lines : List ℕ) × Appends rep.old rep.new (lines ++ pruned_line 0)
+    (o : Options) (schema source : List ℕ) → HasWords words (commands.Rewrite o schema source) ⊎ HasWords words (commands.Prove o schema source) → result ≡ Status.Ok → (lines : List ℕ) × Appends rep.old rep.new (lines ++ pruned_line 0)

@@ -1,11 +1,16 @@
 pub mod Calls
+pub mod Check
 pub mod Code
 pub mod Commands
+pub mod Complete
 pub mod Deliver
+pub mod Evidence
 pub mod Headline
 pub mod Lines
+pub mod Make
 pub mod Opening
 pub mod Plan
+pub mod Prove
 pub mod Results
 pub mod Rewrite
 pub mod Run

@@ -3,6 +3,7 @@ use Rattle.std.specs.Prelude.{ℕ, List, ◌++◌, codes}
 use Rattle.std.specs.Fmt.{decimal}
 use Rattle.std.specs.List.{flat_map}
 use Rattle.qbs_base.specs.declared.span.Span.{Span}
+use Rattle.deriv_check.specs.declared.fault.BundleFault.{BundleFault}
 use Rattle.java_lex.specs.declared.token.LexFault.{LexFault}
 use Rattle.java_lex.specs.RuleNames as lexical
 use Rattle.java_mean.specs.declared.ending.RunFault.{RunFault}
@@ -56,6 +57,10 @@ row_text table number name row = codes "qbs: data: " ++ table ++ codes ": " ++ d
 -- the fault of a table's rows
 abbrev pub data_text : List ℕ → DataFault → List ℕ
 data_text table fault = row_text table (schemas.data_rule_number fault.rule) (schemas.data_rule_name fault.rule) fault.row
+
+-- the fault of bytes that are no bundle
+abbrev pub bundle_fault_text : BundleFault → List ℕ
+bundle_fault_text fault = codes "qbs: bundle: at " ++ decimal fault.offset
 
 abbrev pub fault_text : RunFault → Span → List ℕ
 fault_text fault at = codes "qbs: fault: " ++ rule_text (types.fault_number fault) (types.fault_name fault) at

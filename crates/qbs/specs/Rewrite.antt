@@ -1,4 +1,4 @@
--- The command `rewrite`: the loops of a program are tried, and the program that is left is written.
+-- The command `rewrite`: the loops of a program are tried, and the source is written with patches in place of those that gave way.
 use Rattle.std.specs.Prelude.{◌≡◌, ℕ, List, codes}
 use Rattle.std.specs.declared.option.Option.{Option}
 use Rattle.std.specs.declared.option.Option.TheVariants.{Some, None}
@@ -8,8 +8,8 @@ use Rattle.java_ast.specs.Tree.{PlainProgram}
 use Rattle.java_mean.specs.Keeps.{Keeps}
 use Rattle.java_mean.specs.WellTyped.{IsWellTyped}
 use Rattle.java_grammar.specs.ReadBack.{IsReadBack}
-use Rattle.java_text.specs.Canonical.{canonical}
 use Rattle.java_types.specs.Texts.{read_by}
+use Rattle.rewrite_core.specs.Patches.{patched_text}
 use Rattle.rewrite_core.specs.Pruned.{ArePruned}
 use Rattle.rewrite_core.specs.Rewriting.{StandAsTried}
 use Rattle.rewrite_core.specs.Trying.{all_tried, rewritten}
@@ -41,23 +41,25 @@ pub record IsRewriting (tables : Schema) (size budget : ℕ) (p : PlainProgram) 
   pub keeps : Keeps p (rewritten tables size budget p) tables
   pub standing : StandAsTried (all_tried tables size budget p) (rewritten tables size budget p)
 
-abbrev pub rewriting_plan : Schema → ℕ → ℕ → PlainProgram → ℕ → Plan
-rewriting_plan tables size budget p pruned =
-    record { status = Status.Ok; out = canonical (rewritten tables size budget p); rep = report_text (all_tried tables size budget p) pruned }
+abbrev pub rewriting_plan : Schema → ℕ → ℕ → PlainProgram → List ℕ → ℕ → Plan
+rewriting_plan tables size budget p out pruned =
+    record { status = Status.Ok; out = out; rep = report_text (all_tried tables size budget p) pruned }
 
--- the canonical text of the program that is left is written, which is read back as it, and what is said of each loop
-pub record Rewrites (may : May) (tables : Schema) (size budget : ℕ) (p : PlainProgram) (plan : Plan) : Type 0 where
+-- The source is written with statements in place of what gave way, which is read back as the program that is left, and what is said of each loop.
+pub record Rewrites (may : May) (tables : Schema) (size budget : ℕ) (source : List ℕ) (p : PlainProgram) (plan : Plan) : Type 0 where
   pub rewriting : IsRewriting tables size budget p
-  pub text : IsReadBack (canonical (rewritten tables size budget p)) (rewritten tables size budget p)
+  pub out : List ℕ
+  pub output : out ≡ patched_text source (all_tried tables size budget p)
+  pub text : IsReadBack out (rewritten tables size budget p)
   pub pruned : ℕ
   pub counted : ArePruned may.drops may.keeps size (all_tried tables size budget p) pruned
-  pub written : plan ≡ rewriting_plan tables size budget p pruned
+  pub written : plan ≡ rewriting_plan tables size budget p out pruned
 
 -- ---- The command
 
 -- over the bytes of a schema and a source
 abbrev pub rewrite_of : May → Options → List ℕ → List ℕ → Ends
-rewrite_of may o schema source = has_schema schema (λ tables. has_program tables source (λ p. Rewrites may tables (size_of o) (budget_of o) p))
+rewrite_of may o schema source = has_schema schema (λ tables. has_program tables source (λ p. Rewrites may tables (size_of o) (budget_of o) source p))
 
 abbrev pub rewrite : Given → May → Options → List ℕ → List ℕ → Ends
 rewrite files may o schema source =

@@ -33,6 +33,8 @@ pub record CutShort (files : Given) (may : May) (words : List (List ℕ)) (out r
 -- the files that a command may read
 abbrev pub MayRead : (List ℕ → Option (List ℕ)) → Command → List ℕ → Type 0
 MayRead told (commands.Rewrite o schema source) name = (name ≡ schema) ⊎ (name ≡ source)
+MayRead told (commands.Prove o schema source) name = (name ≡ schema) ⊎ (name ≡ source)
+MayRead told (commands.Check schema source bundle) name = (name ≡ schema) ⊎ (name ≡ source) ⊎ (name ≡ bundle)
 MayRead told (commands.Run o schema source folder method words) name = (name ≡ schema) ⊎ (name ≡ source) ⊎ IsTableFile told schema folder name
 MayRead told (commands.Sql schema folder query) name = (name ≡ schema) ⊎ IsTableFile told schema folder name
 MayRead told _ name = ⊥

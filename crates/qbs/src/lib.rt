@@ -2,13 +2,16 @@
 #![tactic(auto)]
 
 mod arguments;
+mod check;
 mod clean;
 mod deliver;
 mod fetch;
 pub mod laws;
 mod lines;
+mod make;
 mod opening;
 mod plan;
+mod prove;
 mod report;
 mod results;
 mod rewrite;
@@ -20,3 +23,4 @@ mod top;
 pub use clean::qbs_main_over_clean_ends;
 pub use plan::Plan;
 pub use top::qbs_main;
+pub use words::schema_word;

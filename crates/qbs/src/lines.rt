@@ -1,13 +1,15 @@
 // The lines of refusals by numbered rules.
 ghost use Rattle.std.specs.Prelude.{◌≡◌, ◌++◌, [], IfOk, string_bytes};
 ghost use Rattle.qbs.specs.Calls.{word_refusal};
+ghost use Rattle.qbs.specs.Check.{bundle_refusal};
 ghost use Rattle.qbs.specs.Code.{StopsWith};
-ghost use Rattle.qbs.specs.Lines.{nowhere as no_place, data_text, row_text, fault_text, rule_text};
+ghost use Rattle.qbs.specs.Lines.{nowhere as no_place, bundle_fault_text, data_text, row_text, fault_text, rule_text};
 ghost use Rattle.qbs.specs.Opening.{schema_refusal, lex_refusal, parse_refusal, type_refusal};
 ghost use Rattle.qbs.specs.Plan.{line, refusal};
 
 use crate::Plan;
 use crate::fetch::Stop;
+use deriv_check::BundleFault;
 use java_lex::LexFault;
 use java_mean::{RunFault, TypeFault, TypeRule};
 use java_parser::ParseFault;
@@ -135,6 +137,24 @@ pub fn data_refused(alloc: Global, table: &Name, fault: &DataFault) -> Stop
     let name = fault.rule.name();
     match row_line(alloc, table.as_str(), number, name, fault.row) {
         Ok(line) => stop(alloc, Status::Data, line),
+        Err(_) => Stop::Memory,
+    }
+}
+
+fn offset_line(alloc: Global, fault: &BundleFault) -> Result<String, AllocError>
+    ensures { IfOk result (λ s. string_bytes s ≡ line (bundle_fault_text fault.now)) }
+{
+    let offset = fault.offset;
+    let line = format!(in alloc; "qbs: bundle: at {offset}\n")?;
+    Ok(line)
+}
+
+/// The refusal of bytes that are no bundle.
+pub fn bundle_refused(alloc: Global, fault: &BundleFault) -> Stop
+    ensures { StopsWith (bundle_refusal fault.now) result }
+{
+    match offset_line(alloc, fault) {
+        Ok(line) => stop(alloc, Status::Bundle, line),
         Err(_) => Stop::Memory,
     }
 }

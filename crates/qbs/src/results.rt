@@ -8,8 +8,8 @@ use crate::Plan;
 use qbs_base::{Bytes, Names, NoMemory, Status, Table, Text, Value, print_value};
 use std::alloc::Global;
 
-// The names of tables by their numbers.
-fn table_names(alloc: Global, tables: &[Table]) -> Result<Names, NoMemory>
+/// The names of tables by their numbers.
+pub fn table_names(alloc: Global, tables: &[Table]) -> Result<Names, NoMemory>
     ensures { IfOk result (λ names. names ≡ names_of tables.now) }
 {
     let mut names = Names::new(alloc);

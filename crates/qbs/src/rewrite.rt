@@ -2,9 +2,6 @@
 ghost use Rattle.std.specs.Prelude.{◌≡◌, ◌≤◌, ◌++◌, IfOk};
 ghost use Rattle.std.specs.List.{flat_map};
 ghost use Rattle.java_ast.specs.Reading.{program as plain_program};
-ghost use Rattle.java_mean.specs.WellTyped.{IsWellTyped};
-ghost use Rattle.java_text.specs.Canonical.{canonical};
-ghost use Rattle.java_types.specs.Texts.{read_by};
 ghost use Rattle.qbs_base.specs.Outside.{Rose};
 ghost use Rattle.qbs.specs.Code.{OrMemory};
 ghost use Rattle.qbs.specs.Lines.{verdict_line, pruned_line};
@@ -17,11 +14,9 @@ use crate::Plan;
 use crate::fetch::{Stop, fetch};
 use crate::opening::{open_program, open_schema};
 use crate::report::report;
-use java_grammar::{canonical_text_is_read_back, programs_of_texts_are_read_back};
-use java_text::print_program;
 use java_types::Typed;
 use kernel_lang::{Candidate, KFragment, PruneAnswer};
-use qbs_base::{Bytes, Files, NoMemory, Status, Text};
+use qbs_base::{Files, NoMemory, Status, Text};
 use query_search::Pruner;
 use rewrite_core::{Rewritten, rewrite};
 use schema::Schema;
@@ -97,7 +92,7 @@ pub fn budget_of(options: &Options) -> u64
     }
 }
 
-// The program that is left, and the report.
+// The output of the program that is left, and the report.
 fn plan_program(
     alloc: Global,
     options: &Options,
@@ -110,31 +105,23 @@ fn plan_program(
     requires program { IsProgramOf schema.now source.now (plain_program typed.now.program) }
     ensures { OrMemory result (Rewrites
         (may (λ p. ⟦<Box<dyn Fn(&KFragment, &Candidate) -> PruneAnswer> as Fn(&KFragment, &Candidate) -> PruneAnswer>⟧.post p.call) pruners.now)
-        schema.now (size_in options.now) (budget_in options.now) (plain_program typed.now.program)) }
+        schema.now (size_in options.now) (budget_in options.now) source.now (plain_program typed.now.program)) }
 {
     let size = size_of(options);
     let budget = budget_of(options);
-    let rewritten = rewrite(alloc, schema, typed, size, budget, pruners)?;
-    programs_of_texts_are_read_back();
-    canonical_text_is_read_back();
-    Ok(plan_left(alloc, &rewritten)?)
+    let rewritten = rewrite(alloc, schema, typed, source, size, budget, pruners)?;
+    Ok(plan_left(alloc, rewritten)?)
 }
 
-// The canonical text of what is left, and the report.
-fn plan_left(alloc: Global, rewritten: &Rewritten) -> Result<Plan, NoMemory>
+// The output, and the report.
+fn plan_left(alloc: Global, rewritten: Rewritten) -> Result<Plan, NoMemory>
     ensures { IfOk result (λ plan.
-        plan
-        ≡ record {
-          status = Status.Ok;
-          out = canonical (plain_program rewritten.now.program);
-          rep = flat_map verdict_line rewritten.now.verdicts ++ pruned_line rewritten.now.dropped;
-        }) }
+        plan ≡ record { status = Status.Ok; out = rewritten.text; rep = flat_map verdict_line rewritten.verdicts ++ pruned_line rewritten.dropped }) }
 {
-    let text = print_program(alloc, &rewritten.program)?;
     let rep = report(alloc, rewritten.verdicts.as_slice(), rewritten.dropped)?;
     Ok(Plan {
         status: Status::Ok,
-        out: Bytes::from_vec(text.into_vec()),
+        out: rewritten.text,
         rep,
     })
 }

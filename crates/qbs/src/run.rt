@@ -5,6 +5,7 @@ ghost use Rattle.java_ast.specs.Reading.{program as plain_program};
 ghost use Rattle.java_interp.specs.Reached.{outcome_in};
 ghost use Rattle.java_mean.specs.WellTyped.{IsWellTyped};
 ghost use Rattle.java_types.specs.Texts.{read_by};
+ghost use Rattle.rewrite_core.specs.Output.{IsSourceOf};
 ghost use Rattle.rewrite_core.specs.Trying.{rewritten as rewritten_in};
 ghost use Rattle.qbs.specs.Code.{OrMemory, call_in, run_called};
 ghost use Rattle.qbs.specs.Plan.{given};
@@ -115,7 +116,7 @@ fn plan_source(
     ensures { OrMemory result (run_of options.now schema.now (call_in call.now) source.now texts.now) }
 {
     let typed = open_program(alloc, schema, source)?;
-    plan_chosen(alloc, options, schema, &typed, texts, call, pruners)
+    plan_chosen(alloc, options, schema, source, &typed, texts, call, pruners)
 }
 
 // What is due for the program, or for the rewritten one.
@@ -124,6 +125,7 @@ fn plan_chosen(
     alloc: Global,
     options: &Options,
     schema: &Schema,
+    source: &[u8],
     typed: &Typed,
     texts: &[Bytes],
     call: &Asked,
@@ -132,6 +134,7 @@ fn plan_chosen(
     requires within { AreWithin options.now }
     requires tables { length texts.now ≡ length schema.now }
     requires typed { IsWellTyped schema.now (read_by schema.now) (plain_program typed.now.program) }
+    requires source { IsSourceOf source.now (plain_program typed.now.program) }
     ensures { OrMemory result (
         chooses options.now schema.now (plain_program typed.now.program) (call_of schema.now texts.now (call_in call.now) (turns_in options.now))) }
 {
@@ -139,7 +142,7 @@ fn plan_chosen(
     if !options.rewritten {
         return plan_call(alloc, schema, typed, texts, call, turns);
     }
-    let other = rewritten(alloc, options, schema, typed, pruners)?;
+    let other = rewritten(alloc, options, schema, source, typed, pruners)?;
     plan_call(alloc, schema, &other, texts, call, turns)
 }
 
@@ -155,18 +158,20 @@ fn rewritten(
     alloc: Global,
     options: &Options,
     schema: &Schema,
+    source: &[u8],
     typed: &Typed,
     pruners: &[Pruner],
 ) -> Result<Typed, NoMemory>
     requires within { AreWithin options.now }
     requires typed { IsWellTyped schema.now (read_by schema.now) (plain_program typed.now.program) }
+    requires source { IsSourceOf source.now (plain_program typed.now.program) }
     ensures is { IfOk result (λ t.
         plain_program t.program ≡ rewritten_in schema.now (size_in options.now) (budget_in options.now) (plain_program typed.now.program)) }
     ensures rewriting { IfOk result (λ _. IsRewriting schema.now (size_in options.now) (budget_in options.now) (plain_program typed.now.program)) }
 {
     let size = size_of(options);
     let budget = budget_of(options);
-    let rewritten = rewrite(alloc, schema, typed, size, budget, pruners)?;
+    let rewritten = rewrite(alloc, schema, typed, source, size, budget, pruners)?;
     Ok(Typed::of(rewritten.program))
 }
 

@@ -20,7 +20,8 @@ use java_mean::{RunFault, TypeRule};
 use qbs_base::{Fail, Files, Scalars, Table, Text, Ty, Value};
 use schema::Schema;
 use sql_ast::{Query, order_complete};
-use sql_exec::{Answer, answer};
+use sql_exec::Answer;
+use sql_index::answer_indexed;
 use sql_parse::parse_query;
 use std::alloc::Global;
 
@@ -87,7 +88,7 @@ fn plan_ordered(alloc: Global, schema: &Schema, texts: &TableTexts, q: &Query) -
         return Err(word_refused(alloc, TypeRule::Arity));
     }
     let db = load_tables(alloc, schema, texts.as_slice())?;
-    let found = answer(alloc, q, &db, &Scalars::new(alloc))?;
+    let found = answer_indexed(alloc, q, &db, &Scalars::new(alloc))?;
     plan_answer(alloc, schema.tables(), found)
 }
 

@@ -5,17 +5,23 @@ ghost use Rattle.qbs_base.specs.Outside.{Rose};
 ghost use Rattle.qbs_base.specs.Status.{KeepsOutput};
 ghost use Rattle.qbs.specs.Code.{OrMemory, call_in};
 ghost use Rattle.qbs.specs.Commands.{HasNoWords, program, command as command_ends, without_store};
+ghost use Rattle.qbs.specs.Complete.{IsComplete};
 ghost use Rattle.qbs.specs.Deliver.{change};
+ghost use Rattle.qbs.specs.Evidence.{HasProof, HasCheck};
 ghost use Rattle.qbs.specs.Headline.{HasHeadline, DropsNone};
 ghost use Rattle.qbs.specs.Plan.{given, may};
+ghost use Rattle.qbs.specs.Prove.{prove};
 ghost use Rattle.qbs.specs.Rewrite.{rewrite};
 ghost use Rattle.qbs.specs.Run.{run};
 ghost use Rattle.qbs.specs.Top.{IsDone, CutShort, HasOnePlan, Refuses, IsSame};
 ghost use Rattle.qbs.specs.Within.{AreWithin, IsWithin};
 
 use crate::Plan;
+use crate::check::plan_check;
 use crate::deliver::{deliver, deliver_plan};
 use crate::fetch::{Stop, refused};
+use crate::make::plan_make;
+use crate::prove::plan_prove;
 use crate::rewrite::plan_rewrite;
 use crate::run::{Asked, plan_run};
 use crate::sql::plan_sql;
@@ -46,10 +52,23 @@ pub fn qbs_main<F: Files, O: Sink, E: Sink>(
         (may (λ p. ⟦<Box<dyn Fn(&KFragment, &Candidate) -> PruneAnswer> as Fn(&KFragment, &Candidate) -> PruneAnswer>⟧.post p.call) pruners.now)
         words.now }
 
-    // Where `rewrite` ends well, what is written does what the program read does, and each loop left stands as it was tried.
+    // Where `rewrite` ends well, what is written does what the program read does, and each loop left stands as it was tried. All bytes of the
+    // source outside of what gave way stay, if that is a text of the program that is left.
     ensures headline { HasHeadline (given F.told F.faults files.old files.new)
         (may (λ p. ⟦<Box<dyn Fn(&KFragment, &Candidate) -> PruneAnswer> as Fn(&KFragment, &Candidate) -> PruneAnswer>⟧.post p.call) pruners.now)
         words.now (change O.told O.faults out.old out.new) (change E.told E.faults rep.old rep.new) result }
+
+    // Where `prove` ends well, what is written is the bundle of the loops that gave way, and `check` accepts it.
+    ensures proved { HasProof (given F.told F.faults files.old files.new)
+        (may (λ p. ⟦<Box<dyn Fn(&KFragment, &Candidate) -> PruneAnswer> as Fn(&KFragment, &Candidate) -> PruneAnswer>⟧.post p.call) pruners.now)
+        words.now (change O.told O.faults out.old out.new) (change E.told E.faults rep.old rep.new) result }
+
+    // Where `check` ends well, all entries of the bundle read are accepted, and the program that they make does what the program read does.
+    // Where it refuses, the line names the first entry that isn't accepted.
+    ensures checked { HasCheck (given F.told F.faults files.old files.new) words.now (change O.told O.faults out.old out.new) (change E.told E.faults rep.old rep.new) result }
+
+    // Where words are plain and all that is read is right, it ends as the command may end then.
+    ensures complete { IsComplete (given F.told F.faults files.old files.new) words.now result }
 
     // With no pruners no candidate is dropped.
     ensures unpruned { pruners.now ≡ [] → DropsNone words.now (change E.told E.faults rep.old rep.new) result }
@@ -133,6 +152,28 @@ fn plan_rewrite_if_built<F: Files>(
     }
 }
 
+// What is due for `prove`.
+fn plan_prove_if_built<F: Files>(
+    alloc: Global,
+    files: &mut F,
+    options: &Options,
+    schema: &Text,
+    source: &Text,
+    pruners: &[Pruner],
+) -> Result<Plan, Stop>
+    requires { AreWithin options.now }
+    ensures due { OrMemory result (without_store options.now.store (prove (given F.told F.faults files.old files.new)
+        (may (λ p. ⟦<Box<dyn Fn(&KFragment, &Candidate) -> PruneAnswer> as Fn(&KFragment, &Candidate) -> PruneAnswer>⟧.post p.call) pruners.now)
+        options.now schema.now source.now)) }
+    ensures held { F.told files.new ≡ F.told files.old }
+    ensures later { F.faults files.old ≤ F.faults files.new }
+{
+    match &options.store {
+        Some(_) => Err(refused(alloc, Status::NotYet, "qbs: not yet", "")),
+        None => plan_prove(alloc, files, options, schema, source, pruners),
+    }
+}
+
 // What is due for `run`.
 fn plan_run_if_built<F: Files>(
     alloc: Global,
@@ -157,7 +198,7 @@ fn plan_run_if_built<F: Files>(
 }
 
 // What is due for a command.
-#[tactic(auto, using(crate::proofs::Worded::sql_due))]
+#[tactic(auto, using(crate::proofs::Worded::sql_due, crate::proofs::Worded::make_due, crate::proofs::Worded::make_within))]
 fn plan_command<F: Files>(
     alloc: Global,
     files: &mut F,
@@ -177,6 +218,17 @@ fn plan_command<F: Files>(
             schema,
             source,
         } => plan_rewrite_if_built(alloc, files, options, schema, source, pruners),
+        Command::Prove {
+            options,
+            schema,
+            source,
+        } => plan_prove_if_built(alloc, files, options, schema, source, pruners),
+        Command::Check {
+            schema,
+            source,
+            bundle,
+        } => plan_check(alloc, files, schema, source, bundle),
+        Command::Make { count } => plan_make(alloc, *count),
         Command::Sql {
             schema,
             folder,

@@ -1,11 +1,23 @@
 //! The program: the real files and streams, handed to the top call.
 #![tactic(auto)]
 
+ghost use Rattle.std.specs.Prelude.{◌≡◌};
 ghost use Rattle.qbs_base.specs.Outside.{Rose};
+ghost use Rattle.kernel_lang.specs.declared.prune.PruneAnswer.TheVariants as answers;
+ghost use Rattle.kernel_lang.specs.Pools.{IsCandidateOf};
+ghost use Rattle.kernel_lang.specs.Refuted.{IsRefuted};
+ghost use Rattle.kernel_lang.specs.Whole.{fragment_of};
 ghost use Rattle.qbs_program.specs.Refused.{Refuses};
 
-use qbs::qbs_main;
-use qbs_base::{RealFiles, RealSink, Sink, Status, Text, Words, WriteAnswer};
+mod read_once;
+
+use kernel_lang::{Candidate, KFragment, PruneAnswer};
+use qbs::{qbs_main, schema_word};
+use qbs_base::{Files, ReadAnswer, RealFiles, RealSink, Sink, Status, Text, Words, WriteAnswer};
+use query_search::{Call, Pruner};
+use read_once::ReadOnce;
+use schema::{Schema, parse_schema};
+use small_dbs::prune;
 use std::alloc::Global;
 use std::process::ExitCode;
 use std::rt::Env;
@@ -30,6 +42,40 @@ fn refuse_for_memory<E: Sink>(rep: &mut E) -> Status
     }
 }
 
+// The schema that was read, where it is one.
+fn schema_of(alloc: Global, answer: &ReadAnswer) -> Option<Schema> {
+    match answer {
+        ReadAnswer::Ok(bytes) => match parse_schema(alloc, bytes.as_slice()) {
+            Ok(schema) => Some(schema),
+            Err(_) => None,
+        },
+        _ => None,
+    }
+}
+
+// The pruner over a schema, where there is memory for it.
+fn pruned<F: Files, O: Sink, E: Sink>(
+    alloc: Global,
+    words: &Words,
+    schema: Schema,
+    files: &mut F,
+    out: &mut O,
+    rep: &mut E,
+) -> Status {
+    let ask = move |frag: &KFragment, cand: &Candidate|
+        requires { IsCandidateOf (fragment_of frag.now) cand.now }
+        ensures { result ≡ answers.Drop → ∥ IsRefuted (fragment_of frag.now) cand.now ∥₁ }
+    { prune(alloc, &schema, frag, cand) };
+    match Box::new(alloc, ask) {
+        Ok(boxed) => {
+            let call: Call = boxed;
+            let pruners = [Pruner::new(call)];
+            qbs_main(alloc, words, files, out, rep, &pruners)
+        }
+        Err(_) => qbs_main(alloc, words, files, out, rep, &[]),
+    }
+}
+
 // A word that isn't UTF-8 is no plain word, as is no word at all.
 fn main(rt: HostRuntime) -> ExitCode {
     let alloc: Global = rt.alloc();
@@ -45,7 +91,19 @@ fn main(rt: HostRuntime) -> ExitCode {
     };
     let mut files = RealFiles::new(&rt);
     let mut out = RealSink::new(rt.stdout());
-    let status = qbs_main(alloc, &words, &mut files, &mut out, &mut rep, &[]);
+    let status = match schema_word(&words) {
+        None => qbs_main(alloc, &words, &mut files, &mut out, &mut rep, &[]),
+        Some(name) => {
+            // (the schema may come through a pipe, and is read once)
+            let answer = files.read_all(alloc, name, 262144);
+            let schema = schema_of(alloc, &answer);
+            let mut files = ReadOnce::new(files, name, answer);
+            match schema {
+                Some(schema) => pruned(alloc, &words, schema, &mut files, &mut out, &mut rep),
+                None => qbs_main(alloc, &words, &mut files, &mut out, &mut rep, &[]),
+            }
+        }
+    };
     ExitCode::from(status.code())
 }
 

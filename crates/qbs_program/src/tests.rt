@@ -19,6 +19,9 @@ struct Case {
 const SPACED: &str =
     "class\tA{/* c */List <User>\r\nstaff( ) // d\n{List<User>out=new ArrayList<>();for(User u:\r\n\tdb . fetch(User.class)){if(u.roleId==2){out.add(u);}}return out;}}";
 
+const SPACED_REWRITTEN: &str =
+    "class\tA{/* c */List <User>\r\nstaff( ) // d\n{List<User> out = db.query(User.class, \"SELECT t1.* FROM User t1 WHERE t1.roleId = 2 ORDER BY t1._pos\");return out;}}";
+
 const WHILE: &str =
     "class A {\n    int f() {\n        int i = 0;\n        while (i < 3) {\n            i = i + 1;\n        }\n        return i;\n    }\n}\n";
 
@@ -62,7 +65,7 @@ static CASES: [Case; 31] = [
         fails: NONE,
         room: 1000,
         code: 0,
-        out: REWRITTEN,
+        out: SPACED_REWRITTEN,
         rep: "loop 3:34 found 1\npruned 0\n",
     },
     Case {
@@ -116,11 +119,11 @@ static CASES: [Case; 31] = [
         fails: NONE,
         room: 1000,
         code: 0,
-        out: "class A {\n}\n",
+        out: "class A { } // end",
         rep: "pruned 0\n",
     },
     Case {
-        words: &["prove", "s.sql", "A.java"],
+        words: &["prove", "--store", "x", "s.sql", "A.java"],
         files: &[],
         fails: NONE,
         room: 1000,
@@ -607,7 +610,7 @@ fn limits_are_kept_to_the_byte(rt: HostRuntime) -> Result<(), Fail> {
             Text::from_str(alloc, "A.java")?,
             blanks(alloc, STAFF, source)?,
         )?;
-        let mut out = MemSink::with_room(alloc, 1000)?;
+        let mut out = MemSink::with_room(alloc, 1048576)?;
         let mut rep = MemSink::with_room(alloc, 100)?;
         let status = qbs_main(alloc, &words, &mut files, &mut out, &mut rep, &[]);
         assert_eq!(rt; status.code(), code);

@@ -1,5 +1,7 @@
+use Rattle.qbs.proofs.Evident.{proved, checked, drops_none}
+use Rattle.qbs.proofs.Completing.{complete}
 use Rattle.qbs.proofs.OnePlan.{one_plan}
-use Rattle.qbs.proofs.Promised.{promised, headline, drops_none, no_one}
+use Rattle.qbs.proofs.Promised.{promised, headline, no_one}
 use Rattle.qbs.proofs.top.qbs_main.Goals as goal
 
 pub returns-clause-one_plan : goal.returns-clause-one_plan
@@ -7,6 +9,12 @@ returns-clause-one_plan g c = one_plan _ _ _
 
 pub returns-clause-headline : goal.returns-clause-headline
 returns-clause-headline g c = headline _ _ _ _ _ _ c.carry_out.ensures.done
+
+pub returns-clause-proved : goal.returns-clause-proved
+returns-clause-proved g c = proved _ _ _ _ _ _ c.carry_out.ensures.done
+
+pub returns-clause-checked : goal.returns-clause-checked
+returns-clause-checked g c = checked _ _ _ _ _ _ c.carry_out.ensures.done
 
 pub returns-clause-words : goal.returns-clause-words
 returns-clause-words g c = record {
@@ -29,3 +37,6 @@ returns-clause-unpruned g c empty = drops_none _ _ _ _ _ _ c.carry_out.ensures.d
 
 pub returns-clause-read : goal.returns-clause-read
 returns-clause-read g c = (promised _ _ _ _ _ _ c.carry_out.ensures.done).read
+
+pub returns-clause-complete : goal.returns-clause-complete
+returns-clause-complete g c = complete _ _ _ _ _ _ c.carry_out.ensures.done

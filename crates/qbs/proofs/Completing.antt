@@ -1,0 +1,272 @@
+-- Where all that a command reads is right, it goes on to its end.
+use Rattle.std.proofs.Common.{◌≡◌, ℕ, ◌≤◌, ◌-◌, ◌⊎◌, inl, inr, Bool, true, false, List, [], ◌∷◌, ◌++◌, length, Option, Some, None, IfSome, subst, sym, refl, ap, ◌∙◌, codes}
+use Rattle.std.specs.Prelude.{IsSome}
+use Rattle.qbs_base.specs.declared.columns.Table.{Table}
+use Rattle.qbs_base.specs.declared.status.Status.{Status}
+use Rattle.qbs_base.specs.declared.status.Status.TheVariants as statuses
+use Rattle.qbs_base.specs.Values.{Schema, Database}
+use Rattle.java_ast.specs.Tree.{PlainParam, PlainMethod, PlainProgram}
+use Rattle.deriv_check.specs.Bundles.{Entry}
+use Rattle.deriv_check.specs.Grammar.{HasBundle}
+use Rattle.rewrite_core.specs.Checking.{Checks, All, Refused, checked_from}
+use Rattle.java_mean.specs.Keeps.{KeepsMethod, Keeps}
+use Rattle.java_mean.specs.Outcome.{Outcome, Done, Faulted, OutOfTurns, Stuck, outcome, world_with}
+use Rattle.java_types.specs.Texts.{read_by}
+use Rattle.sql_ast.specs.Meaning as meaning
+use Rattle.sql_ast.specs.Meaning.{Answered, query_answer}
+use Rattle.sql_ast.specs.Tree.{PlainQuery}
+use Rattle.words.specs.declared.command.Command.{Command}
+use Rattle.words.specs.declared.command.Command.TheVariants as commands
+use Rattle.words.specs.declared.command.Options.{Options}
+use Rattle.words.specs.Plain.{HasWords}
+use Rattle.words.specs.Reading.{plain}
+use Rattle.words.proofs.Exact.{reads_plain_words}
+use Rattle.qbs.specs.declared.plan.Plan.{Plan}
+use Rattle.qbs.specs.Calls.{Call, Called, Calls, CallsNothing, arguments, word_refusal}
+use Rattle.qbs.specs.Check.{BreaksBundle, bundle_refusal, has_bundle, tells, checks, check_of, check}
+use Rattle.qbs.specs.Commands.{without_store, command, IsDue}
+use Rattle.qbs.specs.Complete.{HasFile, HaveTexts, HasSchema, HasSource, HasTables, HasCall, IsRight, IsNotYet, IsListed, IsComplete}
+use Rattle.qbs.specs.Deliver.{Change}
+use Rattle.qbs.specs.Make.{IsResult, IsNotDone, method_text, outcome_over, runs, make_of, make}
+use Rattle.qbs.specs.Opening.{IsSchemaOf, BreaksSchema, schema_refusal, IsProgramOf, HasNoProgram, has_schema, has_program}
+use Rattle.qbs.specs.Plan.{Given, May, not_yet}
+use Rattle.qbs.specs.Prove.{Proves, prove_of, prove}
+use Rattle.qbs.specs.Results.{names_of}
+use Rattle.qbs.specs.Rewrite.{size_of, budget_of, Rewrites, rewrite_of, rewrite}
+use Rattle.qbs.specs.Run.{IsChosen, chooses, comes_to, comes, call_of, run_of, run, turns_of}
+use Rattle.qbs.specs.Sql.{IsAsked, AsksNothing, answer_plan, answers, sql_of, sql}
+use Rattle.qbs.specs.Steps.{Ends, step, refused, IsRead, IsNotRead, reads}
+use Rattle.qbs.specs.Tables.{table_file, most_bytes, AreRead, AreNotRead, reads_tables, IsFileOf, HasRows, LacksRows, data_refusal, has_rows}
+use Rattle.qbs.specs.Top.{IsDone}
+use Rattle.qbs.proofs.AlikeRuns.{kept_named, some_named}
+use Rattle.qbs.proofs.OneFound.{schema_one, program_one, bundle_one, rows_one, call_one, query_one}
+use Rattle.qbs.proofs.OnePlan.{chosen_one}
+use Rattle.qbs.proofs.OneRead.{read_one, tables_one}
+use Rattle.qbs.proofs.OneStep.{IsOne}
+
+-- ---- one step
+
+-- where what a step asks for is so, the command goes on with it
+goes : {B : Type 0} (Is : B → Type 0) (Stops : Ends) (next : B → Ends) → IsOne {B = B} Is Stops → (b : B) → Is b → (plan : Plan) → step {B = B} Is Stops next plan → next b plan
+goes Is Stops next one b is plan (inl h) = absurd (one.apart b plan is h)
+goes Is Stops next one b is plan (inr h) = subst (λ x. next x plan) (one.same h.0 b h.1 is) h.2
+
+some_is : (o : Option (List ℕ)) (bytes : List ℕ) → o ≡ Some bytes → IsSome o
+some_is (Some all) bytes e = refl
+some_is None bytes e = absurd cc
+
+-- a file that is told
+module _ (files : Given) (calm : files.rose → ⊥) where
+  opens : (name : List ℕ) (limit : ℕ) (label bytes : List ℕ) (next : List ℕ → Ends) → files.told name ≡ Some bytes → length bytes ≤ limit → (plan : Plan) → reads files name limit label next plan → next bytes plan
+  opens name limit label bytes next e within plan h =
+      goes (IsRead files name limit) (IsNotRead files name limit label) next (read_one files name limit label (some_is (files.told name) bytes e) calm) bytes
+      (within, subst (λ (o : Option (List ℕ)). IfSome o (λ all. bytes ≡ all)) (sym e) refl) plan h
+
+  are_read : (folder : List ℕ) (tables : List Table) (left : ℕ) (texts : List (List ℕ)) → HaveTexts files.told folder tables left texts → AreRead files folder tables left texts
+  are_read folder [] left [] h = tt
+  are_read folder [] left (text ∷ texts) h = absurd h
+  are_read folder (table ∷ tables) left [] h = absurd h
+  are_read folder (table ∷ tables) left (text ∷ texts) h =
+      ((h.1, subst (λ (o : Option (List ℕ)). IfSome o (λ all. text ≡ all)) (sym h.0) refl), are_read folder tables (left - length text) texts h.2)
+
+  all_told : (folder : List ℕ) (tables : List Table) (left : ℕ) (texts : List (List ℕ)) → HaveTexts files.told folder tables left texts → (name : List ℕ) → IsFileOf folder tables name → IsSome (files.told name)
+  all_told folder [] left texts h name file = absurd file
+  all_told folder (table ∷ tables) left [] h name file = absurd h
+  all_told folder (table ∷ tables) left (text ∷ texts) h name (inl same) =
+      subst (λ (n : List ℕ). IsSome (files.told n)) (sym same) (some_is (files.told (table_file folder table.name)) text h.0)
+  all_told folder (table ∷ tables) left (text ∷ texts) h name (inr file) = all_told folder tables (left - length text) texts h.2 name file
+
+  opens_tables : (folder : List ℕ) (tables : Schema) (texts : List (List ℕ)) (next : List (List ℕ) → Ends) → HaveTexts files.told folder tables most_bytes texts → (plan : Plan) → reads_tables files folder tables next plan → next texts plan
+  opens_tables folder tables texts next have plan h =
+      goes (AreRead files folder tables most_bytes) (AreNotRead files folder tables most_bytes) next (tables_one files folder tables most_bytes (all_told folder tables most_bytes texts have) calm) texts
+      (are_read folder tables most_bytes texts have) plan h
+
+goes_schema : (bytes : List ℕ) (tables : Schema) (next : Schema → Ends) → IsSchemaOf bytes tables → (plan : Plan) → has_schema bytes next plan → next tables plan
+goes_schema bytes tables next is plan h = goes (IsSchemaOf bytes) (refused (BreaksSchema bytes) schema_refusal) next (schema_one bytes) tables is plan h
+
+goes_program : (tables : Schema) (bytes : List ℕ) (p : PlainProgram) (next : PlainProgram → Ends) → IsProgramOf tables bytes p → (plan : Plan) → has_program tables bytes next plan → next p plan
+goes_program tables bytes p next is plan h = goes (IsProgramOf tables bytes) (HasNoProgram tables bytes) next (program_one tables bytes) p is plan h
+
+goes_rows : (tables : Schema) (texts : List (List ℕ)) (db : Database) (next : Database → Ends) → HasRows tables texts db → (plan : Plan) → has_rows tables texts next plan → next db plan
+goes_rows tables texts db next is plan h = goes (HasRows tables texts) (refused (LacksRows tables texts) data_refusal) next (rows_one tables texts) db is plan h
+
+-- ---- `rewrite`
+
+rewrite_listed : (files : Given) → (files.rose → ⊥) → (may : May) (o : Options) (schema source : List ℕ) (plan : Plan) → HasSchema files.told schema (λ tables. HasSource files.told source tables (λ p. Unit {0})) →
+    rewrite files may o schema source plan → plan.status ≡ statuses.Ok
+rewrite_listed files calm may o schema source plan right h =
+    let tables : Schema = right.is.0 in
+    let text = right.is.2 in
+    let read = opens files calm schema 262144 (codes "schema") right.bytes (λ s. reads files source 1048576 (codes "source") (λ t. rewrite_of may o s t)) right.has right.within plan h in
+    let both = opens files calm source 1048576 (codes "source") text.bytes (λ t. rewrite_of may o right.bytes t) text.has text.within plan read in
+    let opened = goes_schema right.bytes tables (λ ts. has_program ts text.bytes (λ p. Rewrites may ts (size_of o) (budget_of o) text.bytes p)) right.is.1 plan both in
+    let done = goes_program tables text.bytes text.is.0 (λ p. Rewrites may tables (size_of o) (budget_of o) text.bytes p) text.is.1 plan opened in
+    ap (λ (x : Plan). x.status) done.written
+
+-- ---- `prove`
+
+prove_listed : (files : Given) → (files.rose → ⊥) → (may : May) (o : Options) (schema source : List ℕ) (plan : Plan) → HasSchema files.told schema (λ tables. HasSource files.told source tables (λ p. Unit {0})) →
+    prove files may o schema source plan → plan.status ≡ statuses.Ok
+prove_listed files calm may o schema source plan right h =
+    let tables : Schema = right.is.0 in
+    let text = right.is.2 in
+    let read = opens files calm schema 262144 (codes "schema") right.bytes (λ s. reads files source 1048576 (codes "source") (λ t. prove_of may o s t)) right.has right.within plan h in
+    let both = opens files calm source 1048576 (codes "source") text.bytes (λ t. prove_of may o right.bytes t) text.has text.within plan read in
+    let opened = goes_schema right.bytes tables (λ ts. has_program ts text.bytes (λ p. Proves may ts (size_of o) (budget_of o) p)) right.is.1 plan both in
+    let done = goes_program tables text.bytes text.is.0 (λ p. Proves may tables (size_of o) (budget_of o) p) text.is.1 plan opened in
+    ap (λ (x : Plan). x.status) done.written
+
+-- ---- `check`
+
+tells_listed : (tables : Schema) (entries : List Entry) (p : PlainProgram) (found : Checks) (plan : Plan) → tells tables entries p found plan → (plan.status ≡ statuses.Ok) ⊎ (plan.status ≡ statuses.Refused)
+tells_listed tables entries p (All n q) plan h = inl (ap (λ (x : Plan). x.status) h.1)
+tells_listed tables entries p (Refused ordinal) plan h = inr (ap (λ (x : Plan). x.status) h)
+
+check_listed : (files : Given) → (files.rose → ⊥) → (schema source bundle : List ℕ) (plan : Plan) →
+    HasSchema files.told schema (λ tables. HasSource files.told source tables (λ p. Unit {0})) → HasFile files.told bundle 16777216 (λ bytes. (entries : List Entry) × HasBundle bytes entries) →
+    check files schema source bundle plan → (plan.status ≡ statuses.Ok) ⊎ (plan.status ≡ statuses.Refused)
+check_listed files calm schema source bundle plan right evidence h =
+    let tables : Schema = right.is.0 in
+    let text = right.is.2 in
+    let entries : List Entry = evidence.is.0 in
+    let read = opens files calm schema 262144 (codes "schema") right.bytes
+    (λ s. reads files source 1048576 (codes "source") (λ t. reads files bundle 16777216 (codes "bundle") (λ b. check_of s t b))) right.has right.within plan h in
+    let both = opens files calm source 1048576 (codes "source") text.bytes (λ t. reads files bundle 16777216 (codes "bundle") (λ b. check_of right.bytes t b)) text.has text.within plan read in
+    let all = opens files calm bundle 16777216 (codes "bundle") evidence.bytes (λ b. check_of right.bytes text.bytes b) evidence.has evidence.within plan both in
+    let opened = goes_schema right.bytes tables (λ ts. has_program ts text.bytes (λ p. has_bundle evidence.bytes (λ es. checks ts p es))) right.is.1 plan all in
+    let typed = goes_program tables text.bytes text.is.0 (λ p. has_bundle evidence.bytes (λ es. checks tables p es)) text.is.1 plan opened in
+    let held = goes (HasBundle evidence.bytes) (refused (BreaksBundle evidence.bytes) bundle_refusal) (λ es. checks tables text.is.0 es) (bundle_one evidence.bytes) entries evidence.is.1 plan typed in
+    tells_listed tables entries text.is.0 (checked_from tables 0 entries text.is.0) plan held
+
+-- ---- `run`
+
+comes_listed : (tables : Schema) (o : Outcome) (plan : Plan) → comes_to tables o plan → (plan.status ≡ statuses.Ok) ⊎ (plan.status ≡ statuses.Faulted) ⊎ (plan.status ≡ statuses.Turns)
+comes_listed tables (Done lines value) plan h = inl (ap (λ (x : Plan). x.status) h)
+comes_listed tables (Faulted fault at) plan h = inr (inl (ap (λ (x : Plan). x.status) h))
+comes_listed tables OutOfTurns plan h = inr (inr (ap (λ (x : Plan). x.status) h))
+comes_listed tables Stuck plan h = absurd h
+
+-- the words call a method of the program that is run
+called_in : (rewritten : Bool) (tables : Schema) (size budget : ℕ) (p q : PlainProgram) (call : Call) → IsChosen rewritten tables size budget p q → HasCall p call → HasCall q call
+called_in false tables size budget p q call chosen has = subst (λ (x : PlainProgram). HasCall x call) (sym chosen) has
+called_in true tables size budget p q call chosen has =
+    let keeps : Keeps p q tables = subst (λ (x : PlainProgram). Keeps p x tables) (sym chosen.0) chosen.1.keeps in
+    let there = some_named tables p q call.method has.called.method keeps has.calls.named in
+    let kept : KeepsMethod tables has.called.method there.0 = kept_named tables p q call.method has.called.method there.0 keeps has.calls.named there.1 in
+    record {
+      called = record { method = there.0; args = has.called.args };
+      calls = record { named = there.1; fit = ap (λ (ps : List PlainParam). arguments ps call.words) (sym kept.params) ∙ has.calls.fit };
+    }
+
+call_listed : (tables : Schema) (texts : List (List ℕ)) (db : Database) (call : Call) (turns : ℕ) (q : PlainProgram) (plan : Plan) → HasCall q call → HasRows tables texts db → call_of tables texts call turns q plan →
+    (plan.status ≡ statuses.Ok) ⊎ (plan.status ≡ statuses.Faulted) ⊎ (plan.status ≡ statuses.Turns)
+call_listed tables texts db call turns q plan has rows h =
+    let called : Called = has.called in
+    let found = goes (Calls q call) (refused (CallsNothing q call) word_refusal) (λ c. has_rows tables texts (λ d. comes tables c turns d)) (call_one q call) called has.calls plan h in
+    let loaded = goes_rows tables texts db (λ d. comes tables called turns d) rows plan found in
+    comes_listed tables (outcome (world_with tables (read_by tables) db) called.method called.args turns) plan loaded
+
+chosen_listed : (o : Options) (tables : Schema) (texts : List (List ℕ)) (db : Database) (call : Call) (p : PlainProgram) (plan : Plan) → HasCall p call → HasRows tables texts db →
+    chooses o tables p (λ q. call_of tables texts call (turns_of o) q) plan → (plan.status ≡ statuses.Ok) ⊎ (plan.status ≡ statuses.Faulted) ⊎ (plan.status ≡ statuses.Turns)
+chosen_listed o tables texts db call p plan has rows (inl h) = absurd h
+chosen_listed o tables texts db call p plan has rows (inr h) =
+    call_listed tables texts db call (turns_of o) h.0 plan (called_in o.rewritten tables (size_of o) (budget_of o) p h.0 call h.1 has) rows h.2
+
+run_listed : (files : Given) → (files.rose → ⊥) → (o : Options) (schema source folder : List ℕ) (call : Call) (plan : Plan) →
+    HasSchema files.told schema (λ tables. HasSource files.told source tables (λ p. HasCall p call) × HasTables files.told folder tables) →
+    run files o schema source folder call plan → (plan.status ≡ statuses.Ok) ⊎ (plan.status ≡ statuses.Faulted) ⊎ (plan.status ≡ statuses.Turns)
+run_listed files calm o schema source folder call plan right h =
+    let tables : Schema = right.is.0 in
+    let text = right.is.2.0 in
+    let rows = right.is.2.1 in
+    let read = opens files calm schema 262144 (codes "schema") right.bytes
+    (λ s. reads files source 1048576 (codes "source") (λ t. has_schema s (λ ts. reads_tables files folder ts (λ texts. run_of o ts call t texts)))) right.has right.within plan h in
+    let both = opens files calm source 1048576 (codes "source") text.bytes (λ t. has_schema right.bytes (λ ts. reads_tables files folder ts (λ texts. run_of o ts call t texts))) text.has text.within plan read in
+    let opened = goes_schema right.bytes tables (λ ts. reads_tables files folder ts (λ texts. run_of o ts call text.bytes texts)) right.is.1 plan both in
+    let fetched = opens_tables files calm folder tables rows.texts (λ texts. run_of o tables call text.bytes texts) rows.have plan opened in
+    let typed = goes_program tables text.bytes text.is.0 (λ p. chooses o tables p (λ q. call_of tables rows.texts call (turns_of o) q)) text.is.1 plan fetched in
+    chosen_listed o tables rows.texts rows.db call text.is.0 plan text.is.2 rows.rows typed
+
+-- ---- `sql`
+
+answer_listed : (tables : Schema) (a : Answered) (plan : Plan) → plan ≡ answer_plan tables a → (plan.status ≡ statuses.Ok) ⊎ (plan.status ≡ statuses.Faulted)
+answer_listed tables (meaning.Rows rows) plan h = inl (ap (λ (x : Plan). x.status) h)
+answer_listed tables (meaning.One x) plan h = inl (ap (λ (y : Plan). y.status) h)
+answer_listed tables meaning.TooLarge plan h = inr (ap (λ (x : Plan). x.status) h)
+
+sql_listed : (files : Given) → (files.rose → ⊥) → (schema folder query : List ℕ) (plan : Plan) →
+    HasSchema files.told schema (λ tables. ((q : PlainQuery) × IsAsked tables query q) × HasTables files.told folder tables) →
+    sql files schema folder query plan → (plan.status ≡ statuses.Ok) ⊎ (plan.status ≡ statuses.Faulted)
+sql_listed files calm schema folder query plan right h =
+    let tables : Schema = right.is.0 in
+    let asked = right.is.2.0 in
+    let rows = right.is.2.1 in
+    let read = opens files calm schema 262144 (codes "schema") right.bytes (λ s. has_schema s (λ ts. reads_tables files folder ts (λ texts. sql_of ts query texts))) right.has right.within plan h in
+    let opened = goes_schema right.bytes tables (λ ts. reads_tables files folder ts (λ texts. sql_of ts query texts)) right.is.1 plan read in
+    let fetched = opens_tables files calm folder tables rows.texts (λ texts. sql_of tables query texts) rows.have plan opened in
+    let found = goes (IsAsked tables query) (refused (AsksNothing tables query) word_refusal) (λ q. has_rows tables rows.texts (λ db. answers tables q db)) (query_one tables query) asked.0 asked.1 plan fetched in
+    let loaded = goes_rows tables rows.texts rows.db (λ db. answers tables asked.0 db) rows.rows plan found in
+    answer_listed tables (query_answer rows.db [] asked.0) plan loaded
+
+-- ---- `make`
+
+unfinished_listed : (o : Outcome) (plan : Plan) → IsNotDone o plan → (plan.status ≡ statuses.Ok) ⊎ (plan.status ≡ statuses.Faulted) ⊎ (plan.status ≡ statuses.Turns)
+unfinished_listed (Done lines value) plan h = absurd h
+unfinished_listed (Faulted fault at) plan h = inr (inl (ap (λ (x : Plan). x.status) h))
+unfinished_listed OutOfTurns plan h = inr (inr (ap (λ (x : Plan). x.status) h))
+unfinished_listed Stuck plan h = absurd h
+
+runs_listed : (tables : Schema) (db : Database) (written : List ℕ) (ms : List PlainMethod) (plan : Plan) → runs tables db written ms plan →
+    (plan.status ≡ statuses.Ok) ⊎ (plan.status ≡ statuses.Faulted) ⊎ (plan.status ≡ statuses.Turns)
+unfolding runs
+runs_listed tables db written [] plan h = inl (ap (λ (x : Plan). x.status) h)
+runs_listed tables db written (m ∷ ms) plan (inl h) = unfinished_listed (outcome_over tables db m) plan h
+runs_listed tables db written (m ∷ ms) plan (inr h) = runs_listed tables db (written ++ method_text (names_of tables) m.name h.0) ms plan h.2
+
+make_listed : (n : ℕ) (plan : Plan) → make n plan → (plan.status ≡ statuses.Ok) ⊎ (plan.status ≡ statuses.Faulted) ⊎ (plan.status ≡ statuses.Turns)
+make_listed n plan (inl h) = absurd h
+make_listed n plan (inr h) = runs_listed _ _ _ _ plan h.2
+
+-- ---- the whole
+
+stored_listed : (store : Option (List ℕ)) (next : Ends) (Is : Status → Type 0) (plan : Plan) → (next plan → Is plan.status) → without_store store next plan → IsNotYet store plan.status Is
+stored_listed None next Is plan f h = f h
+stored_listed (Some name) next Is plan f h = ap (λ (x : Plan). x.status) h
+
+command_listed : (files : Given) → (files.rose → ⊥) → (may : May) (c : Command) (plan : Plan) → IsRight files.told c → command files may c plan → IsListed c plan.status
+command_listed files calm may (commands.Rewrite o s t) plan right h = stored_listed o.store (rewrite files may o s t) (λ x. x ≡ statuses.Ok) plan (rewrite_listed files calm may o s t plan right) h
+command_listed files calm may (commands.Run o s t d method words) plan right h =
+    stored_listed o.store (run files o s t d (record { method = method; words = words })) (λ x. (x ≡ statuses.Ok) ⊎ (x ≡ statuses.Faulted) ⊎ (x ≡ statuses.Turns)) plan
+    (run_listed files calm o s t d (record { method = method; words = words }) plan right) h
+command_listed files calm may (commands.Sql s d q) plan right h = sql_listed files calm s d q plan right h
+command_listed files calm may (commands.Prove o s t) plan right h = stored_listed o.store (prove files may o s t) (λ x. x ≡ statuses.Ok) plan (prove_listed files calm may o s t plan right) h
+command_listed files calm may (commands.Check s t b) plan right h = check_listed files calm s t b plan right.0 right.1 h
+command_listed files calm may (commands.Make n) plan right h = make_listed n plan h
+command_listed files calm may (commands.Unnest o s t) plan right h = ap (λ (x : Plan). x.status) h
+command_listed files calm may (commands.Inline s t) plan right h = ap (λ (x : Plan). x.status) h
+command_listed files calm may (commands.Gather o s t) plan right h = ap (λ (x : Plan). x.status) h
+
+command_same : (o : Option Command) (b c : Command) → o ≡ Some b → o ≡ Some c → b ≡ c
+command_same o b c x y = cc
+
+due_listed : (files : Given) → (files.rose → ⊥) → (may : May) (words : List (List ℕ)) (c : Command) (plan : Plan) → HasWords words c → IsRight files.told c → IsDue files may words plan →
+    IsListed c plan.status ⊎ (plan.status ≡ statuses.NoMemory)
+due_listed files calm may words c plan has right (inl memory) = inr (ap (λ (x : Plan). x.status) memory)
+due_listed files calm may words c plan has right (inr (inl bad)) = absurd (bad.0 c has)
+due_listed files calm may words c plan has right (inr (inr (d, is, h))) =
+    let same : d ≡ c = command_same (plain words) d c ((reads_plain_words words d).1 is) ((reads_plain_words words c).1 has) in
+    inl (command_listed files calm may c plan right (subst (λ (x : Command). command files may x plan) same h))
+
+listed_or : (c : Command) (status result : Status) → result ≡ status → IsListed c status ⊎ (status ≡ statuses.NoMemory) → IsListed c result ⊎ (result ≡ statuses.NoMemory) ⊎ (result ≡ statuses.WriteFault)
+listed_or c status result same (inl h) = inl (subst (IsListed c) (sym same) h)
+listed_or c status result same (inr h) = inr (inl (same ∙ h))
+
+pub complete : (files : Given) (may : May) (words : List (List ℕ)) (out rep : Change) (result : Status) → IsDone files may words out rep result → IsComplete files words result
+complete files may words out rep result done c has right calm =
+    elim done.delivered [
+      | inl all ↦ listed_or c done.plan.status result all.0 (due_listed files calm may words c done.plan has right done.due)
+      | inr rest ↦ elim rest [
+        | inl short ↦ inr (inr short.0)
+        | inr short ↦ inr (inr short.0)
+      ]
+    ]

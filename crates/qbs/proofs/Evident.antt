@@ -1,0 +1,230 @@
+-- What bundles are worth follows from a plan that is due and was delivered.
+use Rattle.std.proofs.Common.{◌≡◌, ℕ, inl, inr, List, [], length, Option, Some, None, subst, sym, refl, ap, ◌∙◌, codes}
+use Rattle.std.specs.Io.KnownBytes.{Appends}
+use Rattle.qbs_base.specs.declared.status.Status.{Status}
+use Rattle.qbs_base.specs.declared.status.Status.TheVariants as statuses
+use Rattle.qbs_base.specs.Values.{Schema}
+use Rattle.java_ast.specs.Tree.{PlainProgram}
+use Rattle.deriv_check.specs.Bundles.{Entry}
+use Rattle.deriv_check.specs.Grammar.{HasBundle}
+use Rattle.kernel_lang.specs.Plain.{Fragment}
+use Rattle.rewrite_core.specs.Checking.{Checks, All, Refused, checked_from}
+use Rattle.rewrite_core.specs.Trying.{all_tried}
+use Rattle.words.specs.declared.command.Command.{Command}
+use Rattle.words.specs.declared.command.Command.TheVariants as commands
+use Rattle.words.specs.declared.command.Options.{Options}
+use Rattle.words.specs.Plain.{HasWords}
+use Rattle.words.specs.Reading.{plain}
+use Rattle.words.proofs.Exact.{reads_plain_words}
+use Rattle.qbs.specs.declared.plan.Plan.{Plan}
+use Rattle.qbs.specs.Check.{AreAccepted, accepted_line, tells, check_of, check}
+use Rattle.qbs.specs.Commands.{without_store, command, IsDue}
+use Rattle.qbs.specs.Deliver.{Change}
+use Rattle.qbs.specs.Evidence.{IsProved, IsProof, HasProof, IsAccepted, IsRefused, IsChecked, IsCheck, HasCheck}
+use Rattle.qbs.specs.Headline.{DropsNone}
+use Rattle.qbs.specs.Opening.{IsSchemaOf, IsProgramOf, HasNoProgram}
+use Rattle.qbs.specs.Plan.{Given, May}
+use Rattle.qbs.specs.Prove.{prove_of, prove}
+use Rattle.qbs.specs.Rewrite.{size_of, budget_of}
+use Rattle.qbs.specs.Steps.{IsRead, IsNotRead}
+use Rattle.qbs.specs.Top.{IsDone}
+use Rattle.qbs.proofs.Checked.{all_same}
+use Rattle.qbs.proofs.Promised.{command_is, none_dropped, rewrite_drops_none, unread, no_program}
+
+-- the plan of words that name a command, where its status is neither want of memory nor of words
+due_for : (files : Given) (may : May) (words : List (List ℕ)) (named : Command) (plan : Plan) → HasWords words named → IsDue files may words plan → (plan.status ≡ statuses.NoMemory → ⊥) → command files may named plan
+due_for files may words named plan has (inl memory) other = absurd (other (ap (λ (p : Plan). p.status) memory))
+due_for files may words named plan has (inr (inl bad)) other = absurd (bad.0 named has)
+due_for files may words named plan has (inr (inr (c, is, h))) other =
+    let same : c ≡ named = command_is (plain words) c named ((reads_plain_words words c).1 is) ((reads_plain_words words named).1 has) in
+    subst (λ (d : Command). command files may d plan) same h
+
+-- what is written where no write failed
+record IsWritten (files : Given) (may : May) (words : List (List ℕ)) (out rep : Change) (result : Status) : Type 0 where
+  plan : Plan
+  due : IsDue files may words plan
+  status : plan.status ≡ result
+  wrote_text : Appends out.old out.new plan.out
+  wrote_lines : Appends rep.old rep.new plan.rep
+
+written : (files : Given) (may : May) (words : List (List ℕ)) (out rep : Change) (result : Status) → IsDone files may words out rep result → (result ≡ statuses.WriteFault → ⊥) → IsWritten files may words out rep result
+written files may words out rep result done other =
+    elim done.delivered [
+      | inl all ↦ record { plan = done.plan; due = done.due; status = sym all.0; wrote_text = all.1; wrote_lines = all.2 }
+      | inr rest ↦ elim rest [ inl short ↦ absurd (other short.0) | inr short ↦ absurd (other short.0) ]
+    ]
+
+-- ---- `prove`
+
+-- the bytes that `prove` read, and what it wrote
+record Evidence (files : Given) (may : May) (o : Options) (schema source : List ℕ) (plan : Plan) : Type 0 where
+  tables : List ℕ
+  class : List ℕ
+  read_tables : IsRead files schema 262144 tables
+  read_class : IsRead files source 1048576 class
+  is : IsProved may (size_of o) (budget_of o) tables class plan.out plan.rep
+
+proved_of : (may : May) (o : Options) (s t : List ℕ) (plan : Plan) → prove_of may o s t plan → plan.status ≡ statuses.Ok → IsProved may (size_of o) (budget_of o) s t plan.out plan.rep
+proved_of may o s t plan (inl h) ok = let e : statuses.Schema ≡ statuses.Ok = subst (λ (p : Plan). p.status ≡ statuses.Ok) h.2 ok in absurd cc
+proved_of may o s t plan (inr (tables, is, inl h)) ok = absurd (no_program tables t plan h ok)
+proved_of may o s t plan (inr (tables, is, inr (p, read, h))) ok =
+    subst (λ (x : Plan). IsProved may (size_of o) (budget_of o) s t x.out x.rep) (sym h.written)
+    (record {
+      tables = tables;
+      program = p;
+      is_schema = is;
+      is_program = read;
+      bundle = h.member;
+      accepted = record { all = h.accepted; well = h.rewriting.well; keeps = h.rewriting.keeps };
+      pruned = h.pruned;
+      counted = h.counted;
+      report = refl;
+      standing = h.rewriting.standing;
+    })
+
+evidence : (files : Given) (may : May) (o : Options) (schema source : List ℕ) (plan : Plan) → prove files may o schema source plan → plan.status ≡ statuses.Ok → Evidence files may o schema source plan
+evidence files may o schema source plan (inl h) ok = absurd (unread files schema 262144 (codes "schema") plan h ok)
+evidence files may o schema source plan (inr (s, read, inl h)) ok = absurd (unread files source 1048576 (codes "source") plan h ok)
+evidence files may o schema source plan (inr (s, read, inr (t, has, h))) ok =
+    record { tables = s; class = t; read_tables = read; read_class = has; is = proved_of may o s t plan h ok }
+
+unstored : (files : Given) (may : May) (o : Options) (schema source : List ℕ) (plan : Plan) (store : Option (List ℕ)) → without_store store (prove files may o schema source) plan → plan.status ≡ statuses.Ok →
+    Evidence files may o schema source plan
+unstored files may o schema source plan None h ok = evidence files may o schema source plan h ok
+unstored files may o schema source plan (Some name) h ok = let e : statuses.NotYet ≡ statuses.Ok = subst (λ (p : Plan). p.status ≡ statuses.Ok) h ok in absurd cc
+
+pub proved : (files : Given) (may : May) (words : List (List ℕ)) (out rep : Change) (result : Status) → IsDone files may words out rep result → HasProof files may words out rep result
+proved files may words out rep result done o schema source has ok =
+    let w = written files may words out rep result done (λ e. let no : statuses.WriteFault ≡ statuses.Ok = sym e ∙ ok in cc) in
+    let well : w.plan.status ≡ statuses.Ok = w.status ∙ ok in
+    let due = due_for files may words (commands.Prove o schema source) w.plan has w.due (λ e. let no : statuses.NoMemory ≡ statuses.Ok = sym e ∙ well in cc) in
+    let h : Evidence files may o schema source w.plan = unstored files may o schema source w.plan o.store due well in
+    record {
+      tables = h.tables;
+      class = h.class;
+      text = w.plan.out;
+      lines = w.plan.rep;
+      read_tables = h.read_tables;
+      read_class = h.read_class;
+      is = h.is;
+      wrote_text = w.wrote_text;
+      wrote_lines = w.wrote_lines;
+    }
+
+-- ---- without pruners
+
+pub drops_none : (files : Given) (may : May) (words : List (List ℕ)) (out rep : Change) (result : Status) → IsDone files may words out rep result → ((f : Fragment) (c : List ℕ) → may.drops f c → ⊥) → DropsNone words rep result
+drops_none files may words out rep result done never o schema source (inl has) ok = rewrite_drops_none files may words out rep result done never o schema source has ok
+drops_none files may words out rep result done never o schema source (inr has) ok =
+    let h : IsProof files may o schema source out rep = proved files may words out rep result done o schema source has ok in
+    none_dropped may (size_of o) (all_tried h.is.tables (size_of o) (budget_of o) h.is.program) h.is.pruned h.lines rep never h.is.counted h.is.report h.wrote_lines
+
+-- ---- `check`
+
+-- a status that only a bundle's entries lead to
+abbrev OfEntries : Status → Type 0
+OfEntries statuses.Ok = Unit {0}
+OfEntries statuses.Refused = Unit {0}
+OfEntries _ = ⊥
+
+of_no_other : (status other : Status) → status ≡ other → (OfEntries other → ⊥) → OfEntries status → ⊥
+of_no_other status other e never is = never (subst OfEntries e is)
+
+no_file : (files : Given) (name : List ℕ) (limit : ℕ) (label : List ℕ) (plan : Plan) → IsNotRead files name limit label plan → OfEntries plan.status → ⊥
+no_file files name limit label plan (inl h) is = of_no_other plan.status statuses.ReadFault (ap (λ (p : Plan). p.status) h.1) (λ x. x) is
+no_file files name limit label plan (inr h) is = of_no_other plan.status statuses.Limit (ap (λ (p : Plan). p.status) h.1) (λ x. x) is
+
+no_source : (tables : Schema) (bytes : List ℕ) (plan : Plan) → HasNoProgram tables bytes plan → OfEntries plan.status → ⊥
+no_source tables bytes plan (inl h) is = of_no_other plan.status statuses.Source (ap (λ (p : Plan). p.status) h.2) (λ x. x) is
+no_source tables bytes plan (inr (inl h)) is = of_no_other plan.status statuses.Source (ap (λ (p : Plan). p.status) h.2) (λ x. x) is
+no_source tables bytes plan (inr (inr h)) is = of_no_other plan.status statuses.Types (ap (λ (p : Plan). p.status) h.2) (λ x. x) is
+
+-- the bytes that `check` read, what they have, and what is told of them
+record Read (files : Given) (schema source bundle : List ℕ) (plan : Plan) : Type 0 where
+  tables : List ℕ
+  class : List ℕ
+  evidence : List ℕ
+  read_tables : IsRead files schema 262144 tables
+  read_class : IsRead files source 1048576 class
+  read_evidence : IsRead files bundle 16777216 evidence
+  known : Schema
+  program : PlainProgram
+  entries : List Entry
+  is_schema : IsSchemaOf tables known
+  is_program : IsProgramOf known class program
+  is_bundle : HasBundle evidence entries
+  told : tells known entries program (checked_from known 0 entries program) plan
+
+read_all : (files : Given) (schema source bundle : List ℕ) (plan : Plan) → check files schema source bundle plan → OfEntries plan.status → Read files schema source bundle plan
+read_all files schema source bundle plan (inl h) is = absurd (no_file files schema 262144 (codes "schema") plan h is)
+read_all files schema source bundle plan (inr (s, read, inl h)) is = absurd (no_file files source 1048576 (codes "source") plan h is)
+read_all files schema source bundle plan (inr (s, read, inr (t, has, inl h))) is = absurd (no_file files bundle 16777216 (codes "bundle") plan h is)
+read_all files schema source bundle plan (inr (s, read, inr (t, has, inr (b, there, inl h)))) is =
+    absurd (of_no_other plan.status statuses.Schema (ap (λ (p : Plan). p.status) h.2) (λ x. x) is)
+read_all files schema source bundle plan (inr (s, read, inr (t, has, inr (b, there, inr (tables, known, inl h))))) is = absurd (no_source tables t plan h is)
+read_all files schema source bundle plan (inr (s, read, inr (t, has, inr (b, there, inr (tables, known, inr (p, program, inl h)))))) is =
+    absurd (of_no_other plan.status statuses.Bundle (ap (λ (x : Plan). x.status) h.2) (λ x. x) is)
+read_all files schema source bundle plan (inr (s, read, inr (t, has, inr (b, there, inr (tables, known, inr (p, program, inr (entries, found, h))))))) is =
+    record {
+      tables = s;
+      class = t;
+      evidence = b;
+      read_tables = read;
+      read_class = has;
+      read_evidence = there;
+      known = tables;
+      program = p;
+      entries = entries;
+      is_schema = known;
+      is_program = program;
+      is_bundle = found;
+      told = h;
+    }
+
+-- what is said of entries, by the status
+told_well : (tables : Schema) (entries : List Entry) (p : PlainProgram) (c : Checks) (plan : Plan) → checked_from tables 0 entries p ≡ c → tells tables entries p c plan → plan.status ≡ statuses.Ok → IsAccepted tables entries p plan.out × (plan.rep ≡ [])
+told_well tables entries p (All n q) plan e h ok =
+    let many : n ≡ length entries = all_same n (length entries) q q (sym e ∙ h.0.all) in
+    (record { made = q; accepted = h.0; is = ap (λ (x : Plan). x.out) h.1 ∙ ap accepted_line many }, ap (λ (x : Plan). x.rep) h.1)
+told_well tables entries p (Refused ordinal) plan e h ok = let no : statuses.Refused ≡ statuses.Ok = sym (ap (λ (x : Plan). x.status) h) ∙ ok in absurd cc
+
+told_not : (tables : Schema) (entries : List Entry) (p : PlainProgram) (c : Checks) (plan : Plan) → checked_from tables 0 entries p ≡ c → tells tables entries p c plan → plan.status ≡ statuses.Refused → IsRefused tables entries p plan.out × (plan.rep ≡ [])
+told_not tables entries p (All n q) plan e h ok = let no : statuses.Ok ≡ statuses.Refused = sym (ap (λ (x : Plan). x.status) h.1) ∙ ok in absurd cc
+told_not tables entries p (Refused ordinal) plan e h ok = (record { ordinal = ordinal; refused = e; is = ap (λ (x : Plan). x.out) h }, ap (λ (x : Plan). x.rep) h)
+
+module _ (files : Given) (may : May) (words : List (List ℕ)) (out rep : Change) (result : Status) (done : IsDone files may words out rep result) (schema source bundle : List ℕ) (has : HasWords words (commands.Check schema source bundle)) where
+  entries_read : (w : IsWritten files may words out rep result) → OfEntries result → Read files schema source bundle w.plan
+  entries_read w such =
+      let is : OfEntries w.plan.status = subst OfEntries (sym w.status) such in
+      read_all files schema source bundle w.plan (due_for files may words (commands.Check schema source bundle) w.plan has w.due (λ e. of_no_other w.plan.status statuses.NoMemory e (λ x. x) is)) is
+
+  said : (Says : Schema → List Entry → PlainProgram → List ℕ → Type 0) (w : IsWritten files may words out rep result) (h : Read files schema source bundle w.plan) → Says h.known h.entries h.program w.plan.out × (w.plan.rep ≡ []) → IsCheck files Says schema source bundle out rep
+  said Says w h s =
+      record {
+        tables = h.tables;
+        class = h.class;
+        evidence = h.evidence;
+        text = w.plan.out;
+        read_tables = h.read_tables;
+        read_class = h.read_class;
+        read_evidence = h.read_evidence;
+        is = record { tables = h.known; program = h.program; entries = h.entries; is_schema = h.is_schema; is_program = h.is_program; is_bundle = h.is_bundle; says = s.0 };
+        wrote_text = w.wrote_text;
+        wrote_lines = subst (λ (text : List ℕ). Appends rep.old rep.new text) s.1 w.wrote_lines;
+      }
+
+  well : result ≡ statuses.Ok → IsCheck files IsAccepted schema source bundle out rep
+  well ok =
+      let w = written files may words out rep result done (λ e. let no : statuses.WriteFault ≡ statuses.Ok = sym e ∙ ok in cc) in
+      let h = entries_read w (subst OfEntries (sym ok) tt) in
+      said IsAccepted w h (told_well h.known h.entries h.program (checked_from h.known 0 h.entries h.program) w.plan refl h.told (w.status ∙ ok))
+
+  refuses : result ≡ statuses.Refused → IsCheck files IsRefused schema source bundle out rep
+  refuses ok =
+      let w = written files may words out rep result done (λ e. let no : statuses.WriteFault ≡ statuses.Refused = sym e ∙ ok in cc) in
+      let h = entries_read w (subst OfEntries (sym ok) tt) in
+      said IsRefused w h (told_not h.known h.entries h.program (checked_from h.known 0 h.entries h.program) w.plan refl h.told (w.status ∙ ok))
+
+pub checked : (files : Given) (may : May) (words : List (List ℕ)) (out rep : Change) (result : Status) → IsDone files may words out rep result → HasCheck files words out rep result
+checked files may words out rep result done schema source bundle has =
+    record { well = well files may words out rep result done schema source bundle has; refuses = refuses files may words out rep result done schema source bundle has }

@@ -1,0 +1,73 @@
+-- What a rewriting answers is what `prove` writes, and its bundle is accepted.
+use Rattle.std.proofs.Common.{◌≡◌, ℕ, ◌<◌, ◌≤◌, ◌^◌, List, ◌++◌, length, refl, sym, ap, ◌∙◌, subst, arith}
+use Rattle.std.specs.List.{flat_map}
+use Rattle.qbs_base.specs.declared.status.Status.{Status}
+use Rattle.qbs_base.specs.Values.{Schema}
+use Rattle.java_ast.specs.Tree.{PlainProgram}
+use Rattle.java_mean.specs.Keeps.{Keeps}
+use Rattle.java_mean.specs.WellTyped.{IsWellTyped}
+use Rattle.java_grammar.specs.Marks.{all_strict}
+use Rattle.java_grammar.proofs.TwoPlaces.{strict_tokens, one_path}
+use Rattle.java_types.specs.Texts.{read_by}
+use Rattle.deriv_check.specs.Bundles.{Entry}
+use Rattle.deriv_check.specs.Grammar.{HasBundle, Each, IsWritableEntry}
+use Rattle.deriv_check.specs.Texts.{bundle_text}
+use Rattle.rewrite_core.specs.declared.rewritten.LoopVerdict.{LoopVerdict}
+use Rattle.rewrite_core.specs.Checking.{LoopsStandApart}
+use Rattle.rewrite_core.specs.Pruned.{ArePruned}
+use Rattle.rewrite_core.specs.Rewriting.{bundle_of, verdicts_of, StandAsTried}
+use Rattle.rewrite_core.specs.Trying.{all_tried, rewritten}
+use Rattle.rewrite_core.proofs.AcceptedBundles.{bundle_accepted}
+use Rattle.rewrite_core.proofs.WritableBundles.{bundle_writable}
+use Rattle.qbs.specs.declared.plan.Plan.{Plan}
+use Rattle.qbs.specs.Lines.{verdict_line, pruned_line}
+use Rattle.qbs.specs.Opening.{IsProgramOf}
+use Rattle.qbs.specs.Plan.{May}
+use Rattle.qbs.specs.Prove.{entries_for, Proves}
+use Rattle.qbs.proofs.Rewrote.{is_rewriting}
+
+short_source : (n : ℕ) → n ≤ 1048576 → n < 2 ^ 32
+short_source n h = omega arith
+
+module _ (tables : Schema) (source : List ℕ) (p : PlainProgram) (read : IsProgramOf tables source p) where
+  loops_apart : LoopsStandApart p
+  loops_apart m n a b first other l = one_path source read.tokens (all_strict read.tokens.list) p read.has_tokens (strict_tokens read.tokens.list) read.has_program a b l
+
+  entries_written : (size budget : ℕ) → budget ≤ 1000000 → length source ≤ 1048576 → Each IsWritableEntry (entries_for tables size budget p)
+  entries_written size budget few short = bundle_writable tables size budget source read.tokens p few (short_source (length source) short) read.has_tokens read.has_program
+
+abbrev plan_with : List ℕ → List ℕ → Plan
+plan_with a b = record { status = Status.Ok; out = a; rep = b }
+
+proved : (may : May) (tables : Schema) (size budget : ℕ) (source : List ℕ) (p r : PlainProgram) (entries : List Entry) (verdicts : List LoopVerdict) (dropped : ℕ) (plan : Plan) →
+    size ≤ 8 → budget ≤ 1000000 → length source ≤ 1048576 → IsProgramOf tables source p →
+    r ≡ rewritten tables size budget p → verdicts ≡ verdicts_of (all_tried tables size budget p) → entries ≡ entries_for tables size budget p →
+    ArePruned may.drops may.keeps size (all_tried tables size budget p) dropped →
+    IsWellTyped tables (read_by tables) r → Keeps p r tables → StandAsTried (all_tried tables size budget p) r →
+    plan ≡ plan_with (bundle_text entries) (flat_map verdict_line verdicts ++ pruned_line dropped) →
+    Proves may tables size budget p plan
+proved may tables size budget source p r entries verdicts dropped plan few_formulas few short read is said bundled counted well keeps standing due =
+    record {
+      rewriting = is_rewriting tables size budget p r is well keeps standing;
+      member = (refl, entries_written tables source p read size budget few short);
+      accepted = bundle_accepted tables size budget p few_formulas (loops_apart tables source p read);
+      pruned = dropped;
+      counted = counted;
+      written = due
+          ∙ ap (λ (es : List Entry). plan_with (bundle_text es) (flat_map verdict_line verdicts ++ pruned_line dropped)) bundled
+          ∙ ap (λ (vs : List LoopVerdict). plan_with (bundle_text (entries_for tables size budget p)) (flat_map verdict_line vs ++ pruned_line dropped)) said;
+    }
+
+-- the same for the numbers that options stand for
+pub proved_as : (may : May) (tables : Schema) (size size_in budget budget_in : ℕ) (source : List ℕ) (p r : PlainProgram) (entries : List Entry) (verdicts : List LoopVerdict) (dropped : ℕ) (plan : Plan) →
+    size ≡ size_in → budget ≡ budget_in →
+    size ≤ 8 → budget ≤ 1000000 → length source ≤ 1048576 → IsProgramOf tables source p →
+    r ≡ rewritten tables size budget p → verdicts ≡ verdicts_of (all_tried tables size budget p) → entries ≡ bundle_of (all_tried tables size budget p) →
+    ArePruned may.drops may.keeps size (all_tried tables size budget p) dropped →
+    IsWellTyped tables (read_by tables) r → Keeps p r tables → StandAsTried (all_tried tables size budget p) r →
+    plan ≡ plan_with (bundle_text entries) (flat_map verdict_line verdicts ++ pruned_line dropped) →
+    Proves may tables size_in budget_in p plan
+proved_as may tables size size_in budget budget_in source p r entries verdicts dropped plan same_size same_budget few_formulas few short read is said bundled counted well keeps standing due =
+    subst (λ (s : ℕ). Proves may tables s budget_in p plan) same_size
+    (subst (λ (b : ℕ). Proves may tables size b p plan) same_budget
+    (proved may tables size budget source p r entries verdicts dropped plan few_formulas few short read is said bundled counted well keeps standing due))

@@ -1,0 +1,64 @@
+-- The command `check`: the entries of a bundle are taken in order against a program, each on what those before it made of it.
+use Rattle.std.specs.Prelude.{◌≡◌, ℕ, List, [], ◌++◌, codes, length}
+use Rattle.std.specs.Fmt.{decimal}
+use Rattle.qbs_base.specs.declared.status.Status.{Status}
+use Rattle.qbs_base.specs.Values.{Schema}
+use Rattle.java_ast.specs.Tree.{PlainProgram}
+use Rattle.java_mean.specs.Keeps.{Keeps}
+use Rattle.java_mean.specs.WellTyped.{IsWellTyped}
+use Rattle.java_types.specs.Texts.{read_by}
+use Rattle.deriv_check.specs.declared.fault.BundleFault.{BundleFault}
+use Rattle.deriv_check.specs.Bundles.{Entry}
+use Rattle.deriv_check.specs.Grammar.{HasBundle, IsOffset}
+use Rattle.rewrite_core.specs.Checking.{Checks, All, Refused, checked_from}
+use Rattle.qbs.specs.declared.plan.Plan.{Plan}
+use Rattle.qbs.specs.Lines.{bundle_fault_text}
+use Rattle.qbs.specs.Opening.{has_schema, has_program}
+use Rattle.qbs.specs.Plan.{Given, line, refusal}
+use Rattle.qbs.specs.Steps.{Ends, finds, reads}
+
+-- ---- The bundle
+
+-- no bundle has the bytes, and the offset is the length of the longest front of them with which some bundle begins
+abbrev pub BreaksBundle : List ℕ → BundleFault → Type 0
+BreaksBundle bytes fault = IsOffset HasBundle bytes fault.offset
+
+abbrev pub bundle_refusal : BundleFault → Plan
+bundle_refusal fault = refusal Status.Bundle (bundle_fault_text fault)
+
+abbrev pub has_bundle : List ℕ → (List Entry → Ends) → Ends
+has_bundle bytes next = finds (HasBundle bytes) (BreaksBundle bytes) bundle_refusal next
+
+-- ---- What is written
+
+-- all entries are accepted, and the program that they make is well typed and does what this one does
+pub record AreAccepted (tables : Schema) (entries : List Entry) (p q : PlainProgram) : Type 0 where
+  pub all : checked_from tables 0 entries p ≡ All (length entries) q
+  pub well : IsWellTyped tables (read_by tables) q
+  pub keeps : Keeps p q tables
+
+abbrev pub accepted_line : ℕ → List ℕ
+accepted_line n = line (codes "ok " ++ decimal n)
+
+abbrev pub refused_line : ℕ → List ℕ
+refused_line ordinal = line (codes "refused " ++ decimal ordinal)
+
+-- what is written of a bundle, of which this comes
+abbrev pub tells : Schema → List Entry → PlainProgram → Checks → Ends
+tells tables entries p (All n q) plan = AreAccepted tables entries p q × (plan ≡ record { status = Status.Ok; out = accepted_line n; rep = [] })
+tells tables entries p (Refused ordinal) plan = plan ≡ record { status = Status.Refused; out = refused_line ordinal; rep = [] }
+
+abbrev pub checks : Schema → PlainProgram → List Entry → Ends
+checks tables p entries = tells tables entries p (checked_from tables 0 entries p)
+
+-- ---- The command
+
+-- over the bytes of a schema, a source and a bundle
+abbrev pub check_of : List ℕ → List ℕ → List ℕ → Ends
+check_of schema source bundle =
+    has_schema schema (λ tables. has_program tables source (λ p. has_bundle bundle (λ entries. checks tables p entries)))
+
+abbrev pub check : Given → List ℕ → List ℕ → List ℕ → Ends
+check files schema source bundle =
+    reads files schema 262144 (codes "schema") (λ s. reads files source 1048576 (codes "source") (λ t.
+    reads files bundle 16777216 (codes "bundle") (λ b. check_of s t b)))

@@ -1,0 +1,107 @@
+-- What bundles are worth: what `prove` wrote and what `check` said, of the very program and the very bytes that were read.
+use Rattle.std.specs.Prelude.{◌≡◌, ℕ, List, [], length}
+use Rattle.std.specs.Io.KnownBytes.{Appends}
+use Rattle.qbs_base.specs.declared.status.Status.{Status}
+use Rattle.qbs_base.specs.Values.{Schema}
+use Rattle.java_ast.specs.Tree.{PlainProgram}
+use Rattle.deriv_check.specs.Bundles.{Entry}
+use Rattle.deriv_check.specs.Grammar.{HasBundle}
+use Rattle.rewrite_core.specs.Checking.{Refused, checked_from}
+use Rattle.rewrite_core.specs.Pruned.{ArePruned}
+use Rattle.rewrite_core.specs.Rewriting.{StandAsTried}
+use Rattle.rewrite_core.specs.Trying.{all_tried, rewritten}
+use Rattle.words.specs.declared.command.Command.TheVariants as commands
+use Rattle.words.specs.declared.command.Options.{Options}
+use Rattle.words.specs.Plain.{HasWords}
+use Rattle.qbs.specs.Check.{AreAccepted, accepted_line, refused_line}
+use Rattle.qbs.specs.Deliver.{Change}
+use Rattle.qbs.specs.Lines.{report_text}
+use Rattle.qbs.specs.Opening.{IsSchemaOf, IsProgramOf}
+use Rattle.qbs.specs.Plan.{Given, May}
+use Rattle.qbs.specs.Prove.{entries_for}
+use Rattle.qbs.specs.Rewrite.{size_of, budget_of}
+use Rattle.qbs.specs.Steps.{IsRead}
+
+-- ---- `prove`
+
+-- what `prove` wrote for the bytes of a schema and a source
+pub record IsProved (may : May) (size budget : ℕ) (schema source out rep : List ℕ) : Type 0 where
+  -- the schema, and the well-typed program that the source has
+  pub tables : Schema
+  pub program : PlainProgram
+  pub is_schema : IsSchemaOf schema tables
+  pub is_program : IsProgramOf tables source program
+  -- What is written is the bundle of all loops that gave way. Its entries are accepted, and make the program after all tries, which is well
+  -- typed and does what the program read does.
+  pub bundle : HasBundle out (entries_for tables size budget program)
+  pub accepted : AreAccepted tables (entries_for tables size budget program) program (rewritten tables size budget program)
+  -- report: a line for each loop that was tried, and how many candidates were dropped
+  pub pruned : ℕ
+  pub counted : ArePruned may.drops may.keeps size (all_tried tables size budget program) pruned
+  pub report : rep ≡ report_text (all_tried tables size budget program) pruned
+  -- each loop that no entry is of stands as it was tried
+  pub standing : StandAsTried (all_tried tables size budget program) (rewritten tables size budget program)
+
+-- both files were read, and both sinks have grown by what is written
+pub record IsProof (files : Given) (may : May) (o : Options) (schema source : List ℕ) (out rep : Change) : Type 0 where
+  pub tables : List ℕ
+  pub class : List ℕ
+  pub text : List ℕ
+  pub lines : List ℕ
+  pub read_tables : IsRead files schema 262144 tables
+  pub read_class : IsRead files source 1048576 class
+  pub is : IsProved may (size_of o) (budget_of o) tables class text lines
+  pub wrote_text : Appends out.old out.new text
+  pub wrote_lines : Appends rep.old rep.new lines
+
+abbrev pub HasProof : Given → May → List (List ℕ) → Change → Change → Status → Type 0
+HasProof files may words out rep result =
+    (o : Options) (schema source : List ℕ) → HasWords words (commands.Prove o schema source) → result ≡ Status.Ok → IsProof files may o schema source out rep
+
+-- ---- `check`
+
+-- the entries of a bundle are accepted, so many as the line says
+pub record IsAccepted (tables : Schema) (entries : List Entry) (p : PlainProgram) (said : List ℕ) : Type 0 where
+  -- they make a program, which is well typed and does what the program read does
+  pub made : PlainProgram
+  pub accepted : AreAccepted tables entries p made
+  pub is : said ≡ accepted_line (length entries)
+
+-- the first entry that isn't accepted has the ordinal that the line says
+pub record IsRefused (tables : Schema) (entries : List Entry) (p : PlainProgram) (said : List ℕ) : Type 0 where
+  pub ordinal : ℕ
+  pub refused : checked_from tables 0 entries p ≡ Refused ordinal
+  pub is : said ≡ refused_line ordinal
+
+-- what `check` said of the bytes of a schema, a source and a bundle
+pub record IsChecked (Says : Schema → List Entry → PlainProgram → List ℕ → Type 0) (schema source bundle said : List ℕ) : Type 0 where
+  -- the schema, the well-typed program that the source has, and the entries of the bundle
+  pub tables : Schema
+  pub program : PlainProgram
+  pub entries : List Entry
+  pub is_schema : IsSchemaOf schema tables
+  pub is_program : IsProgramOf tables source program
+  pub is_bundle : HasBundle bundle entries
+  pub says : Says tables entries program said
+
+-- all three files were read, and the output has grown by a line
+pub record IsCheck (files : Given) (Says : Schema → List Entry → PlainProgram → List ℕ → Type 0) (schema source bundle : List ℕ) (out rep : Change) : Type 0 where
+  pub tables : List ℕ
+  pub class : List ℕ
+  pub evidence : List ℕ
+  pub text : List ℕ
+  pub read_tables : IsRead files schema 262144 tables
+  pub read_class : IsRead files source 1048576 class
+  pub read_evidence : IsRead files bundle 16777216 evidence
+  pub is : IsChecked Says tables class evidence text
+  pub wrote_text : Appends out.old out.new text
+  pub wrote_lines : Appends rep.old rep.new []
+
+-- where `check` ends well, and where it refuses
+pub record SaysRightly (files : Given) (schema source bundle : List ℕ) (out rep : Change) (result : Status) : Type 0 where
+  pub well : result ≡ Status.Ok → IsCheck files IsAccepted schema source bundle out rep
+  pub refuses : result ≡ Status.Refused → IsCheck files IsRefused schema source bundle out rep
+
+abbrev pub HasCheck : Given → List (List ℕ) → Change → Change → Status → Type 0
+HasCheck files words out rep result =
+    (schema source bundle : List ℕ) → HasWords words (commands.Check schema source bundle) → SaysRightly files schema source bundle out rep result

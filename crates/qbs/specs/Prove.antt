@@ -1,0 +1,41 @@
+-- The command `prove`: loops are tried as `rewrite` tries them, and the bundle of those that gave way is written.
+use Rattle.std.specs.Prelude.{◌≡◌, ℕ, List, codes, length}
+use Rattle.qbs_base.specs.Values.{Schema}
+use Rattle.java_ast.specs.Tree.{PlainProgram}
+use Rattle.deriv_check.specs.Bundles.{Entry}
+use Rattle.deriv_check.specs.Grammar.{HasBundle}
+use Rattle.deriv_check.specs.Texts.{bundle_text}
+use Rattle.rewrite_core.specs.Checking.{All, checked_from}
+use Rattle.rewrite_core.specs.Pruned.{ArePruned}
+use Rattle.rewrite_core.specs.Rewriting.{bundle_of}
+use Rattle.rewrite_core.specs.Trying.{all_tried, rewritten}
+use Rattle.words.specs.declared.command.Options.{Options}
+use Rattle.qbs.specs.declared.plan.Plan.{Plan}
+use Rattle.qbs.specs.Opening.{has_schema, has_program}
+use Rattle.qbs.specs.Plan.{Given, May}
+use Rattle.qbs.specs.Rewrite.{size_of, budget_of, IsRewriting, rewriting_plan}
+use Rattle.qbs.specs.Steps.{Ends, reads}
+
+-- an entry for each loop that gives way, in the order of the tries
+abbrev pub entries_for : Schema → ℕ → ℕ → PlainProgram → List Entry
+entries_for tables size budget p = bundle_of (all_tried tables size budget p)
+
+-- The text of the entries is written, and what is said of each loop. The text is read as those entries, of which each is accepted; they make
+-- the rewritten program.
+pub record Proves (may : May) (tables : Schema) (size budget : ℕ) (p : PlainProgram) (plan : Plan) : Type 0 where
+  pub rewriting : IsRewriting tables size budget p
+  pub member : HasBundle (bundle_text (entries_for tables size budget p)) (entries_for tables size budget p)
+  pub accepted : checked_from tables 0 (entries_for tables size budget p) p ≡ All (length (entries_for tables size budget p)) (rewritten tables size budget p)
+  pub pruned : ℕ
+  pub counted : ArePruned may.drops may.keeps size (all_tried tables size budget p) pruned
+  pub written : plan ≡ rewriting_plan tables size budget p (bundle_text (entries_for tables size budget p)) pruned
+
+-- ---- The command
+
+-- over the bytes of a schema and a source
+abbrev pub prove_of : May → Options → List ℕ → List ℕ → Ends
+prove_of may o schema source = has_schema schema (λ tables. has_program tables source (λ p. Proves may tables (size_of o) (budget_of o) p))
+
+abbrev pub prove : Given → May → Options → List ℕ → List ℕ → Ends
+prove files may o schema source =
+    reads files schema 262144 (codes "schema") (λ s. reads files source 1048576 (codes "source") (λ t. prove_of may o s t))

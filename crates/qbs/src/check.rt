@@ -1,0 +1,111 @@
+// The command `check`.
+ghost use Rattle.std.specs.Prelude.{◌≡◌, ◌≤◌, IfOk, [], string_bytes};
+ghost use Rattle.qbs_base.specs.Outside.{Rose};
+ghost use Rattle.java_ast.specs.Reading.{program as plain_program};
+ghost use Rattle.java_mean.specs.WellTyped.{IsWellTyped};
+ghost use Rattle.java_types.specs.Texts.{read_by};
+ghost use Rattle.deriv_check.specs.Bundles.{entries_of};
+ghost use Rattle.deriv_check.specs.Grammar.{HasBundle};
+ghost use Rattle.qbs.specs.Check.{BreaksBundle, bundle_refusal, accepted_line, refused_line, checks, check_of, check};
+ghost use Rattle.qbs.specs.Code.{Goes, OrMemory};
+ghost use Rattle.qbs.specs.Plan.{given};
+ghost use Rattle.qbs.specs.Steps.{refused as lacking};
+
+use crate::Plan;
+use crate::fetch::{Stop, fetch};
+use crate::lines::bundle_refused;
+use crate::opening::{open_program, open_schema};
+use deriv_check::{Bundle, parse_bundle};
+use java_types::Typed;
+use qbs_base::{Bytes, Fail, Files, Status, Text};
+use rewrite_core::{Checked, check_bundle};
+use schema::Schema;
+use std::alloc::{AllocError, Global};
+
+/// What is due for the files of a schema, a source and a bundle.
+pub fn plan_check<F: Files>(
+    alloc: Global,
+    files: &mut F,
+    schema: &Text,
+    source: &Text,
+    bundle: &Text,
+) -> Result<Plan, Stop>
+    ensures same { F.told files.new ≡ F.told files.old }
+    ensures later { F.faults files.old ≤ F.faults files.new }
+    ensures due { OrMemory result (check (given F.told F.faults files.old files.new) schema.now source.now bundle.now) }
+{
+    let schema = fetch(alloc, files, schema, 262144, "schema")?;
+    let source = fetch(alloc, files, source, 1048576, "source")?;
+    let bundle = fetch(alloc, files, bundle, 16777216, "bundle")?;
+    plan_texts(
+        alloc,
+        schema.as_slice(),
+        source.as_slice(),
+        bundle.as_slice(),
+    )
+}
+
+// What is due for their bytes.
+fn plan_texts(alloc: Global, schema: &[u8], source: &[u8], bundle: &[u8]) -> Result<Plan, Stop>
+    ensures { OrMemory result (check_of schema.now source.now bundle.now) }
+{
+    let schema = open_schema(alloc, schema)?;
+    let typed = open_program(alloc, &schema, source)?;
+    let bundle = open_bundle(alloc, bundle)?;
+    plan_bundle(alloc, &schema, &typed, &bundle)
+}
+
+// The bundle that bytes are, or the refusal of the first byte with which no bundle goes on.
+#[tactic(auto, using(crate::proofs::Checked::bundle_stops))]
+fn open_bundle(alloc: Global, bytes: &[u8]) -> Result<Bundle, Stop>
+    ensures { Goes result (λ b. HasBundle bytes.now (entries_of b)) (lacking (BreaksBundle bytes.now) bundle_refusal) }
+{
+    match parse_bundle(alloc, bytes) {
+        Ok(bundle) => Ok(bundle),
+        Err(Fail::Fault(fault)) => Err(bundle_refused(alloc, &fault)),
+        Err(Fail::NoMemory) => Err(Stop::Memory),
+    }
+}
+
+// How many entries are accepted, or which is the first that isn't.
+fn plan_bundle(alloc: Global, schema: &Schema, typed: &Typed, bundle: &Bundle) -> Result<Plan, Stop>
+    requires { IsWellTyped schema.now (read_by schema.now) (plain_program typed.now.program) }
+    ensures { OrMemory result (checks schema.now (plain_program typed.now.program) (entries_of bundle.now)) }
+{
+    match check_bundle(alloc, schema, typed, bundle)? {
+        Checked::All { n, .. } => {
+            let line = accepted(alloc, n)?;
+            Ok(told(alloc, Status::Ok, line))
+        }
+        Checked::Refused { ordinal } => {
+            let line = refused(alloc, ordinal)?;
+            Ok(told(alloc, Status::Refused, line))
+        }
+    }
+}
+
+fn told(alloc: Global, status: Status, line: String) -> Plan
+    ensures { result ≡ record { status = status; out = string_bytes line; rep = [] } }
+{
+    Plan {
+        status,
+        out: Bytes::from_vec(line.into_bytes()),
+        rep: Bytes::new(alloc),
+    }
+}
+
+// All entries are accepted, so many.
+fn accepted(alloc: Global, n: u64) -> Result<String, AllocError>
+    ensures { IfOk result (λ s. string_bytes s ≡ accepted_line n) }
+{
+    let text = format!(in alloc; "ok {n}\n")?;
+    Ok(text)
+}
+
+// The first entry that isn't accepted, counted from 1.
+fn refused(alloc: Global, ordinal: u64) -> Result<String, AllocError>
+    ensures { IfOk result (λ s. string_bytes s ≡ refused_line ordinal) }
+{
+    let text = format!(in alloc; "refused {ordinal}\n")?;
+    Ok(text)
+}

@@ -1,0 +1,116 @@
+// The command `prove`.
+ghost use Rattle.std.specs.Prelude.{◌≡◌, ◌≤◌, ◌++◌, IfOk, length};
+ghost use Rattle.std.specs.List.{flat_map};
+ghost use Rattle.qbs_base.specs.Outside.{Rose};
+ghost use Rattle.java_ast.specs.Reading.{program as plain_program};
+ghost use Rattle.deriv_check.specs.Bundles.{entries_of};
+ghost use Rattle.deriv_check.specs.Texts.{bundle_text};
+ghost use Rattle.qbs.specs.Code.{OrMemory};
+ghost use Rattle.qbs.specs.Lines.{verdict_line, pruned_line};
+ghost use Rattle.qbs.specs.Opening.{IsProgramOf};
+ghost use Rattle.qbs.specs.Plan.{given, may};
+ghost use Rattle.qbs.specs.Prove.{Proves, prove_of, prove};
+ghost use Rattle.qbs.specs.Rewrite.{size_of as size_in, budget_of as budget_in};
+ghost use Rattle.qbs.specs.Within.{AreWithin};
+
+use crate::Plan;
+use crate::fetch::{Stop, fetch};
+use crate::opening::{open_program, open_schema};
+use crate::report::report;
+use crate::rewrite::{budget_of, size_of};
+use deriv_check::print_bundle;
+use java_types::Typed;
+use kernel_lang::{Candidate, KFragment, PruneAnswer};
+use qbs_base::{Bytes, Files, NoMemory, Status, Text};
+use query_search::Pruner;
+use rewrite_core::{Rewritten, rewrite};
+use schema::Schema;
+use std::alloc::Global;
+use words::Options;
+
+/// What is due for the files of a schema and a source.
+pub fn plan_prove<F: Files>(
+    alloc: Global,
+    files: &mut F,
+    options: &Options,
+    schema: &Text,
+    source: &Text,
+    pruners: &[Pruner],
+) -> Result<Plan, Stop>
+    requires { AreWithin options.now }
+    ensures same { F.told files.new ≡ F.told files.old }
+    ensures later { F.faults files.old ≤ F.faults files.new }
+    ensures due { OrMemory result (prove (given F.told F.faults files.old files.new)
+        (may (λ p. ⟦<Box<dyn Fn(&KFragment, &Candidate) -> PruneAnswer> as Fn(&KFragment, &Candidate) -> PruneAnswer>⟧.post p.call) pruners.now)
+        options.now schema.now source.now) }
+{
+    let schema = fetch(alloc, files, schema, 262144, "schema")?;
+    let source = fetch(alloc, files, source, 1048576, "source")?;
+    plan_texts(
+        alloc,
+        options,
+        schema.as_slice(),
+        source.as_slice(),
+        pruners,
+    )
+}
+
+// What is due for their bytes.
+fn plan_texts(
+    alloc: Global,
+    options: &Options,
+    schema: &[u8],
+    source: &[u8],
+    pruners: &[Pruner],
+) -> Result<Plan, Stop>
+    requires within { AreWithin options.now }
+    requires short { length source.now ≤ 1048576 }
+    ensures { OrMemory result (prove_of
+        (may (λ p. ⟦<Box<dyn Fn(&KFragment, &Candidate) -> PruneAnswer> as Fn(&KFragment, &Candidate) -> PruneAnswer>⟧.post p.call) pruners.now)
+        options.now schema.now source.now) }
+{
+    let schema = open_schema(alloc, schema)?;
+    let typed = open_program(alloc, &schema, source)?;
+    plan_program(alloc, options, &schema, source, &typed, pruners)
+}
+
+// The bundle of the loops that give way, and the report.
+fn plan_program(
+    alloc: Global,
+    options: &Options,
+    schema: &Schema,
+    source: &[u8],
+    typed: &Typed,
+    pruners: &[Pruner],
+) -> Result<Plan, Stop>
+    requires within { AreWithin options.now }
+    requires short { length source.now ≤ 1048576 }
+    requires program { IsProgramOf schema.now source.now (plain_program typed.now.program) }
+    ensures { OrMemory result (Proves
+        (may (λ p. ⟦<Box<dyn Fn(&KFragment, &Candidate) -> PruneAnswer> as Fn(&KFragment, &Candidate) -> PruneAnswer>⟧.post p.call) pruners.now)
+        schema.now (size_in options.now) (budget_in options.now) (plain_program typed.now.program)) }
+{
+    let size = size_of(options);
+    let budget = budget_of(options);
+    let rewritten = rewrite(alloc, schema, typed, source, size, budget, pruners)?;
+    Ok(plan_entries(alloc, &rewritten)?)
+}
+
+// The text of the entries, and the report.
+fn plan_entries(alloc: Global, rewritten: &Rewritten) -> Result<Plan, NoMemory>
+    ensures { IfOk result (λ plan.
+        plan
+        ≡ record {
+          status = Status.Ok;
+          out = bundle_text (entries_of rewritten.now.bundle);
+          rep = flat_map verdict_line rewritten.now.verdicts ++ pruned_line rewritten.now.dropped;
+        }) }
+{
+    let text = print_bundle(alloc, &rewritten.bundle)?;
+    let rep = report(alloc, rewritten.verdicts.as_slice(), rewritten.dropped)?;
+    Ok(Plan {
+        status: Status::Ok,
+        out: Bytes::from_vec(text.into_vec()),
+        rep,
+    })
+}
