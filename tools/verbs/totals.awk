@@ -1,0 +1,27 @@
+# The findings of all files, behind tools/rules.tsv: how many there are of each kind, as bars.
+BEGIN {
+    FS = "\t"
+    split("found none budget error", names, " ")
+    title["found"] = "gave way to a query"
+    title["none"] = "none of the queries that were tried"
+    title["budget"] = "too many queries to try"
+    title["error"] = "fault in the file"
+}
+FILENAME == ARGV[1] {
+    if ($1 == "kernel") title[$3] = $3 ": " $4
+    next
+}
+{ count[$3 == "outside" ? $4 : $3]++ }
+function bar(name, class) {
+    if (count[name]) printf "<tr><td>%s</td><td>%d</td><td><div class=\"%s\" style=\"width:%d%%\"></div></td></tr>\n", title[name], count[name], class, 100 * count[name] / most
+}
+END {
+    for (name in count) if (count[name] > most) most = count[name]
+    print "<table class=\"totals\">"
+    bar("found", "found")
+    for (number = 1; number <= 9; number++) bar("K" number, "outside")
+    bar("none", "none")
+    bar("budget", "budget")
+    bar("error", "error")
+    print "</table>"
+}
