@@ -1,0 +1,5 @@
+public class Pay {
+    public long id;
+    public long personId;
+    public long amount;
+}

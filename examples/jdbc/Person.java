@@ -1,0 +1,7 @@
+public class Person {
+    public long id;
+    public String name;
+    public long roleId;
+    public long age;
+    public boolean active;
+}

@@ -1,0 +1,4 @@
+public class Role {
+    public long id;
+    public String label;
+}

@@ -1,0 +1,2 @@
+CREATE TABLE User (id BIGINT, name TEXT);
+CREATE TABLE Orders (id BIGINT, userId BIGINT);

@@ -1,0 +1,2 @@
+CREATE TABLE User (id BIGINT, name TEXT);
+CREATE TABLE Order (id BIGINT, userId BIGINT);

@@ -1,0 +1,1 @@
+CREATE TABLE Role (id BIGINT, label TEXT);

@@ -1,0 +1,6 @@
+class Fault {
+    String last() {
+        List<User> users = db.fetch(User.class);
+        return users.get(users.size() - 1).name;
+    }
+}
