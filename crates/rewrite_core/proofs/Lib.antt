@@ -17,6 +17,7 @@ pub mod EarlierLoops
 pub mod FaultlessArguments
 pub mod FaultlessAsks
 pub mod FaultlessCalls
+pub mod FirstLoops
 pub mod Fitting
 pub mod FurtherTries
 pub mod GivenThere

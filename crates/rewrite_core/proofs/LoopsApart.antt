@@ -9,7 +9,7 @@ use Rattle.sql_ast.proofs.Tools.{all_at}
 use Rattle.sql_ast.specs.Tree.{PlainQuery}
 use Rattle.sql_parts.proofs.Tools.{eq_true, eq_itself, get_map}
 use Rattle.java_lex.specs.Spans.{SamePlace}
-use Rattle.java_ast.specs.Path.{and_then, last_of, statement_at}
+use Rattle.java_ast.specs.Path.{and_then, last_of}
 use Rattle.java_ast.specs.Spans.{place_of}
 use Rattle.java_ast.specs.Tree as tree
 use Rattle.java_ast.specs.Tree.{Spelled, Expression, Statement, Statements, Nothing, Then, PlainProgram}
@@ -28,8 +28,9 @@ use Rattle.java_loops.specs.Meant.LoopStands.{LoopStands}
 use Rattle.java_loops.specs.Walks.Replacing.{Ask, asking, asked}
 use Rattle.java_loops.proofs.Kept.KeptPath.{setting_fragment, setting_stands}
 use Rattle.rewrite_core.specs.Asked.{Place, asks_of, number_of, first_of_run, replaced}
-use Rattle.rewrite_core.specs.Checking.{is_at, path_to, LoopsStandApart}
+use Rattle.rewrite_core.specs.Checking.{path_to, LoopsStandApart}
 use Rattle.rewrite_core.proofs.DistinctLoops.{loop_number}
+use Rattle.rewrite_core.proofs.FirstLoops.{is_there}
 use Rattle.rewrite_core.proofs.LoopPlaces.{places_in, places_among, places_of, places_at, sited, StandsAlone, AreApart, LeftOut, joined_places, rest_apart, stretch_out}
 use Rattle.rewrite_core.proofs.LoopSites.{Site, site, sites_of, paths_of, paths_are, StandsAt, all_stand_at}
 use Rattle.rewrite_core.proofs.StaysTyped.{first_there}
@@ -82,10 +83,6 @@ other_place at to differ = go ((at.line == to.line) && (at.column == to.column))
     go : (b : Bool) → ((at.line == to.line) && (at.column == to.column)) ≡ b → b ≡ false
     go false e = refl
     go true e = let two = and_parts (at.line == to.line) (at.column == to.column) e in absurd (differ (eq_true at.line to.line two.0, eq_true at.column to.column two.1))
-
--- what a site's path leads to stands at the site's place
-is_there : (p : PlainProgram) (s : Site) (line column : ℕ) → StandsAt p s → is_at line column (statement_at s.path p) ≡ ((s.at.line == line) && (s.at.column == column))
-is_there p s line column k = ap (is_at line column) k.1 ∙ ap (λ (x : Span). (x.line == line) && (x.column == column)) k.2
 
 same_some : (x s : Site) → Some x ≡ Some s → x ≡ s
 same_some x s e = cc

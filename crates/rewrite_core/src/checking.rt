@@ -1,15 +1,15 @@
 // Bundles that are checked against a program.
-ghost use Rattle.std.specs.Prelude.{◌≡◌, true, map, option_copied, IfOk, IfSome};
+ghost use Rattle.std.specs.Prelude.{◌≡◌, true, map, IfOk, IfSome};
 ghost use Rattle.std.specs.declared.option.Option.TheVariants.{Some};
 ghost use Rattle.tor_axioms.specs.Accepts.{proof_of, claim_of};
 ghost use Rattle.deriv_check.specs.Bundles.{entry_of, entries_of};
-ghost use Rattle.java_ast.specs.Path.{last_of, replaced_at, statement_at};
+ghost use Rattle.java_ast.specs.Path.{last_of, replaced_at};
 ghost use Rattle.java_ast.specs.Reading.{statements, program as plain_program};
 ghost use Rattle.java_mean.specs.Keeps.{Keeps};
 ghost use Rattle.java_mean.specs.WellTyped.{IsWellTyped};
 ghost use Rattle.java_types.specs.Texts.{read_by};
 ghost use Rattle.rewrite_core.specs.Checking as spec;
-ghost use Rattle.rewrite_core.specs.Checking.{checked_from, shown, path_to};
+ghost use Rattle.rewrite_core.specs.Checking.{checked_from, shown};
 ghost use Rattle.rewrite_core.specs.Checked.{checks_in, IfAll, IsShown, Follows};
 ghost use Rattle.kernel_lang.specs.Whole.{fragment_of};
 ghost use Rattle.vc_gen.specs.Soundness.{EndsAnywhere};
@@ -22,10 +22,11 @@ ghost use Rattle.sql_parts.specs.Given.{AreKnownTo};
 ghost use Rattle.loop_text.specs.Statements.Walking.{IsLoopOf};
 ghost use Rattle.loop_text.specs.Statements.Loops.{loops_of};
 
+use crate::finding::find_loop;
 use crate::replacing::{put_instead, statements_instead};
 use deriv_check::{Bundle, BundleEntry, accepts};
-use fragments::{Lowered, loops, lower};
-use java_ast::{Path, Program, Stmt, at_path, copy_program};
+use fragments::{Lowered, lower};
+use java_ast::{Path, Program, Stmt, copy_program};
 use java_types::Typed;
 use kernel_lang::{Candidate, KFragment};
 use qbs_base::{Fail, NoMemory};
@@ -53,28 +54,6 @@ pub struct Shown {
 }
 
 // ---- One entry
-
-// Whether the statement stands at this line and column to which a path leads.
-fn is_there(program: &Program, path: &Path, line: u64, column: u64) -> bool
-    ensures { result ≡ spec.is_at line column (statement_at path.now (plain_program program.now)) }
-{
-    match at_path(program, path) {
-        Some(s) => s.span.line == line && s.span.column == column,
-        None => false,
-    }
-}
-
-// The number of the first of these paths that leads to a statement at this line and column, or how many there are.
-fn find_there<'a>(program: &Program, paths: &'a [Path], line: u64, column: u64) -> Option<&'a Path>
-    ensures { option_copied result ≡ path_to line column (plain_program program.now) paths.now }
-{
-    for path in paths {
-        if is_there(program, path, line, column) {
-            return Some(path);
-        }
-    }
-    None
-}
 
 // Whether there are as many derivations as conditions, each accepted.
 fn are_accepted(alloc: Global, vcs: &[Vc], proofs: &[Derivation]) -> Result<bool, NoMemory>
@@ -182,10 +161,9 @@ fn check_entry(
     requires typed { IsWellTyped schema.now (read_by schema.now) (plain_program typed.now.program) }
     ensures { IfOk result (IsShown schema.now (plain_program typed.now.program) (shown schema.now (entry_of e.now) (plain_program typed.now.program))) }
 {
-    let paths = loops(alloc, typed)?;
-    match find_there(typed.program(), paths.as_slice(), e.line, e.column) {
+    match find_loop(alloc, typed.program(), e.line, e.column)? {
         None => Ok(None),
-        Some(path) => check_loop(alloc, schema, typed, path, e),
+        Some(path) => check_loop(alloc, schema, typed, &path, e),
     }
 }
 

@@ -4,6 +4,7 @@
 mod asking;
 pub mod bundled;
 mod checking;
+mod finding;
 pub mod laws;
 mod looped;
 mod outcome;
