@@ -3,6 +3,7 @@ pub mod Branches
 pub mod Changed
 pub mod Columns
 pub mod Occurring
+pub mod Operands
 pub mod Placing
 pub mod Readings
 pub mod Seen

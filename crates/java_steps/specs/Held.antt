@@ -1,6 +1,7 @@
 -- The values that the interpreter's values stand for.
-use Rattle.std.specs.Prelude.{List as Items}
+use Rattle.std.specs.Prelude.{List as Items, Result, Ok, Err}
 use Rattle.qbs_base.specs.declared.scalar.Row.{Row}
+use Rattle.qbs_base.specs.declared.scalar.Scalar.{Scalar}
 use Rattle.qbs_base.specs.declared.scalar.Value.{Value}
 use Rattle.qbs_base.specs.declared.scalar.Value.TheVariants as values
 use Rattle.java_mean.specs.Store as meant
@@ -9,6 +10,7 @@ use Rattle.java_steps.specs.declared.held.List.TheVariants.{Lent, Shared, Distin
 use Rattle.java_steps.specs.declared.held.Held.{Held}
 use Rattle.java_steps.specs.declared.held.Held.TheVariants.{One, Whole, Many}
 use Rattle.java_steps.specs.declared.held.Variable.{Variable}
+use Rattle.java_steps.specs.declared.stop.Stop.{Stop}
 
 abbrev pub rows_in : List → Items Row
 rows_in (Lent rows) = rows.now
@@ -22,3 +24,8 @@ value_in (Many list) = values.Many (rows_in list)
 
 abbrev pub variable_in : Variable → meant.Variable
 variable_in v = record { value = value_in v.held; is_set = v.is_set }
+
+-- a scalar as a value, where there is one
+abbrev pub one_held : Result Scalar Stop → Result Held Stop
+one_held (Ok x) = Ok (One x)
+one_held (Err stop) = Err stop

@@ -1,5 +1,5 @@
 -- Parts of the meaning that functions of the interpreter give.
-use Rattle.std.specs.Prelude.{ℕ, ℤ, Bool, List, ◌++◌, Result, Ok}
+use Rattle.std.specs.Prelude.{ℕ, ℤ, pos, Bool, not, List, length, ◌++◌, Result, Ok}
 use Rattle.qbs_base.specs.Named.{at_name}
 use Rattle.qbs_base.specs.Scalar.{value_before}
 use Rattle.qbs_base.specs.Sort.{turned, stable_sort}
@@ -9,10 +9,12 @@ use Rattle.qbs_base.specs.declared.scalar.Scalar.{Scalar}
 use Rattle.qbs_base.specs.declared.scalar.Value.{Value}
 use Rattle.qbs_base.specs.declared.scalar.Value.TheVariants.{Many}
 use Rattle.qbs_base.specs.declared.span.Span.{Span}
+use Rattle.sql_ast.specs.Grouped.{firsts}
 use Rattle.java_mean.specs.declared.ending.Ending.{Ending}
 use Rattle.java_mean.specs.Endings.{◌>>=◌, found}
+use Rattle.java_ast.specs.declared.tree.Op.{Op}
 use Rattle.java_ast.specs.Tree.{Expression, Expressions}
-use Rattle.java_mean.specs.Expression.{value_of, scalars_of, answered, as_row, as_rows, cell, element, in_range, nth}
+use Rattle.java_mean.specs.Expression.{value_of, scalars_of, answered, as_scalar, as_row, as_rows, as_long, as_bool, alone, applied, cell, element, in_range, is_among, nth, number, or_else, same_member, same_text, settled, truth}
 use Rattle.java_mean.specs.Statement.{State, with_value, added, in_order}
 use Rattle.java_mean.specs.Store.{Store}
 use Rattle.java_mean.specs.World.{World}
@@ -27,6 +29,16 @@ list_at s x = do
   held ← found (at_name s x)
   as_rows held.value
 
+abbrev pub scalar_at : Store → List ℕ → Result Scalar Ending
+scalar_at s x = do
+  v ← held_at s x
+  as_scalar v
+
+abbrev pub size_at : Span → Store → List ℕ → Result Value Ending
+size_at at s x = do
+  rows ← list_at s x
+  number at (pos (length rows))
+
 abbrev pub cell_in : World → Row → List ℕ → Result Scalar Ending
 cell_in w row name = found (cell w.schema row name)
 
@@ -39,6 +51,50 @@ abbrev pub fetched : World → List ℕ → Result Value Ending
 fetched w t = do
   rows ← found (at_name w.db t)
   Ok (Many rows)
+
+-- the scalar of an expression, and what is made of it
+abbrev pub scalar_in : Expression → World → Store → Result Scalar Ending
+scalar_in e w s = do
+  v ← value_of e w s
+  as_scalar v
+
+-- the operator's value where its first operand is this scalar
+abbrev pub operated_in : Op → Span → Scalar → Expression → World → Store → Result Value Ending
+operated_in op at x e w s = or_else (settled op x) (do
+  y ← scalar_in e w s
+  applied op at x y)
+
+abbrev pub opposite_in : Expression → World → Store → Result Value Ending
+opposite_in e w s = do
+  x ← scalar_in e w s
+  b ← as_bool x
+  Ok (truth (not b))
+
+abbrev pub same_text_in : Scalar → Expression → World → Store → Result Value Ending
+same_text_in x e w s = do
+  y ← scalar_in e w s
+  same ← same_text x y
+  Ok (truth same)
+
+abbrev pub member_in : Span → List ℕ → Expression → World → Store → Result Value Ending
+member_in at x e w s = do
+  rows ← list_at s x
+  y ← scalar_in e w s
+  n ← as_long y
+  member_at at rows n
+
+abbrev pub contained_in : List ℕ → Expression → World → Store → Result Value Ending
+contained_in x e w s = do
+  rows ← list_at s x
+  y ← scalar_in e w s
+  Ok (truth (is_among rows (alone y)))
+
+-- the rows of an expression, each at its first place
+abbrev pub distinct_in : Expression → World → Store → Result Value Ending
+distinct_in e w s = do
+  v ← value_of e w s
+  rows ← as_rows v
+  Ok (Many (firsts same_member rows))
 
 abbrev pub field_in : Expression → World → Store → List ℕ → Result Scalar Ending
 field_in e w s name = do

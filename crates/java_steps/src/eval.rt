@@ -1,5 +1,5 @@
 // The value of an expression.
-ghost use Rattle.std.specs.Prelude.{◌≡◌, pos};
+ghost use Rattle.std.specs.Prelude.{◌≡◌, Ok, pos};
 ghost use Rattle.qbs_base.specs.declared.scalar.Value.TheVariants as values;
 ghost use Rattle.qbs_base.specs.Named.{at_name};
 ghost use Rattle.sql_ast.specs.Grouped.{firsts};
@@ -8,9 +8,9 @@ ghost use Rattle.java_mean.specs.Endings.{found};
 ghost use Rattle.java_mean.specs.Expression as meant;
 ghost use Rattle.java_mean.specs.Expression.{same_member};
 ghost use Rattle.java_steps.specs.Gives.{Gives, GivesBy};
-ghost use Rattle.java_steps.specs.Held.{rows_in, value_in};
+ghost use Rattle.java_steps.specs.Held.{one_held, rows_in, value_in};
 ghost use Rattle.java_steps.specs.Running.{world};
-ghost use Rattle.java_steps.specs.Words.{held_at, list_at, member_at, cell_in, field_in, asked_in, fetched as fetched_in};
+ghost use Rattle.java_steps.specs.Words.{held_at, scalar_at, list_at, size_at, member_at, cell_in, scalar_in, field_in, operated_in, opposite_in, same_text_in, member_in, contained_in, distinct_in, asked_in, fetched as fetched_in};
 
 use crate::asked::{bool_of, list_in, long_of, row_of, scalar_of};
 use crate::firsts::first_rows;
@@ -21,7 +21,7 @@ use crate::rows::{cell, element, is_among, row_at};
 use crate::source::Source;
 use crate::stop::Stop;
 use crate::store::Store;
-use java_ast::{Expr, ExprNode};
+use java_ast::{Expr, ExprNode, Op};
 use java_mean::{Ending, RunFault};
 use qbs_base::{Name, Row, Scalar, Scalars, Span, Text, copy_scalar};
 use std::alloc::Global;
@@ -45,6 +45,53 @@ fn list<'b, 'a>(store: &'b Store<'a>, number: usize, name: &Name) -> Result<&'b 
         Held::Whole(_) => Err(Stop::Ends(Ending::Stuck)),
         Held::Many(list) => Ok(rows(list)),
     }
+}
+
+// The scalar that a literal is.
+#[inline(never)]
+fn literal(alloc: Global, x: &Scalar) -> Result<Scalar, Stop>
+    ensures { Gives result (Ok x.now) }
+{
+    Ok(copy_scalar(alloc, x)?)
+}
+
+// A scalar as a value.
+#[inline(never)]
+fn one<'a>(x: Result<Scalar, Stop>) -> Result<Held<'a>, Stop>
+    ensures { result ≡ one_held x }
+{
+    match x {
+        Ok(x) => Ok(Held::One(x)),
+        Err(stop) => Err(stop),
+    }
+}
+
+// The value of a variable.
+#[inline(never)]
+fn value<'a>(alloc: Global, store: &Store<'a>, number: usize, name: &Name) -> Result<Held<'a>, Stop>
+    ensures { GivesBy value_in result (held_at store.now name.now) }
+{
+    Ok(held_again(alloc, held(store, number, name)?)?)
+}
+
+// The scalar of a variable.
+#[inline(never)]
+fn scalar_held(alloc: Global, store: &Store, number: usize, name: &Name) -> Result<Scalar, Stop>
+    ensures { Gives result (scalar_at store.now name.now) }
+{
+    match held(store, number, name)? {
+        Held::One(x) => Ok(copy_scalar(alloc, x)?),
+        Held::Whole(_) => Err(Stop::Ends(Ending::Stuck)),
+        Held::Many(_) => Err(Stop::Ends(Ending::Stuck)),
+    }
+}
+
+// How many rows a list or a set has.
+#[inline(never)]
+fn size(store: &Store, number: usize, name: &Name, at: &Span) -> Result<Scalar, Stop>
+    ensures { GivesBy values.One result (size_at at.now store.now name.now) }
+{
+    size_number(*at, list(store, number, name)?.len())
 }
 
 // The cell of a row.
@@ -95,6 +142,120 @@ fn field(row: &Expr, source: &Source, store: &Store, name: &Name) -> Result<Scal
     cell_of(source, &row, name)
 }
 
+// The operator's value, where its first operand gave this scalar.
+#[inline(never)]
+#[cycle(eval)]
+fn operated(
+    op: Op,
+    at: &Span,
+    x: &Scalar,
+    b: &Expr,
+    source: &Source,
+    store: &Store,
+) -> Result<Scalar, Stop>
+    ensures { GivesBy values.One result (operated_in op at.now x.now (expression b.now) (world source.now) store.now) }
+{
+    if let Some(b) = settled(op, x) {
+        return Ok(Scalar::Bool(b));
+    }
+    let y = scalar(b, source, store)?;
+    applied(op, *at, x, &y)
+}
+
+// The opposite of what an expression gives.
+#[inline(never)]
+#[cycle(eval)]
+fn opposite(a: &Expr, source: &Source, store: &Store) -> Result<Scalar, Stop>
+    ensures { GivesBy values.One result (opposite_in (expression a.now) (world source.now) store.now) }
+{
+    let x = scalar(a, source, store)?;
+    Ok(Scalar::Bool(!bool_of(&x)?))
+}
+
+// Whether an expression gives this very text.
+#[inline(never)]
+#[cycle(eval)]
+fn gives_text(x: &Scalar, b: &Expr, source: &Source, store: &Store) -> Result<Scalar, Stop>
+    ensures { GivesBy values.One result (same_text_in x.now (expression b.now) (world source.now) store.now) }
+{
+    let y = scalar(b, source, store)?;
+    Ok(Scalar::Bool(same_texts(x, &y)?))
+}
+
+// The member of a list at the place that an expression gives.
+#[inline(never)]
+#[cycle(eval)]
+fn member_of<'a>(
+    list_name: &Name,
+    a: &Expr,
+    at: &Span,
+    source: &Source,
+    store: &Store,
+) -> Result<Held<'a>, Stop>
+    ensures { GivesBy value_in result (member_in at.now list_name.now (expression a.now) (world source.now) store.now) }
+{
+    let rows = list(store, source.numbers.at(*at), list_name)?;
+    let y = scalar(a, source, store)?;
+    member(source.alloc, rows, long_of(&y)?, *at)
+}
+
+// Whether what an expression gives is among the rows of a list.
+#[inline(never)]
+#[cycle(eval)]
+fn contained(
+    list_name: &Name,
+    a: &Expr,
+    at: &Span,
+    source: &Source,
+    store: &Store,
+) -> Result<Scalar, Stop>
+    ensures { GivesBy values.One result (contained_in list_name.now (expression a.now) (world source.now) store.now) }
+{
+    let rows = list(store, source.numbers.at(*at), list_name)?;
+    let y = scalar(a, source, store)?;
+    Ok(Scalar::Bool(is_among(rows, &[y])))
+}
+
+// The rows that an expression gives, each at its first place.
+#[inline(never)]
+#[cycle(eval)]
+fn distinct<'a>(a: &Expr, source: &Source, store: &Store) -> Result<Held<'a>, Stop>
+    ensures { GivesBy value_in result (distinct_in (expression a.now) (world source.now) store.now) }
+{
+    let list = list_in(eval(a, source, store)?)?;
+    Ok(Held::Many(first_rows(source.alloc, &list)?))
+}
+
+// The scalar of an expression that may give anything.
+#[inline(never)]
+#[cycle(eval)]
+fn scalar_given(e: &Expr, source: &Source, store: &Store) -> Result<Scalar, Stop>
+    ensures { Gives result (scalar_in (expression e.now) (world source.now) store.now) }
+{
+    scalar_of(eval(e, source, store)?)
+}
+
+/// The scalar that an expression gives. What gives scalars alone makes no other value on the way, so
+/// that operators which stand deep in each other take little stack.
+#[inline(never)]
+#[cycle(eval)]
+#[tactic(auto, using(java_ast::proofs::Nodes::nodes))]
+pub fn scalar(e: &Expr, source: &Source, store: &Store) -> Result<Scalar, Stop>
+    ensures { Gives result (scalar_in (expression e.now) (world source.now) store.now) }
+{
+    match &e.node {
+        ExprNode::Lit(x) => literal(source.alloc, x),
+        ExprNode::Var(x) => scalar_held(source.alloc, store, source.numbers.at(e.span), x),
+        ExprNode::Field(row, name) => field(row, source, store, name),
+        ExprNode::Binary(op, a, b) => {
+            let x = scalar(a, source, store)?;
+            operated(*op, &e.span, &x, b, source, store)
+        }
+        ExprNode::Not(a) => opposite(a, source, store),
+        _ => scalar_given(e, source, store),
+    }
+}
+
 /// The value of an expression, or the first fault from left to right.
 ///
 /// It calls itself for the parts of an expression, as deep as the tree is, which the grammar limits.
@@ -103,53 +264,32 @@ fn field(row: &Expr, source: &Source, store: &Store, name: &Name) -> Result<Scal
 pub fn eval<'a>(e: &Expr, source: &Source<'a>, store: &Store<'a>) -> Result<Held<'a>, Stop>
     ensures { GivesBy value_in result (meant.value_of (expression e.now) (world source.now) store.now) }
 {
-    let at = e.span;
-    match &e.node {
-        ExprNode::Lit(x) => Ok(Held::One(copy_scalar(source.alloc, x)?)),
-        ExprNode::Var(x) => Ok(held_again(source.alloc, held(store, source.numbers.at(at), x)?)?),
-        ExprNode::Field(row, name) => Ok(Held::One(field(row, source, store, name)?)),
+    let at = &e.span;
+    let x = match &e.node {
+        ExprNode::Lit(x) => literal(source.alloc, x),
+        ExprNode::Var(x) => return value(source.alloc, store, source.numbers.at(*at), x),
+        ExprNode::Field(row, name) => field(row, source, store, name),
         ExprNode::Binary(op, a, b) => {
-            let x = scalar_of(eval(a, source, store)?)?;
-            if let Some(b) = settled(*op, &x) {
-                return Ok(Held::One(Scalar::Bool(b)));
-            }
-            let y = scalar_of(eval(b, source, store)?)?;
-            Ok(Held::One(applied(*op, at, &x, &y)?))
+            let x = scalar(a, source, store)?;
+            operated(*op, at, &x, b, source, store)
         }
-        ExprNode::Not(a) => {
-            let x = scalar_of(eval(a, source, store)?)?;
-            Ok(Held::One(Scalar::Bool(!bool_of(&x)?)))
-        }
+        ExprNode::Not(a) => opposite(a, source, store),
         ExprNode::Equals(a, b) => {
-            let x = scalar_of(eval(a, source, store)?)?;
-            let y = scalar_of(eval(b, source, store)?)?;
-            Ok(Held::One(Scalar::Bool(same_texts(&x, &y)?)))
+            let x = scalar(a, source, store)?;
+            gives_text(&x, b, source, store)
         }
-        ExprNode::Size(x) => Ok(Held::One(size_number(
-            at,
-            list(store, source.numbers.at(at), x)?.len(),
-        )?)),
-        ExprNode::Get(x, a) => {
-            let rows = list(store, source.numbers.at(at), x)?;
-            let y = scalar_of(eval(a, source, store)?)?;
-            member(source.alloc, rows, long_of(&y)?, at)
-        }
-        ExprNode::Contains(x, a) => {
-            let rows = list(store, source.numbers.at(at), x)?;
-            let y = scalar_of(eval(a, source, store)?)?;
-            Ok(Held::One(Scalar::Bool(is_among(rows, &[y]))))
-        }
-        ExprNode::Fetch(table) => fetched(source, table),
-        ExprNode::Query(_, text, args) => asked(args, source, store, at, text),
-        ExprNode::QueryLong(text, args) => asked(args, source, store, at, text),
-        ExprNode::QueryBoolean(text, args) => asked(args, source, store, at, text),
-        ExprNode::NewList => Ok(Held::Many(List::Lent(&[]))),
-        ExprNode::NewSet(None) => Ok(Held::Many(List::Lent(&[]))),
-        ExprNode::NewSet(Some(a)) => {
-            let list = list_in(eval(a, source, store)?)?;
-            Ok(Held::Many(first_rows(source.alloc, &list)?))
-        }
-    }
+        ExprNode::Size(x) => size(store, source.numbers.at(*at), x, at),
+        ExprNode::Get(x, a) => return member_of(x, a, at, source, store),
+        ExprNode::Contains(x, a) => contained(x, a, at, source, store),
+        ExprNode::Fetch(table) => return fetched(source, table),
+        ExprNode::Query(_, text, args) => return asked(args, source, store, *at, text),
+        ExprNode::QueryLong(text, args) => return asked(args, source, store, *at, text),
+        ExprNode::QueryBoolean(text, args) => return asked(args, source, store, *at, text),
+        ExprNode::NewList => return Ok(Held::Many(List::Lent(&[]))),
+        ExprNode::NewSet(None) => return Ok(Held::Many(List::Lent(&[]))),
+        ExprNode::NewSet(Some(a)) => return distinct(a, source, store),
+    };
+    one(x)
 }
 
 // The answer of a text's query to the scalars of expressions.
@@ -177,7 +317,7 @@ fn scalars(es: &[Expr], source: &Source, store: &Store) -> Result<Scalars, Stop>
 {
     let mut xs = Scalars::new(source.alloc);
     for e in es {
-        xs.push(scalar_of(eval(e, source, store)?)?)?;
+        xs.push(scalar(e, source, store)?)?;
     }
     Ok(xs)
 }

@@ -10,8 +10,8 @@ ghost use Rattle.java_steps.specs.Chosen.{chosen, count_other};
 ghost use Rattle.java_steps.specs.Frames.{Moves, weight_next, count, count_all};
 ghost use Rattle.java_steps.specs.Words.{assigned, added_to, sorted_at};
 
-use crate::asked::{bool_of, list_in, member_of, scalar_of};
-use crate::eval::eval;
+use crate::asked::{bool_of, list_in, member_of};
+use crate::eval::{eval, scalar};
 use crate::frame::{Frame, Next};
 use crate::held::{Held, List, Variable, list_of, list_of_members, own_members, own_rows};
 use crate::machine::Machine;
@@ -28,7 +28,7 @@ use std::alloc::Global;
 pub fn test<'a>(source: &Source<'a>, cond: &Expr, m: &Machine<'a>) -> Result<bool, Stop>
     ensures { Gives result (test_of (expression cond.now) (world source.now) m.now.store) }
 {
-    bool_of(&scalar_of(eval(cond, source, &m.store)?)?)
+    bool_of(&scalar(cond, source, &m.store)?)
 }
 
 fn is_set_type(ty: &JTy) -> bool
@@ -215,7 +215,7 @@ pub fn start<'a>(source: &Source<'a>, s: &'a Stmt, m: &mut Machine<'a>) -> Resul
         }
         StmtNode::While { cond, body } => Ok(Next::Enter(Frame::Loop(cond, body))),
         StmtNode::Print { value } => {
-            let x = scalar_of(eval(value, source, &m.store)?)?;
+            let x = scalar(value, source, &m.store)?;
             print(source.alloc, &x, m)?;
             Ok(Next::On)
         }
