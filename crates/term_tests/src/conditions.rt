@@ -1,12 +1,14 @@
 // The conditions of users with a role, by a flag that a loop over roles sets, and of a candidate that
 // chooses the flag and its test.
+ghost use Rattle.std.specs.Prelude.{◌≤◌, length};
+
 use crate::made::{all_of, both_signs, numbers};
 use kernel_lang::{Acc, Accs, Guards, KFragment, Parts, Update};
 use qbs_base::{Items, NoMemory, Scalar};
 use std::alloc::Global;
 use std::test::Fail;
 use tor_axioms::Vcs;
-use tor_terms::{Atom, Atoms, Elem, Formula, Operand, Term, same_term};
+use tor_terms::{Atom, Atoms, Elem, Formula, Operand, Term};
 use vc_gen::{conditions, own_condition};
 
 fn tests(alloc: Global) -> Result<Atoms, NoMemory> {
@@ -73,12 +75,15 @@ fn parts(alloc: Global) -> Result<Box<Parts>, NoMemory> {
     Ok(Box::new(alloc, parts)?)
 }
 
+fn is_true(term: &Term) -> bool {
+    matches!(term, Term::Lit(Scalar::Bool(true)))
+}
+
 // How many facts each condition has, and whether its right side sets the flag.
 fn as_written(vcs: &Vcs, facts: &[usize; 8]) -> bool {
-    let set = Term::Lit(Scalar::Bool(true));
     let mut k = 0;
     for vc in vcs.as_slice() {
-        if k >= 8 || vc.facts.len() != facts[k] || same_term(&vc.right, &set) != (k == 5) {
+        if k >= 8 || vc.facts.len() != facts[k] || is_true(&vc.right) != (k == 5) {
             return false;
         }
         k += 1;
@@ -103,6 +108,25 @@ fn a_flag_has_conditions_of_its_own(rt: HostRuntime) -> Result<(), Fail> {
     Ok(())
 }
 
+// How many facts a condition of an accumulator has, and none where it has fewer conditions.
+fn facts_of(
+    alloc: Global,
+    atoms: &Atoms,
+    acc: &Acc,
+    choice: &[Formula],
+    number: usize,
+) -> Result<Option<usize>, NoMemory>
+    requires { length acc.now.chain ≤ 3 }
+{
+    match own_condition(alloc, atoms, acc, choice, number)? {
+        Some(condition) => {
+            let condition = Box::new(alloc, condition)?;
+            Ok(Some(condition.facts.len()))
+        }
+        None => Ok(None),
+    }
+}
+
 // How many facts each condition of an accumulator has that chooses the first formula of its pool.
 fn own_as_written(
     alloc: Global,
@@ -117,16 +141,11 @@ fn own_as_written(
         return Ok(false);
     };
     for (n, count) in facts.iter().enumerate() {
-        match own_condition(alloc, atoms, acc, choice, n)? {
-            Some(condition) => {
-                if condition.facts.len() != *count {
-                    return Ok(false);
-                }
-            }
-            None => return Ok(false),
+        if facts_of(alloc, atoms, acc, choice, n)? != Some(*count) {
+            return Ok(false);
         }
     }
-    Ok(own_condition(alloc, atoms, acc, choice, 4)?.is_none())
+    Ok(facts_of(alloc, atoms, acc, choice, 4)?.is_none())
 }
 
 fn each_as_written(alloc: Global, frag: &KFragment) -> Result<bool, NoMemory> {

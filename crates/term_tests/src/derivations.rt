@@ -70,7 +70,7 @@ fn is_derived(alloc: Global, known: &[bool]) -> Result<bool, NoMemory> {
         left,
         right,
     } = Box::into_inner(vc);
-    let condition = Condition { facts, left, right };
+    let condition = Box::new(alloc, Condition { facts, left, right })?;
     derives(alloc, &atoms, &condition)
 }
 

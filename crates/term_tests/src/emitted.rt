@@ -40,7 +40,7 @@ fn emitted(
     cand: &[u32],
     known: &Queries,
     args: &NumberLists,
-) -> Result<Option<Emitted>, NoMemory> {
+) -> Result<Option<Box<Emitted>>, NoMemory> {
     let Ok(schema) = parse_schema(alloc, TABLES.as_bytes()) else {
         return Ok(None);
     };
@@ -52,13 +52,13 @@ fn emitted(
         return Ok(None);
     }
     let emitted = emit_exactly(alloc, &schema, &frag, &cand, 0, known, args)?;
-    Ok(Some(emitted))
+    Ok(Some(Box::new(alloc, emitted)?))
 }
 
 fn check_emitted(
     rt: &impl Abort,
     alloc: Global,
-    emitted: Result<Option<Emitted>, NoMemory>,
+    emitted: Result<Option<Box<Emitted>>, NoMemory>,
     text: &str,
     entries: &[u64],
 ) {
@@ -109,7 +109,7 @@ fn emitted_for(
     schema: &Schema,
     frag: &KFragment,
     cand: &Candidate,
-) -> Result<Option<Emitted>, NoMemory>
+) -> Result<Option<Box<Emitted>>, NoMemory>
     requires { fragment_of frag.now ≡ class_A }
 {
     if !has_roles(schema) {
@@ -124,10 +124,10 @@ fn emitted_for(
         &Items::new(alloc),
         &Items::new(alloc),
     )?;
-    Ok(Some(emitted))
+    Ok(Some(Box::new(alloc, emitted)?))
 }
 
-fn emitted_for_class_a(alloc: Global, number: u32) -> Result<Option<Emitted>, NoMemory> {
+fn emitted_for_class_a(alloc: Global, number: u32) -> Result<Option<Box<Emitted>>, NoMemory> {
     let Ok(schema) = parse_schema(alloc, TABLES.as_bytes()) else {
         return Ok(None);
     };
@@ -230,16 +230,16 @@ fn parameters(rt: HostRuntime) {
 }
 
 // The argument of the known query is the second entry.
-fn emitted_with_known(alloc: Global, cand: &[u32]) -> Result<Option<Emitted>, NoMemory> {
+fn emitted_with_known(alloc: Global, cand: &[u32]) -> Result<Option<Box<Emitted>>, NoMemory> {
     let params = items(alloc, [Ty::Text])?;
-    let known = items(alloc, [roles_labelled(alloc, SqlOpnd::Param(1), params)?])?;
+    let known = roles_labelled(alloc, Box::new(alloc, SqlOpnd::Param(1))?, params)?;
     let args = items(alloc, [items(alloc, [1])?])?;
     emitted(alloc, known_role(alloc)?, cand, &known, &args)
 }
 
-fn emitted_for_class_f(alloc: Global) -> Result<Option<Emitted>, NoMemory> {
+fn emitted_for_class_f(alloc: Global) -> Result<Option<Box<Emitted>>, NoMemory> {
     let staff = SqlOpnd::Lit(Scalar::Text(Text::from_str(alloc, "staff")?));
-    let known = items(alloc, [roles_labelled(alloc, staff, Items::new(alloc))?])?;
+    let known = roles_labelled(alloc, Box::new(alloc, staff)?, Items::new(alloc))?;
     let args = items(alloc, [Items::new(alloc)])?;
     emitted(alloc, class_f(alloc)?, &[0], &known, &args)
 }

@@ -24,12 +24,12 @@ fn appends(alloc: Global, chain: &[u32], guards: Guards, pool: &[u32]) -> Result
 }
 
 fn over(alloc: Global, tables: u32, atoms: Atoms, acc: Acc) -> Result<Box<Parts>, NoMemory> {
+    let mut accs = Items::new(alloc);
+    accs.push(acc)?;
     let mut lists = Items::new(alloc);
     for table in 0..tables {
         lists.push(all_of(alloc, table))?;
     }
-    let mut accs = Items::new(alloc);
-    accs.push(acc)?;
     let parts = Parts {
         lists,
         atoms,

@@ -7,7 +7,9 @@ ghost use Rattle.kernel_lang.specs.Worked.{all_of as list_all_of, over_one, clas
 
 use kernel_lang::{Acc, Accs, Col, ListDef, Parts, Update};
 use qbs_base::{Items, NoMemory, Scalar, Text, Ty, Tys};
-use sql_ast::{Cmp, Cond, FromItem, ListQuery, Query, SqlCol, SqlColumn, SqlItem, SqlOpnd};
+use sql_ast::{
+    Cmp, Cond, FromItem, ListQuery, Queries, Query, SqlCol, SqlColumn, SqlItem, SqlOpnd,
+};
 use std::alloc::Global;
 use tor_terms::{Atom, Atoms, Elem, Formula, Formulas, Operand};
 
@@ -175,10 +177,12 @@ fn role_flag(alloc: Global) -> Result<Acc, NoMemory> {
 
 // users with a role, by a flag that a loop over roles sets
 pub fn class_e(alloc: Global) -> Result<Parts, NoMemory> {
-    let atoms = items(alloc, [user_has_role(), Atom::Flag(1, items(alloc, [0])?)])?;
+    let loops = items(alloc, [0])?;
+    let atoms = items(alloc, [user_has_role(), Atom::Flag(1, loops)])?;
     let pool = items(alloc, [Formula::Is(1, true), Formula::Is(1, false)])?;
-    let users = over(alloc, &[0], Update::Push(Elem::Whole(0)), None, pool)?;
-    let accs = items(alloc, [users, role_flag(alloc)?])?;
+    let mut accs = Items::new(alloc);
+    accs.push(over(alloc, &[0], Update::Push(Elem::Whole(0)), None, pool)?)?;
+    accs.push(role_flag(alloc)?)?;
     parts(alloc, &[0, 1], atoms, accs)
 }
 
@@ -303,27 +307,52 @@ pub fn class_f(alloc: Global) -> Result<Parts, NoMemory> {
     Ok(parts)
 }
 
-fn role_column(alloc: Global, name: &str, number: u32) -> Result<SqlCol, NoMemory> {
+fn role_column(alloc: Global, name: &str, number: u32) -> Result<Box<SqlCol>, NoMemory> {
     let name = Text::from_str(alloc, name)?;
-    Ok(SqlCol {
+    let column = SqlCol {
         item: 1,
         column: SqlColumn::Named { name, number },
-    })
+    };
+    Ok(Box::new(alloc, column)?)
+}
+
+fn labelled(alloc: Global, label: Box<SqlOpnd>) -> Result<Box<Cond>, NoMemory> {
+    let column = role_column(alloc, "label", 1)?;
+    let column = SqlOpnd::Column(Box::into_inner(column));
+    let compared = Cond::Compare(Cmp::Eq, column, Box::into_inner(label));
+    Ok(Box::new(alloc, compared)?)
+}
+
+fn role(alloc: Global) -> Result<FromItem, NoMemory> {
+    let name = Text::from_str(alloc, "Role")?;
+    Ok(FromItem { name, table: 1 })
 }
 
 // SELECT t1.id FROM Role t1 WHERE t1.label = label
-pub fn roles_labelled(alloc: Global, label: SqlOpnd, params: Tys) -> Result<Query, NoMemory> {
-    let column = SqlOpnd::Column(role_column(alloc, "label", 1)?);
+fn role_query(alloc: Global, label: Box<SqlOpnd>, params: Tys) -> Result<Box<Query>, NoMemory> {
+    let filter = labelled(alloc, label)?;
     let id = role_column(alloc, "id", 0)?;
-    let name = Text::from_str(alloc, "Role")?;
-    let from = items(alloc, [FromItem { name, table: 1 }])?;
-    Ok(Query::Listing(ListQuery {
-        item: SqlItem::Column(id),
+    let from = items(alloc, [role(alloc)?])?;
+    let query = Query::Listing(ListQuery {
+        item: SqlItem::Column(Box::into_inner(id)),
         from,
-        filter: Some(Cond::Compare(Cmp::Eq, column, label)),
+        filter: Some(Box::into_inner(filter)),
         group: None,
         keys: Items::new(alloc),
         limit: None,
         params,
-    }))
+    });
+    Ok(Box::new(alloc, query)?)
+}
+
+/// The query of the ids of roles with a label, alone.
+pub fn roles_labelled(
+    alloc: Global,
+    label: Box<SqlOpnd>,
+    params: Tys,
+) -> Result<Queries, NoMemory> {
+    let query = role_query(alloc, label, params)?;
+    let mut queries = Items::new(alloc);
+    queries.push(Box::into_inner(query))?;
+    Ok(queries)
 }
