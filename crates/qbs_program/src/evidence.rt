@@ -1,5 +1,5 @@
 // Bundles that are written and checked, and what `make` writes.
-use crate::tables::{Row, SCHEMA, STAFF, files_of, is_so, words_of};
+use crate::tables::{Row, SCHEMA, STAFF, files_of, first_bytes, is_so, words_of};
 use qbs::qbs_main;
 use qbs_base::{Bytes, MemSink, Text};
 use std::alloc::Global;
@@ -285,7 +285,7 @@ fn is_refused_at_its_end(alloc: Global, length: usize) -> Result<bool, Fail> {
     let mut files = files_of(alloc, ONE)?;
     files.put(
         Text::from_str(alloc, "b.qbs")?,
-        Bytes::from_vec(BUNDLE.as_bytes()[..length].to_vec(alloc)?),
+        Bytes::from_vec(first_bytes(alloc, BUNDLE, length)?),
     )?;
     let mut out = MemSink::with_room(alloc, 100)?;
     let mut rep = MemSink::with_room(alloc, 100)?;
@@ -300,10 +300,8 @@ fn is_refused_at_its_end(alloc: Global, length: usize) -> Result<bool, Fail> {
 #[test]
 fn each_prefix_of_a_bundle_is_refused_at_its_end(rt: HostRuntime) -> Result<(), Fail> {
     let alloc = rt.alloc();
-    let mut length = 0;
-    while length < BUNDLE.len() {
+    for length in 0..BUNDLE.len() {
         assert!(rt; is_refused_at_its_end(alloc, length)?);
-        length += 1;
     }
     Ok(())
 }

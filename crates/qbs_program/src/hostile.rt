@@ -1,5 +1,5 @@
 // Reads and writes that fail, sources that are cut off, and texts that try the limits.
-use crate::tables::{REWRITTEN, ROLES, SCHEMA, STAFF, USERS, files_of, words_of};
+use crate::tables::{REWRITTEN, ROLES, SCHEMA, STAFF, USERS, files_of, first_bytes, words_of};
 use qbs::qbs_main;
 use qbs_base::{Bytes, MemSink, Text};
 use std::alloc::{AllocError, Global};
@@ -254,10 +254,10 @@ fn over(alloc: Global, words: &[&str], source: &[u8]) -> Result<Came, Fail> {
 
 // Whether the class of so many first bytes is no program, for each command that reads one.
 fn is_no_program(alloc: Global, length: usize) -> Result<bool, Fail> {
-    let source = &STAFF.as_bytes()[..length];
+    let source = first_bytes(alloc, STAFF, length)?;
     let mut all = true;
     for words in [REWRITE, PROVE, CHECK, RUN] {
-        let came = over(alloc, words, source)?;
+        let came = over(alloc, words, source.as_slice())?;
         all = all && came.code == 6 && came.out.bytes().is_empty();
     }
     Ok(all)
@@ -267,10 +267,8 @@ fn is_no_program(alloc: Global, length: usize) -> Result<bool, Fail> {
 fn each_prefix_of_a_class_is_no_program(rt: HostRuntime) -> Result<(), Fail> {
     let alloc = rt.alloc();
     // The last two bytes are the last brace and the end of its line.
-    let mut length = 0;
-    while length + 2 <= STAFF.len() {
+    for length in 0..STAFF.len().saturating_sub(1) {
         assert!(rt; is_no_program(alloc, length)?);
-        length += 1;
     }
     Ok(())
 }
@@ -286,16 +284,12 @@ fn nested(
     behind: &str,
 ) -> Result<Vec<u8>, AllocError> {
     let mut bytes = before.as_bytes().to_vec(alloc)?;
-    let mut left = count;
-    while left > 0 {
+    for _ in 0..count {
         bytes.extend_from_slice(opens.as_bytes())?;
-        left -= 1;
     }
     bytes.extend_from_slice(between.as_bytes())?;
-    left = count;
-    while left > 0 {
+    for _ in 0..count {
         bytes.extend_from_slice(closes.as_bytes())?;
-        left -= 1;
     }
     bytes.extend_from_slice(behind.as_bytes())?;
     Ok(bytes)

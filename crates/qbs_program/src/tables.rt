@@ -35,6 +35,18 @@ pub fn words_of(alloc: Global, words: &[&str]) -> Result<Words, AllocError> {
     Ok(Words::from_vec(texts))
 }
 
+/// So many first bytes of a text.
+pub fn first_bytes(alloc: Global, text: &str, count: usize) -> Result<Vec<u8>, AllocError> {
+    let mut first = Vec::new(alloc);
+    for byte in text.as_bytes() {
+        if first.len() == count {
+            return Ok(first);
+        }
+        first.push(*byte)?;
+    }
+    Ok(first)
+}
+
 pub fn files_of(alloc: Global, files: &[(&str, &str)]) -> Result<MemFiles, Fail> {
     let mut held = MemFiles::new(alloc);
     for (name, bytes) in files {
