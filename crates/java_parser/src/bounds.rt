@@ -2,9 +2,10 @@
 //
 // The reader calls itself for each statement and each parenthesis that stands in another one, and for each operator of a chain; typing, runs, copies,
 // texts and the drop of a tree go as deep as the tree is. The grammar allows 64 things open at a place and, in each, chains of 64 operators of each
-// rank: trees 12,000 deep. A statement takes up to 2.7 KB of stack, a parenthesis up to 2.3, a call up to 3.1 and an operator up to 1.0. Here a
-// statement or a block weighs five, a parenthesis four, an operator two and a dot one, and what stands in each other weighs 330 at most: that takes
-// some 200 KB, so that a program with a stack of 256 KB ends with a status.
+// rank: trees 12,000 deep. A statement takes up to 2.7 KB of stack, a parenthesis up to 2.3, a call up to 3.1, `||` and what stands in it up to 3.1
+// where a loop's condition becomes one of a query, and any other operator up to 1.0. Here a statement, a block, `||` and `&&` weigh five, a
+// parenthesis four, another operator two and a dot one, and what stands in each other weighs 330 at most: that takes some 210 KB, so that a program
+// with a stack of 256 KB ends with a status.
 use java_lex::{Token, TokenNode};
 use qbs_base::NoMemory;
 use std::alloc::Global;
@@ -19,7 +20,7 @@ const STATEMENT: u64 = 5;
 const PARENTHESIS: u64 = 4;
 
 /// What an operator of a rank weighs.
-const OPERATOR: [u64; RANKS] = [2, 2, 2, 2, 2, 2, 2, 1];
+const OPERATOR: [u64; RANKS] = [5, 5, 2, 2, 2, 2, 2, 1];
 
 /// What is open between two parentheses, or in a block outside of them.
 #[derive(Clone, Copy)]

@@ -145,7 +145,7 @@ pub fn parse_expression(alloc: Global, tokens: &Tokens) -> Result<Expr, Fail<Par
 /// Whether reading these tokens, and walking the program, fits a small stack.
 fn is_light(alloc: Global, room: u32, tokens: &[Token]) -> bool {
     if room <= DEEPEST {
-        matches!(fits_stack(alloc, tokens, 330, 64, 65), Ok(true))
+        matches!(fits_stack(alloc, tokens, 330, 64, 64), Ok(true))
     } else {
         matches!(fits_stack(alloc, tokens, 352, 512, 8193), Ok(true))
     }
