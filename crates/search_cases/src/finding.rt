@@ -1,5 +1,4 @@
 // What a search finds, as text.
-use crate::building::Building;
 use deriv_check::print_derivation;
 use kernel_lang::KFragment;
 use qbs_base::NoMemory;
@@ -26,27 +25,40 @@ fn put_candidate(
     Ok(())
 }
 
-/// Appends what a search finds in the fragment that was built: the number of the candidate that is found, its formulas, and a
+// No pruner is asked, so that none is dropped.
+fn put_dropped(out: &mut String, dropped: u64) -> Result<(), NoMemory> {
+    if dropped != 0 {
+        write!(out, "dropped {dropped}\n")?;
+    }
+    Ok(())
+}
+
+/// Appends what a search finds in a fragment: the number of the candidate that is found, its formulas, and a
 /// derivation a line; or of how many there is none.
 pub fn put_found(
     out: &mut String,
     alloc: Global,
-    building: &mut Building,
+    frag: &KFragment,
     size: u32,
     budget: u32,
 ) -> Result<(), NoMemory> {
-    let Ok(frag) = KFragment::from_parts(building.take(alloc)) else {
-        out.push_str("not valid\n")?;
-        return Ok(());
-    };
-    match search(alloc, &frag, size.min(8), u64::from(budget), &[])? {
+    match search(alloc, frag, size.min(8), u64::from(budget), &[])? {
         Found::Found {
             k,
             cand,
             proofs,
-            dropped: _,
-        } => put_candidate(out, alloc, k, cand.as_slice(), proofs.as_slice()),
-        Found::NoneOf { n, dropped: _ } => Ok(write!(out, "none of {n}\n")?),
-        Found::Budget { b, n, dropped: _ } => Ok(write!(out, "budget {b} of {n}\n")?),
+            dropped,
+        } => {
+            put_dropped(out, dropped)?;
+            put_candidate(out, alloc, k, cand.as_slice(), proofs.as_slice())
+        }
+        Found::NoneOf { n, dropped } => {
+            put_dropped(out, dropped)?;
+            Ok(write!(out, "none of {n}\n")?)
+        }
+        Found::Budget { b, n, dropped } => {
+            put_dropped(out, dropped)?;
+            Ok(write!(out, "budget {b} of {n}\n")?)
+        }
     }
 }

@@ -1,9 +1,9 @@
 // Operands, atoms, elements and updates.
 ghost use Rattle.std.specs.Prelude.{◌<◌};
 
-use crate::words::{number_at, word_at};
+use crate::words::{number_at, numbers_from, word_at};
 use kernel_lang::Update;
-use qbs_base::{Items, NoMemory, Scalar, Text};
+use qbs_base::{NoMemory, Scalar, Text};
 use std::alloc::Global;
 use tor_terms::{Atom, Elem, Operand, Way};
 
@@ -28,10 +28,7 @@ fn operand_at(alloc: Global, words: &[&str], n: usize) -> Result<Operand, NoMemo
 }
 
 fn flag_at(alloc: Global, words: &[&str]) -> Result<Atom, NoMemory> {
-    let mut loops = Items::new(alloc);
-    for word in words.iter().skip(3) {
-        loops.push(word.parse().unwrap_or(0))?;
-    }
+    let loops = numbers_from(alloc, words, 3)?;
     Ok(Atom::Flag(number_at(words, 2), loops))
 }
 

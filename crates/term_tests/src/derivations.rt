@@ -38,32 +38,15 @@ fn name_of(derivation: &Derivation) -> &'static str {
     }
 }
 
-fn derived(alloc: Global, known: &[bool]) -> Result<&'static str, NoMemory> {
-    let vc = turn(alloc, known)?;
-    match derive(alloc, &vc)? {
+fn derived(alloc: Global, vc: &Vc) -> Result<&'static str, NoMemory> {
+    match derive(alloc, vc)? {
         Some(derivation) => Ok(name_of(&derivation)),
         None => Ok("none"),
     }
 }
 
-fn shown(alloc: Global, known: &[bool]) -> &'static str {
-    match derived(alloc, known) {
-        Ok(name) => name,
-        Err(NoMemory) => "no memory",
-    }
-}
-
-#[test]
-fn a_turn_is_derived_by_what_is_known_of_its_test(rt: HostRuntime) -> Result<(), Fail> {
-    assert_eq!(rt; shown(rt.alloc(), &[true]), "the steps of the turn");
-    assert_eq!(rt; shown(rt.alloc(), &[true, false]), "absurd");
-    assert_eq!(rt; shown(rt.alloc(), &[false]), "none");
-    assert_eq!(rt; shown(rt.alloc(), &[]), "none");
-    Ok(())
-}
-
-fn is_derived(alloc: Global, known: &[bool]) -> Result<bool, NoMemory> {
-    let vc = turn(alloc, known)?;
+// Whether it is derived without its steps.
+fn is_derived(alloc: Global, vc: Box<Vc>) -> Result<bool, NoMemory> {
     let Vc {
         atoms,
         facts,
@@ -74,12 +57,25 @@ fn is_derived(alloc: Global, known: &[bool]) -> Result<bool, NoMemory> {
     derives(alloc, &atoms, &condition)
 }
 
+// What is known of the test, and what is derived.
+static DERIVED: [(&[bool], &str); 4] = [
+    (&[true], "the steps of the turn"),
+    (&[true, false], "absurd"),
+    (&[false], "none"),
+    (&[], "none"),
+];
+
+// Whether this is derived, also without its steps.
+fn derives_as(alloc: Global, known: &[bool], name: &str) -> Result<bool, NoMemory> {
+    let vc = turn(alloc, known)?;
+    let same = derived(alloc, &vc)? == name;
+    Ok(same && is_derived(alloc, vc)? == (name != "none"))
+}
+
 #[test]
-fn a_turn_is_derived_without_its_steps(rt: HostRuntime) -> Result<(), Fail> {
-    let alloc = rt.alloc();
-    assert!(rt; is_derived(alloc, &[true])?);
-    assert!(rt; is_derived(alloc, &[true, false])?);
-    assert!(rt; !is_derived(alloc, &[false])?);
-    assert!(rt; !is_derived(alloc, &[])?);
+fn a_turn_is_derived_by_what_is_known_of_its_test(rt: HostRuntime) -> Result<(), Fail> {
+    for (known, name) in &DERIVED {
+        assert!(rt; derives_as(rt.alloc(), known, name)?, "{name}");
+    }
     Ok(())
 }

@@ -3,11 +3,7 @@
 #![tactic(auto)]
 
 #[cfg(test)]
-mod bundles;
-#[cfg(test)]
-mod candidates;
-#[cfg(test)]
-mod conditions;
+mod acceptance;
 #[cfg(test)]
 mod derivations;
 #[cfg(test)]

@@ -129,11 +129,16 @@ fn sum_with(alloc: Global, other: i64) -> Result<Option<i64>, NoMemory> {
     Ok(number_in(eval(alloc, &sum, &atoms, &env)?))
 }
 
+static SUMS: [(i64, Option<i64>); 3] = [
+    (-7, Some(9223372036854775800)),
+    (0, Some(9223372036854775807)),
+    (1, None),
+];
+
 #[test]
 fn sums_are_numbers_of_64_bits(rt: HostRuntime) -> Result<(), Fail> {
-    let alloc = rt.alloc();
-    assert!(rt; sum_with(alloc, -7)? == Some(9223372036854775800));
-    assert!(rt; sum_with(alloc, 0)? == Some(9223372036854775807));
-    assert!(rt; sum_with(alloc, 1)? == None);
+    for (other, sum) in &SUMS {
+        assert!(rt; sum_with(rt.alloc(), *other)? == *sum, "{other}");
+    }
     Ok(())
 }

@@ -1,8 +1,8 @@
 use Rattle.std.proofs.Common.{◌≡◌, List, slice_get, Some, refl, subst}
 use Rattle.kernel_lang.specs.declared.parts.Acc.{Acc}
 use Rattle.kernel_lang.specs.Whole.{fragment_of}
-use Rattle.term_tests.proofs.Outside.{got_first, outside_first}
-use Rattle.term_tests.proofs.emitted.stands_outside.Goals as goal
+use Rattle.search_cases.proofs.Outside.{got_first, outside_first}
+use Rattle.search_cases.proofs.emission.stands_outside.Goals as goal
 
 pub returns-in-Some : goal.returns-in-Some
 returns-in-Some c h =
