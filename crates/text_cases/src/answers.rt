@@ -1,13 +1,11 @@
-// Queries over a table of one column, and their answers.
+// The answers of queries over a table of one column.
 ghost use Rattle.sql_ast.specs.Reading.{query};
 ghost use Rattle.sql_exec.specs.Answered.{IsAnswerable};
 
 use crate::places::text_of;
-use qbs_base::{Cells, Db, Fail, Kind, NoMemory, Row, Scalar, Scalars, Text};
-use schema::parse_schema;
+use qbs_base::{Cells, Db, Kind, NoMemory, Row, Scalar, Scalars, Text};
 use sql_ast::Query;
 use sql_exec::{Answer, answer};
-use sql_parse::parse_query;
 use std::alloc::Global;
 
 fn row(alloc: Global, number: i64) -> Result<Row, NoMemory> {
@@ -66,7 +64,8 @@ fn put_found(out: &mut String, found: &Answer) -> Result<(), NoMemory> {
     }
 }
 
-fn put_of_query(
+/// Appends the answer of a query over a table of these numbers.
+pub fn put_answer(
     out: &mut String,
     alloc: Global,
     q: &Query,
@@ -77,22 +76,4 @@ fn put_of_query(
     let db = numbered(alloc, numbers)?;
     let found = answer(alloc, q, &db, &Scalars::new(alloc))?;
     put_found(out, &found)
-}
-
-/// Appends the answer of the query in the first field over a table of the numbers in the others.
-#[tactic(auto, using(crate::proofs::Answerable::answerable))]
-pub fn put_answer(out: &mut String, alloc: Global, fields: &[Vec<u8>]) -> Result<(), NoMemory> {
-    let Some((text, numbers)) = fields.split_first() else {
-        return Ok(());
-    };
-    let Ok(schema) = parse_schema(alloc, b"CREATE TABLE T (number BIGINT);") else {
-        return Err(NoMemory);
-    };
-    let text = text_of(alloc, text)?;
-    let _size = text.as_str().len();
-    match parse_query(alloc, &schema, &text) {
-        Ok(q) => put_of_query(out, alloc, &q, numbers),
-        Err(Fail::Fault(_)) => Ok(out.push_str("no query")?),
-        Err(Fail::NoMemory) => Err(NoMemory),
-    }
 }

@@ -1,4 +1,5 @@
 // The type rules.
+use crate::boxes::boxed;
 use crate::parts::put_refusal;
 use crate::places::put_place;
 use java_ast::Program;
@@ -15,7 +16,7 @@ fn put_verdict(
     schema: &Schema,
     program: &Program,
 ) -> Result<(), NoMemory> {
-    match check(alloc, schema, program) {
+    match boxed(alloc, check(alloc, schema, program)) {
         Ok(_) => Ok(out.push_str("well typed")?),
         Err(Fail::Fault(fault)) => {
             let rule = fault.rule;
@@ -36,7 +37,7 @@ fn put_program(out: &mut String, alloc: Global, program: &Program) -> Result<(),
 /// Appends whether the program of these tokens is well typed under a schema of one table, or the
 /// fault that is kept.
 pub fn put_checked(out: &mut String, alloc: Global, tokens: &Tokens) -> Result<(), NoMemory> {
-    match parse(alloc, tokens) {
+    match boxed(alloc, parse(alloc, tokens)) {
         Ok(program) => put_program(out, alloc, &program),
         Err(refusal) => put_refusal(out, &refusal),
     }

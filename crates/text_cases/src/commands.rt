@@ -4,13 +4,17 @@ use qbs_base::{NoMemory, Words};
 use std::alloc::Global;
 use words::read_words;
 
+fn is_there<T: Drop>(value: Option<T>) -> bool {
+    value.is_some()
+}
+
 /// Appends whether words are plain.
 pub fn put_command(out: &mut String, alloc: Global, fields: &[Vec<u8>]) -> Result<(), NoMemory> {
     let mut words = Words::new(alloc);
     for word in fields {
         words.push(text_of(alloc, word.as_slice())?)?;
     }
-    let is_plain = read_words(alloc, &words)?.is_some();
+    let is_plain = is_there(read_words(alloc, &words)?);
     out.push_str(if is_plain { "plain" } else { "not plain" })?;
     Ok(())
 }

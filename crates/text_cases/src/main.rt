@@ -2,6 +2,7 @@
 #![tactic(auto)]
 
 mod answers;
+mod boxes;
 mod checked;
 mod commands;
 mod escapes;
@@ -29,8 +30,7 @@ fn put_answer(
     match kind {
         "words" => commands::put_command(out, alloc, fields),
         "schema" | "table" => schemas::put_answer(out, alloc, kind, fields),
-        "query" | "order" => queries::put_answer(out, alloc, kind, fields),
-        "answer" => answers::put_answer(out, alloc, fields),
+        "query" | "order" | "answer" => queries::put_found(out, alloc, kind, fields),
         _ => sources::put_answer(out, alloc, kind, fields),
     }
 }

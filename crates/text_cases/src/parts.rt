@@ -1,4 +1,5 @@
 // Types, keys and expressions alone, and the faults of tokens.
+use crate::boxes::boxed;
 use crate::places::put_place;
 use java_ast::{Expr, JTy};
 use java_lex::Tokens;
@@ -21,32 +22,36 @@ pub fn put_refusal(out: &mut String, refusal: &Fail<ParseFault>) -> Result<(), N
     }
 }
 
-fn put_type(out: &mut String, ty: &JTy) -> Result<(), AllocError> {
+// What a type begins with.
+fn word_of(ty: &JTy) -> &str {
     match ty {
-        JTy::Int => out.push_str("int"),
-        JTy::Long => out.push_str("long"),
-        JTy::Boolean => out.push_str("boolean"),
-        JTy::String => out.push_str("String"),
-        JTy::BoxedInteger => out.push_str("Integer"),
-        JTy::BoxedLong => out.push_str("Long"),
-        JTy::BoxedBoolean => out.push_str("Boolean"),
-        JTy::Table(name) => out.push_str(name.as_str()),
-        JTy::List(element) => {
-            out.push_str("List<")?;
+        JTy::Int => "int",
+        JTy::Long => "long",
+        JTy::Boolean => "boolean",
+        JTy::String => "String",
+        JTy::BoxedInteger => "Integer",
+        JTy::BoxedLong => "Long",
+        JTy::BoxedBoolean => "Boolean",
+        JTy::Table(name) => name.as_str(),
+        JTy::List(_) => "List<",
+        JTy::Set(_) => "Set<",
+    }
+}
+
+fn put_type(out: &mut String, ty: &JTy) -> Result<(), AllocError> {
+    out.push_str(word_of(ty))?;
+    match ty {
+        JTy::List(element) | JTy::Set(element) => {
             put_type(out, element)?;
             out.push_str(">")
         }
-        JTy::Set(element) => {
-            out.push_str("Set<")?;
-            put_type(out, element)?;
-            out.push_str(">")
-        }
+        _ => Ok(()),
     }
 }
 
 /// Appends the type of these tokens.
 pub fn put_parsed_type(out: &mut String, alloc: Global, tokens: &Tokens) -> Result<(), NoMemory> {
-    match parse_type(alloc, tokens) {
+    match boxed(alloc, parse_type(alloc, tokens)) {
         Ok(ty) => Ok(put_type(out, &ty)?),
         Err(refusal) => put_refusal(out, &refusal),
     }
@@ -68,7 +73,7 @@ fn put_bytes(out: &mut String, expression: &Expr) -> Result<(), NoMemory> {
 
 /// Appends where the expression of these tokens starts and ends.
 pub fn put_expression(out: &mut String, alloc: Global, tokens: &Tokens) -> Result<(), NoMemory> {
-    match parse_expression(alloc, tokens) {
+    match boxed(alloc, parse_expression(alloc, tokens)) {
         Ok(expression) => put_bytes(out, &expression),
         Err(refusal) => put_refusal(out, &refusal),
     }

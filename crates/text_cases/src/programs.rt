@@ -1,4 +1,5 @@
 // Programs: their canonical texts, where others stop, and the grammar without limits.
+use crate::boxes::boxed;
 use crate::escapes::put_line;
 use crate::parts::put_refusal;
 use java_ast::Program;
@@ -42,7 +43,7 @@ pub fn put_parsed(
     tokens: &Tokens,
     flat: bool,
 ) -> Result<(), NoMemory> {
-    match parse(alloc, tokens) {
+    match boxed(alloc, parse(alloc, tokens)) {
         Ok(program) => put_program(out, alloc, &program, flat),
         Err(refusal) => put_refusal(out, &refusal),
     }
@@ -50,7 +51,7 @@ pub fn put_parsed(
 
 /// Appends whether tokens are read, or the fault that is kept.
 pub fn put_outcome(out: &mut String, alloc: Global, tokens: &Tokens) -> Result<(), NoMemory> {
-    match parse(alloc, tokens) {
+    match boxed(alloc, parse(alloc, tokens)) {
         Ok(_) => Ok(out.push_str("read")?),
         Err(refusal) => put_refusal(out, &refusal),
     }
@@ -64,7 +65,7 @@ fn stops_at(alloc: Global, tokens: &Tokens, number: usize) -> bool {
         Some(token) => token.span,
         None => tokens.end,
     };
-    match parse(alloc, tokens) {
+    match boxed(alloc, parse(alloc, tokens)) {
         Err(Fail::Fault(fault)) => {
             fault.rule == ParseRule::Unexpected && fault.token == number as u64 && fault.at == stop
         }

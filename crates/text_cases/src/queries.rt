@@ -1,16 +1,23 @@
 // Texts of queries.
+ghost use Rattle.std.specs.Prelude.{IfOk};
+ghost use Rattle.sql_ast.specs.Reading.{query};
+ghost use Rattle.sql_exec.specs.Answered.{IsAnswerable};
+
+use crate::answers::put_answer;
 use crate::escapes::put_line;
-use crate::places::{field, text_of};
-use qbs_base::{Fail, NoMemory};
-use schema::parse_schema;
+use crate::places::text_of;
+use qbs_base::{Fail, NoMemory, Text};
+use schema::{Schema, parse_schema};
 use sql_ast::{Query, order_complete, print_query};
-use sql_parse::parse_query;
+use sql_parse::{SqlFault, parse_query};
 use std::alloc::Global;
 
-const TABLES: &str =
+static TABLES: &str =
     "CREATE TABLE User (id BIGINT, name TEXT, roleId BIGINT, age BIGINT, active BOOLEAN);
 CREATE TABLE Role (id BIGINT, name TEXT);
 CREATE TABLE Pair (count BIGINT, min BIGINT);";
+
+static NUMBERS: &str = "CREATE TABLE T (number BIGINT);";
 
 fn put_query(out: &mut String, alloc: Global, query: &Query) -> Result<(), NoMemory> {
     let text = print_query(alloc, query)?;
@@ -28,20 +35,52 @@ fn put_order(out: &mut String, query: &Query) -> Result<(), NoMemory> {
     Ok(())
 }
 
-/// Appends the canonical text of the query of a text or whether its order is complete, or the rule that the text breaks.
-pub fn put_answer(
+// The query that a text has, in a box, or the rule that the text breaks.
+#[tactic(auto, using(crate::proofs::Answerable::answerable))]
+fn query_of(alloc: Global, schema: &Schema, text: &Text) -> Result<Box<Query>, Fail<SqlFault>>
+    ensures { IfOk result (λ q. IsAnswerable (query q.value)) }
+{
+    let _size = text.as_str().len();
+    match parse_query(alloc, schema, text) {
+        Ok(q) => Ok(Box::new(alloc, q)?),
+        Err(fail) => Err(fail),
+    }
+}
+
+// What is said of a query. Behind the text of one that is answered stand the numbers of the table.
+fn put_of_query(
+    out: &mut String,
+    alloc: Global,
+    kind: &str,
+    q: &Query,
+    numbers: &[Vec<u8>],
+) -> Result<(), NoMemory>
+    requires { IsAnswerable (query q.now) }
+{
+    match kind {
+        "order" => put_order(out, q),
+        "answer" => put_answer(out, alloc, q, numbers),
+        _ => put_query(out, alloc, q),
+    }
+}
+
+/// Appends the canonical text of the query of a text, whether its order is complete, or its answer; or the rule that the text breaks.
+pub fn put_found(
     out: &mut String,
     alloc: Global,
     kind: &str,
     fields: &[Vec<u8>],
 ) -> Result<(), NoMemory> {
-    let Ok(schema) = parse_schema(alloc, TABLES.as_bytes()) else {
+    let Some((text, numbers)) = fields.split_first() else {
+        return Ok(());
+    };
+    let tables = if kind == "answer" { NUMBERS } else { TABLES };
+    let Ok(schema) = parse_schema(alloc, tables.as_bytes()) else {
         return Err(NoMemory);
     };
-    let text = text_of(alloc, field(fields, 0))?;
-    match parse_query(alloc, &schema, &text) {
-        Ok(query) if kind == "order" => put_order(out, &query),
-        Ok(query) => put_query(out, alloc, &query),
+    let text = text_of(alloc, text)?;
+    match query_of(alloc, &schema, &text) {
+        Ok(q) => put_of_query(out, alloc, kind, &q, numbers),
         Err(Fail::Fault(fault)) => {
             let rule = fault.rule;
             Ok(write!(out, "{rule:?}")?)
