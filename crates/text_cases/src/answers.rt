@@ -17,7 +17,8 @@ fn row(alloc: Global, number: i64) -> Result<Row, NoMemory> {
     })
 }
 
-fn number_of(alloc: Global, digits: &[u8]) -> Result<i64, NoMemory> {
+/// The number of these digits, and 0 where they are none.
+pub fn number_of(alloc: Global, digits: &[u8]) -> Result<i64, NoMemory> {
     let text = text_of(alloc, digits)?;
     match text.as_str().parse::<i64>() {
         Ok(number) => Ok(number),

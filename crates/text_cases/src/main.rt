@@ -6,6 +6,7 @@ mod boxes;
 mod checked;
 mod commands;
 mod escapes;
+mod joins;
 mod parts;
 mod places;
 mod programs;
@@ -30,7 +31,7 @@ fn put_answer(
     match kind {
         "words" => commands::put_command(out, alloc, fields),
         "schema" | "table" => schemas::put_answer(out, alloc, kind, fields),
-        "query" | "order" | "answer" => queries::put_found(out, alloc, kind, fields),
+        "query" | "order" | "answer" | "joined" => queries::put_found(out, alloc, kind, fields),
         _ => sources::put_answer(out, alloc, kind, fields),
     }
 }

@@ -5,6 +5,7 @@ ghost use Rattle.sql_exec.specs.Answered.{IsAnswerable};
 
 use crate::answers::put_answer;
 use crate::escapes::put_line;
+use crate::joins::put_joined;
 use crate::places::text_of;
 use qbs_base::{Fail, NoMemory, Text};
 use schema::{Schema, parse_schema};
@@ -18,6 +19,9 @@ CREATE TABLE Role (id BIGINT, name TEXT);
 CREATE TABLE Pair (count BIGINT, min BIGINT);";
 
 static NUMBERS: &str = "CREATE TABLE T (number BIGINT);";
+
+static JOINED: &str =
+    "CREATE TABLE User (id BIGINT, roleId BIGINT, place BIGINT); CREATE TABLE Role (id BIGINT);";
 
 fn put_query(out: &mut String, alloc: Global, query: &Query) -> Result<(), NoMemory> {
     let text = print_query(alloc, query)?;
@@ -60,11 +64,13 @@ fn put_of_query(
     match kind {
         "order" => put_order(out, q),
         "answer" => put_answer(out, alloc, q, numbers),
+        "joined" => put_joined(out, alloc, q, numbers),
         _ => put_query(out, alloc, q),
     }
 }
 
-/// Appends the canonical text of the query of a text, whether its order is complete, or its answer; or the rule that the text breaks.
+/// Appends the canonical text of the query of a text, whether its order is complete, its answer, or how often it
+/// joins; or the rule that the text breaks.
 pub fn put_found(
     out: &mut String,
     alloc: Global,
@@ -74,7 +80,11 @@ pub fn put_found(
     let Some((text, numbers)) = fields.split_first() else {
         return Ok(());
     };
-    let tables = if kind == "answer" { NUMBERS } else { TABLES };
+    let tables = match kind {
+        "answer" => NUMBERS,
+        "joined" => JOINED,
+        _ => TABLES,
+    };
     let Ok(schema) = parse_schema(alloc, tables.as_bytes()) else {
         return Err(NoMemory);
     };
