@@ -7,6 +7,7 @@ pub mod Judged
 pub mod Meeting
 pub mod Narrowing
 pub mod Numbers
+pub mod Ordered
 pub mod Sorted
 pub mod Steps
 pub mod Valued
