@@ -6,15 +6,14 @@ use Rattle.std.specs.declared.option.Option.TheVariants.{Some, None}
 use Rattle.qbs_base.specs.declared.scalar.Ty.{Ty}
 use Rattle.qbs_base.specs.Values.{Schema}
 use Rattle.kernel_lang.specs.Plain.{Fragment}
-use Rattle.kernel_lang.specs.Pools.{Member}
 use Rattle.kernel_lang.specs.Sentences.{IsValid}
 use Rattle.kernel_lang.specs.Validity.{broken}
 use Rattle.kernel_lang.proofs.Sentences.{valid}
 use Rattle.sql_ast.specs.Tree.{Filter, PlainQuery, Listing, Number, Truth}
 use Rattle.sql_ast.specs.Valid.{params_in}
 use Rattle.sql_parts.specs.Emitted.{query_of}
-use Rattle.sql_parts.specs.Given.{AreKnownTo, HasEntries, EntriesAreThere}
-use Rattle.sql_parts.specs.Numbered.{filter_in, filter_uses, first_uses, renumbered_filter, with_filter, type_of, in_order}
+use Rattle.sql_parts.specs.Given.{AreKnownTo, EntriesAreThere}
+use Rattle.sql_parts.specs.Numbered.{filter_in, filter_uses, first_uses, renumbered_filter, with_filter, type_of}
 use Rattle.sql_parts.specs.Scopes.{ground}
 use Rattle.sql_parts.proofs.Good.{filter_use}
 use Rattle.sql_parts.proofs.Numbering.{FilterParam}

@@ -1,6 +1,6 @@
 -- Tests and lists, one after another.
-use Rattle.std.proofs.Common.{◌≡◌, ℕ, zero, suc, ◌+◌, ◌<◌, ◌≤◌, Bool, true, false, cond, not, ◌&&◌, ◌||◌, List, [], ◌∷◌, ◌++◌, map, take, length, slice_get, refl, ap, ap₂, ◌∙◌, subst, arith, nat_eq, nat_lt}
-use Rattle.std.specs.List.{AllByRecursion, filter, flat_map, list_any, list_all, enumerate_from}
+use Rattle.std.proofs.Common.{◌≡◌, ℕ, zero, suc, ◌+◌, ◌<◌, ◌≤◌, Bool, true, false, cond, not, ◌&&◌, ◌||◌, List, [], ◌∷◌, ◌++◌, map, take, length, slice_get, refl, ap, ap₂, ◌∙◌, arith, nat_eq, nat_lt}
+use Rattle.std.specs.List.{AllByRecursion, filter, flat_map, list_any, enumerate_from}
 use Rattle.std.specs.declared.option.Option.TheVariants.{Some, None}
 use Rattle.std.proofs.lemmas.List.{map-append}
 use Rattle.std.proofs.lemmas.Bool.Decides.{nat_tests}

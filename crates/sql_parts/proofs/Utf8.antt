@@ -1,5 +1,5 @@
 -- The text literals of an emitted query are those of the fragment's atoms and of its known queries.
-use Rattle.std.proofs.Common.{◌≡◌, ℕ, suc, Bool, true, false, cond, not, ◌||◌, List, [], ◌∷◌, ◌++◌, map, slice_get, refl, sym, subst}
+use Rattle.std.proofs.Common.{◌≡◌, ℕ, suc, Bool, true, false, cond, not, ◌||◌, List, [], ◌∷◌, ◌++◌, map, slice_get, refl}
 use Rattle.std.specs.List.{AllByRecursion}
 use Rattle.std.specs.declared.option.Option.{Option}
 use Rattle.std.specs.declared.option.Option.TheVariants.{Some, None}
@@ -23,7 +23,7 @@ use Rattle.kernel_lang.proofs.Listing.{all_at}
 use Rattle.sql_ast.specs.declared.tree.SqlOpnd.{SqlOpnd}
 use Rattle.sql_ast.specs.declared.tree.SqlOpnd.TheVariants as opnds
 use Rattle.sql_ast.specs.Meaning.{nth}
-use Rattle.sql_ast.specs.Tree.{Condition, Not, Compare, Bare, Exists, Within, Filter, Everything, Where, PlainListing, PlainQuery, Listing, Number, Truth}
+use Rattle.sql_ast.specs.Tree.{Condition, Not, Compare, Bare, Exists, Within, Filter, Everything, Where, PlainQuery, Listing, Number, Truth}
 use Rattle.sql_ast.specs.Tree as sql
 use Rattle.sql_ast.specs.Utf8.{OperandIsUtf8, ConditionIsUtf8, FilterIsUtf8, LiteralsAreUtf8}
 use Rattle.sql_ast.proofs.Utf8.{canonical_is_utf8}

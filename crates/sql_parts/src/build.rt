@@ -1,6 +1,6 @@
 // Conditions, made of their parts.
 ghost use Rattle.std.specs.Prelude.{◌≡◌, IfOk};
-ghost use Rattle.sql_ast.specs.Reading.{condition, filter_of};
+ghost use Rattle.sql_ast.specs.Reading.{condition, inner_filter};
 ghost use Rattle.sql_ast.specs.Tree as plain;
 
 use qbs_base::NoMemory;
@@ -8,45 +8,53 @@ use sql_ast::{Cond, FromItems, SqlCol, SqlOpnd};
 use std::alloc::Global;
 
 /// Both conditions.
-pub fn both(alloc: Global, a: Cond, b: Cond) -> Result<Cond, NoMemory>
-    ensures { IfOk result (λ c. condition c ≡ plain.Both (condition a) (condition b)) }
+pub fn both(alloc: Global, a: Box<Cond>, b: Box<Cond>) -> Result<Box<Cond>, NoMemory>
+    ensures { IfOk result (λ c. condition c.value ≡ plain.Both (condition a.value) (condition b.value)) }
 {
-    Ok(Cond::Both(Box::new(alloc, a)?, Box::new(alloc, b)?))
+    Ok(Box::new(alloc, Cond::Both(a, b))?)
 }
 
 /// One of the conditions, or both.
-pub fn either(alloc: Global, a: Cond, b: Cond) -> Result<Cond, NoMemory>
-    ensures { IfOk result (λ c. condition c ≡ plain.Either (condition a) (condition b)) }
+pub fn either(alloc: Global, a: Box<Cond>, b: Box<Cond>) -> Result<Box<Cond>, NoMemory>
+    ensures { IfOk result (λ c. condition c.value ≡ plain.Either (condition a.value) (condition b.value)) }
 {
-    Ok(Cond::Either(Box::new(alloc, a)?, Box::new(alloc, b)?))
+    Ok(Box::new(alloc, Cond::Either(a, b))?)
 }
 
 /// The opposite of a condition.
-pub fn opposite(alloc: Global, a: Cond) -> Result<Cond, NoMemory>
-    ensures { IfOk result (λ c. condition c ≡ plain.Not (condition a)) }
+pub fn opposite(alloc: Global, a: Box<Cond>) -> Result<Box<Cond>, NoMemory>
+    ensures { IfOk result (λ c. condition c.value ≡ plain.Not (condition a.value)) }
 {
-    Ok(Cond::Not(Box::new(alloc, a)?))
+    Ok(Box::new(alloc, Cond::Not(a))?)
 }
 
 /// EXISTS over FROM items.
-pub fn exists(alloc: Global, from: FromItems, filter: Option<Cond>) -> Result<Cond, NoMemory>
-    ensures { IfOk result (λ c. condition c ≡ plain.Exists from (filter_of filter)) }
+pub fn exists(
+    alloc: Global,
+    from: FromItems,
+    filter: Option<Box<Cond>>,
+) -> Result<Box<Cond>, NoMemory>
+    ensures { IfOk result (λ c. condition c.value ≡ plain.Exists from (inner_filter filter)) }
 {
     match filter {
-        None => Ok(Cond::Exists { from, filter: None }),
-        Some(a) => {
-            let a = Box::new(alloc, a)?;
-            Ok(Cond::Exists {
+        None => Ok(Box::new(alloc, Cond::Exists { from, filter: None })?),
+        Some(a) => Ok(Box::new(
+            alloc,
+            Cond::Exists {
                 from,
                 filter: Some(a),
-            })
-        }
+            },
+        )?),
     }
 }
 
 /// EXISTS over a copy of FROM items.
-pub fn exists_in(alloc: Global, from: &FromItems, filter: Option<Cond>) -> Result<Cond, NoMemory>
-    ensures { IfOk result (λ c. condition c ≡ plain.Exists from.now (filter_of filter)) }
+pub fn exists_in(
+    alloc: Global,
+    from: &FromItems,
+    filter: Option<Box<Cond>>,
+) -> Result<Box<Cond>, NoMemory>
+    ensures { IfOk result (λ c. condition c.value ≡ plain.Exists from.now (inner_filter filter)) }
 {
     let from = from.clone()?;
     exists(alloc, from, filter)
@@ -59,27 +67,30 @@ pub fn within(
     negated: bool,
     col: SqlCol,
     from: FromItems,
-    filter: Option<Cond>,
-) -> Result<Cond, NoMemory>
-    ensures { IfOk result (λ c. condition c ≡ plain.Within opnd negated col from (filter_of filter)) }
+    filter: Option<Box<Cond>>,
+) -> Result<Box<Cond>, NoMemory>
+    ensures { IfOk result (λ c. condition c.value ≡ plain.Within opnd negated col from (inner_filter filter)) }
 {
     match filter {
-        None => Ok(Cond::Within {
-            opnd,
-            negated,
-            col,
-            from,
-            filter: None,
-        }),
-        Some(a) => {
-            let a = Box::new(alloc, a)?;
-            Ok(Cond::Within {
+        None => Ok(Box::new(
+            alloc,
+            Cond::Within {
+                opnd,
+                negated,
+                col,
+                from,
+                filter: None,
+            },
+        )?),
+        Some(a) => Ok(Box::new(
+            alloc,
+            Cond::Within {
                 opnd,
                 negated,
                 col,
                 from,
                 filter: Some(a),
-            })
-        }
+            },
+        )?),
     }
 }

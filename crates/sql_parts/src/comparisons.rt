@@ -27,14 +27,12 @@ pub fn side(alloc: Global, g: Ground, s: Scope, a: &Operand) -> Result<SqlOpnd, 
 }
 
 /// A condition that is true, or false, everywhere.
-pub fn fixed(b: bool) -> Cond
-    ensures { condition result ≡ spec.fixed b }
+pub fn fixed(alloc: Global, b: bool) -> Result<Box<Cond>, NoMemory>
+    ensures { IfOk result (λ c. condition c.value ≡ spec.fixed b) }
 {
-    Cond::Compare(
-        Cmp::Eq,
-        SqlOpnd::Lit(Scalar::Bool(true)),
-        SqlOpnd::Lit(Scalar::Bool(b)),
-    )
+    let yes = SqlOpnd::Lit(Scalar::Bool(true));
+    let b = SqlOpnd::Lit(Scalar::Bool(b));
+    Ok(Box::new(alloc, Cond::Compare(Cmp::Eq, yes, b))?)
 }
 
 fn is_field(a: &Operand) -> bool
@@ -70,15 +68,15 @@ pub fn compared(
     cmp: Cmp,
     a: &Operand,
     b: &Operand,
-) -> Result<Cond, NoMemory>
+) -> Result<Box<Cond>, NoMemory>
     requires { IsSmall s }
     ensures { IfOk result (λ c.
-        condition c
+        condition c.value
         ≡ plain.Compare cmp (spec.side (ground_of g.entry) (scope_of s.entry) a.now) (spec.side (ground_of g.entry) (scope_of s.entry) b.now)) }
 {
     let a = side(alloc, g, s, a)?;
     let b = side(alloc, g, s, b)?;
-    Ok(Cond::Compare(cmp, a, b))
+    Ok(Box::new(alloc, Cond::Compare(cmp, a, b))?)
 }
 
 /// A field stands on the left.
@@ -89,9 +87,9 @@ pub fn less(
     a: &Operand,
     b: &Operand,
     holds: bool,
-) -> Result<Cond, NoMemory>
+) -> Result<Box<Cond>, NoMemory>
     requires { IsSmall s }
-    ensures { IfOk result (λ c. condition c ≡ spec.less_condition (ground_of g.entry) (scope_of s.entry) a.now b.now holds) }
+    ensures { IfOk result (λ c. condition c.value ≡ spec.less_condition (ground_of g.entry) (scope_of s.entry) a.now b.now holds) }
 {
     if is_field(a) || !is_field(b) {
         compared(alloc, g, s, less_test(holds), a, b)
@@ -101,17 +99,24 @@ pub fn less(
 }
 
 /// An operand is true, or false.
-pub fn truth(alloc: Global, g: Ground, s: Scope, a: &Operand, holds: bool) -> Result<Cond, NoMemory>
+pub fn truth(
+    alloc: Global,
+    g: Ground,
+    s: Scope,
+    a: &Operand,
+    holds: bool,
+) -> Result<Box<Cond>, NoMemory>
     requires { IsSmall s }
-    ensures { IfOk result (λ c. condition c ≡ plain.Compare Cmp.Eq (spec.side (ground_of g.entry) (scope_of s.entry) a.now) (SqlOpnd.Lit (Scalar.Bool holds))) }
+    ensures { IfOk result (λ c. condition c.value ≡ plain.Compare Cmp.Eq (spec.side (ground_of g.entry) (scope_of s.entry) a.now) (SqlOpnd.Lit (Scalar.Bool holds))) }
 {
     let a = side(alloc, g, s, a)?;
-    Ok(Cond::Compare(Cmp::Eq, a, SqlOpnd::Lit(Scalar::Bool(holds))))
+    let b = SqlOpnd::Lit(Scalar::Bool(holds));
+    Ok(Box::new(alloc, Cond::Compare(Cmp::Eq, a, b))?)
 }
 
 /// The condition, or its opposite.
-pub fn signed(alloc: Global, holds: bool, c: Cond) -> Result<Cond, NoMemory>
-    ensures { IfOk result (λ d. condition d ≡ spec.signed holds (condition c)) }
+pub fn signed(alloc: Global, holds: bool, c: Box<Cond>) -> Result<Box<Cond>, NoMemory>
+    ensures { IfOk result (λ d. condition d.value ≡ spec.signed holds (condition c.value)) }
 {
     if holds { Ok(c) } else { opposite(alloc, c) }
 }

@@ -1,6 +1,6 @@
 // WHEREs with conditions more, and the first rows of lists without keys.
 ghost use Rattle.std.specs.Prelude.{◌≡◌, ◌+◌, ◌<◌, ◌^◌, length, IfOk};
-ghost use Rattle.sql_ast.specs.Reading.{condition, filter_of};
+ghost use Rattle.sql_ast.specs.Reading.{condition, inner_filter};
 ghost use Rattle.sql_parts.specs.Emitted as spec;
 ghost use Rattle.sql_parts.specs.Scopes.{list_of};
 ghost use Rattle.sql_parts.specs.Reading.{ground_of, with_also, all_also};
@@ -13,8 +13,12 @@ use sql_ast::{Cmp, Cond, SqlOpnd};
 use std::alloc::Global;
 
 /// A WHERE with one condition more.
-pub fn also(alloc: Global, filter: Option<Cond>, c: Cond) -> Result<Option<Cond>, NoMemory>
-    ensures { IfOk result (λ f. filter_of f ≡ with_also (filter_of filter) (condition c)) }
+pub fn also(
+    alloc: Global,
+    filter: Option<Box<Cond>>,
+    c: Box<Cond>,
+) -> Result<Option<Box<Cond>>, NoMemory>
+    ensures { IfOk result (λ f. inner_filter f ≡ with_also (inner_filter filter) (condition c.value)) }
 {
     match filter {
         None => Ok(Some(c)),
@@ -27,9 +31,9 @@ fn limit_of_list(
     alloc: Global,
     n: u32,
     list: &ListDef,
-    filter: Option<Cond>,
-) -> Result<Option<Cond>, NoMemory>
-    ensures { IfOk result (λ f. filter_of f ≡ all_also (filter_of filter) (spec.limit_tests n list.now.keys list.now.limit)) }
+    filter: Option<Box<Cond>>,
+) -> Result<Option<Box<Cond>>, NoMemory>
+    ensures { IfOk result (λ f. inner_filter f ≡ all_also (inner_filter filter) (spec.limit_tests n list.now.keys list.now.limit)) }
 {
     if !list.keys.is_empty() {
         return Ok(filter);
@@ -43,11 +47,9 @@ fn limit_of_list(
         Err(_) => return Err(NoMemory),
     };
     let first = SqlOpnd::Column(position(n));
-    also(
-        alloc,
-        filter,
-        Cond::Compare(Cmp::Lt, first, SqlOpnd::Lit(Scalar::Long(limit))),
-    )
+    let limit = SqlOpnd::Lit(Scalar::Long(limit));
+    let test = Box::new(alloc, Cond::Compare(Cmp::Lt, first, limit))?;
+    also(alloc, filter, test)
 }
 
 fn limit_of_loop(
@@ -55,10 +57,10 @@ fn limit_of_loop(
     g: Ground,
     n: u32,
     j: u32,
-    filter: Option<Cond>,
-) -> Result<Option<Cond>, NoMemory>
+    filter: Option<Box<Cond>>,
+) -> Result<Option<Box<Cond>>, NoMemory>
     ensures { IfOk result (λ f.
-        filter_of f ≡ all_also (filter_of filter) (spec.limit_tests n (list_of (ground_of g.entry) j).keys (list_of (ground_of g.entry) j).limit)) }
+        inner_filter f ≡ all_also (inner_filter filter) (spec.limit_tests n (list_of (ground_of g.entry) j).keys (list_of (ground_of g.entry) j).limit)) }
 {
     match g.lists.get(j as usize) {
         Some(list) => limit_of_list(alloc, n, list, filter),
@@ -73,10 +75,10 @@ pub fn limits(
     g: Ground,
     n: u32,
     loops: &[u32],
-    filter: Option<Cond>,
-) -> Result<Option<Cond>, NoMemory>
+    filter: Option<Box<Cond>>,
+) -> Result<Option<Box<Cond>>, NoMemory>
     requires { n + length loops.now < 2 ^ 32 }
-    ensures { IfOk result (λ f. filter_of f ≡ all_also (filter_of filter) (spec.limits (ground_of g.entry) n loops.now)) }
+    ensures { IfOk result (λ f. inner_filter f ≡ all_also (inner_filter filter) (spec.limits (ground_of g.entry) n loops.now)) }
 {
     match loops.split_first() {
         None => Ok(filter),

@@ -1,7 +1,7 @@
 // Parameters numbered by their first occurrence.
 ghost use Rattle.std.specs.Prelude.{◌≡◌, ◌+◌, [], IfOk, OnOk, nat_eq};
 ghost use Rattle.std.specs.List.{list_any};
-ghost use Rattle.sql_ast.specs.Reading.{condition, filter_of};
+ghost use Rattle.sql_ast.specs.Reading.{condition, inner_filter};
 ghost use Rattle.sql_ast.specs.Tree as plain;
 ghost use Rattle.sql_parts.specs.Numbered as spec;
 
@@ -114,23 +114,29 @@ fn renumbered_opnd(order: &[u64], opnd: &SqlOpnd) -> Result<SqlOpnd, NoMemory>
     }
 }
 
-fn renumbered_compare(order: &[u64], cmp: Cmp, a: &SqlOpnd, b: &SqlOpnd) -> Result<Cond, NoMemory>
-    ensures { IfOk result (λ c. condition c ≡ plain.Compare cmp (spec.renumbered_opnd order.now a.now) (spec.renumbered_opnd order.now b.now)) }
+fn renumbered_compare(
+    alloc: Global,
+    order: &[u64],
+    cmp: Cmp,
+    a: &SqlOpnd,
+    b: &SqlOpnd,
+) -> Result<Box<Cond>, NoMemory>
+    ensures { IfOk result (λ c. condition c.value ≡ plain.Compare cmp (spec.renumbered_opnd order.now a.now) (spec.renumbered_opnd order.now b.now)) }
 {
     let a = renumbered_opnd(order, a)?;
     let b = renumbered_opnd(order, b)?;
-    Ok(Cond::Compare(cmp, a, b))
+    Ok(Box::new(alloc, Cond::Compare(cmp, a, b))?)
 }
 
 fn renumbered_within(
     alloc: Global,
     order: &[u64],
     parts: Membership,
-    filter: Option<Cond>,
-) -> Result<Cond, NoMemory>
+    filter: Option<Box<Cond>>,
+) -> Result<Box<Cond>, NoMemory>
     ensures { IfOk result (λ c.
-        condition c
-        ≡ plain.Within (spec.renumbered_opnd order.now parts.entry.opnd.now) parts.entry.negated parts.entry.col.now parts.entry.from.now (filter_of filter)) }
+        condition c.value
+        ≡ plain.Within (spec.renumbered_opnd order.now parts.entry.opnd.now) parts.entry.negated parts.entry.col.now parts.entry.from.now (inner_filter filter)) }
 {
     let opnd = renumbered_opnd(order, parts.opnd)?;
     let col = parts.col.clone()?;
@@ -139,8 +145,8 @@ fn renumbered_within(
 }
 
 /// A condition whose parameters are numbered by the order of their entries.
-fn renumbered(alloc: Global, order: &[u64], cond: &Cond) -> Result<Cond, NoMemory>
-    ensures { IfOk result (λ c. condition c ≡ spec.renumbered order.now (condition cond.now)) }
+fn renumbered(alloc: Global, order: &[u64], cond: &Cond) -> Result<Box<Cond>, NoMemory>
+    ensures { IfOk result (λ c. condition c.value ≡ spec.renumbered order.now (condition cond.now)) }
 {
     match cond {
         Cond::Both(a, b) => {
@@ -157,8 +163,8 @@ fn renumbered(alloc: Global, order: &[u64], cond: &Cond) -> Result<Cond, NoMemor
             let a = renumbered(alloc, order, a)?;
             opposite(alloc, a)
         }
-        Cond::Compare(cmp, a, b) => renumbered_compare(order, *cmp, a, b),
-        Cond::Bare(col) => Ok(Cond::Bare(col.clone()?)),
+        Cond::Compare(cmp, a, b) => renumbered_compare(alloc, order, *cmp, a, b),
+        Cond::Bare(col) => Ok(Box::new(alloc, Cond::Bare(col.clone()?))?),
         Cond::Exists { from, filter: None } => exists_in(alloc, from, None),
         Cond::Exists {
             from,
@@ -215,9 +221,9 @@ fn renumbered(alloc: Global, order: &[u64], cond: &Cond) -> Result<Cond, NoMemor
 pub fn renumbered_filter(
     alloc: Global,
     order: &[u64],
-    filter: &Option<Cond>,
-) -> Result<Option<Cond>, NoMemory>
-    ensures { IfOk result (λ f. filter_of f ≡ spec.renumbered_filter order.now (filter_of filter.now)) }
+    filter: &Option<Box<Cond>>,
+) -> Result<Option<Box<Cond>>, NoMemory>
+    ensures { IfOk result (λ f. inner_filter f ≡ spec.renumbered_filter order.now (inner_filter filter.now)) }
 {
     match filter {
         None => Ok(None),
@@ -225,8 +231,8 @@ pub fn renumbered_filter(
     }
 }
 
-fn enter_filter(seen: &mut Numbers, filter: &Option<Cond>) -> Result<(), NoMemory>
-    ensures { OnOk result (seen.new ≡ spec.first_uses seen.old (spec.filter_uses (filter_of filter.now))) }
+fn enter_filter(seen: &mut Numbers, filter: &Option<Box<Cond>>) -> Result<(), NoMemory>
+    ensures { OnOk result (seen.new ≡ spec.first_uses seen.old (spec.filter_uses (inner_filter filter.now))) }
 {
     match filter {
         None => Ok(()),
@@ -235,8 +241,8 @@ fn enter_filter(seen: &mut Numbers, filter: &Option<Cond>) -> Result<(), NoMemor
 }
 
 /// The entries that a WHERE uses, each where it is used first.
-pub fn order_of(alloc: Global, filter: &Option<Cond>) -> Result<Numbers, NoMemory>
-    ensures { IfOk result (λ order. order ≡ spec.first_uses [] (spec.filter_uses (filter_of filter.now))) }
+pub fn order_of(alloc: Global, filter: &Option<Box<Cond>>) -> Result<Numbers, NoMemory>
+    ensures { IfOk result (λ order. order ≡ spec.first_uses [] (spec.filter_uses (inner_filter filter.now))) }
 {
     let mut order = Items::new(alloc);
     enter_filter(&mut order, filter)?;

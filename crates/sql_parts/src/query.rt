@@ -1,7 +1,7 @@
 // A query for each update that makes no list of all elements.
 ghost use Rattle.std.specs.Prelude.{◌≡◌, ◌≤◌, length, pos, IfOk};
 ghost use Rattle.sql_ast.specs.Meaning.{number_of};
-ghost use Rattle.sql_ast.specs.Reading.{filter_of, query};
+ghost use Rattle.sql_ast.specs.Reading.{filter_of, inner_filter, query};
 ghost use Rattle.sql_ast.specs.Tree as plain;
 ghost use Rattle.sql_parts.specs.Emitted as spec;
 ghost use Rattle.sql_parts.specs.Numbered.{with_filter};
@@ -17,6 +17,16 @@ use sql_ast::{
 };
 use std::alloc::Global;
 use tor_terms::{Elem, Way};
+
+/// The WHERE of a query that is made.
+pub fn unboxed(filter: Option<Box<Cond>>) -> Option<Cond>
+    ensures { filter_of result ≡ inner_filter filter }
+{
+    match filter {
+        None => None,
+        Some(a) => Some(Box::into_inner(a)),
+    }
+}
 
 /// A row or a column of the loop of an element.
 pub fn item(alloc: Global, g: Ground, s: Scope, e: &Elem) -> Result<SqlItem, NoMemory>
@@ -35,11 +45,11 @@ pub fn values_query(
     g: Ground,
     loops: &[u32],
     e: &Elem,
-    filter: Option<Cond>,
+    filter: Option<Box<Cond>>,
     params: Tys,
 ) -> Result<Query, NoMemory>
     requires { length loops.now ≤ 3 }
-    ensures { IfOk result (λ q. query q ≡ with_filter (spec.values_query (ground_of g.entry) loops.now e.now plain.Everything) (filter_of filter) params) }
+    ensures { IfOk result (λ q. query q ≡ with_filter (spec.values_query (ground_of g.entry) loops.now e.now plain.Everything) (inner_filter filter) params) }
 {
     let s = Scope {
         own: loops,
@@ -53,7 +63,7 @@ pub fn values_query(
     Ok(Query::Listing(ListQuery {
         item,
         from,
-        filter,
+        filter: unboxed(filter),
         group: Some(group),
         keys,
         limit: None,
@@ -67,16 +77,16 @@ pub fn number_query(
     g: Ground,
     loops: &[u32],
     kind: NumberKind,
-    filter: Option<Cond>,
+    filter: Option<Box<Cond>>,
     params: Tys,
 ) -> Result<Query, NoMemory>
-    ensures { IfOk result (λ q. query q ≡ with_filter (spec.number_query (ground_of g.entry) loops.now kind plain.Everything) (filter_of filter) params) }
+    ensures { IfOk result (λ q. query q ≡ with_filter (spec.number_query (ground_of g.entry) loops.now kind plain.Everything) (inner_filter filter) params) }
 {
     let from = from_items(alloc, g, loops)?;
     Ok(Query::Number(NumberQuery {
         kind,
         from,
-        filter,
+        filter: unboxed(filter),
         params,
     }))
 }
@@ -118,13 +128,13 @@ pub fn sum_query(
     g: Ground,
     loops: &[u32],
     e: &Elem,
-    filter: Option<Cond>,
+    filter: Option<Box<Cond>>,
     params: Tys,
 ) -> Result<Query, NoMemory>
     requires { length loops.now ≤ 3 }
     ensures { IfOk result (λ q.
         query q
-        ≡ with_filter (spec.number_query (ground_of g.entry) loops.now (NumberKind.Sum (spec.elem_col (ground_of g.entry) (outermost loops.now) e.now) (pos 0)) plain.Everything) (filter_of filter) params) }
+        ≡ with_filter (spec.number_query (ground_of g.entry) loops.now (NumberKind.Sum (spec.elem_col (ground_of g.entry) (outermost loops.now) e.now) (pos 0)) plain.Everything) (inner_filter filter) params) }
 {
     let col = loop_col(alloc, g, loops, e)?;
     number_query(alloc, g, loops, NumberKind::Sum(col, 0), filter, params)
@@ -137,13 +147,13 @@ pub fn best_query(
     acc: &Acc,
     way: Way,
     e: &Elem,
-    filter: Option<Cond>,
+    filter: Option<Box<Cond>>,
     params: Tys,
 ) -> Result<Query, NoMemory>
     requires { length acc.now.chain ≤ 3 }
     ensures { IfOk result (λ q.
         query q
-        ≡ with_filter (spec.number_query (ground_of g.entry) acc.now.chain (spec.best_kind way (spec.elem_col (ground_of g.entry) (outermost acc.now.chain) e.now) acc.now.start) plain.Everything) (filter_of filter) params) }
+        ≡ with_filter (spec.number_query (ground_of g.entry) acc.now.chain (spec.best_kind way (spec.elem_col (ground_of g.entry) (outermost acc.now.chain) e.now) acc.now.start) plain.Everything) (inner_filter filter) params) }
 {
     let loops = acc.chain.as_slice();
     let col = loop_col(alloc, g, loops, e)?;
@@ -156,19 +166,19 @@ pub fn truth_query(
     alloc: Global,
     g: Ground,
     acc: &Acc,
-    filter: Option<Cond>,
+    filter: Option<Box<Cond>>,
     params: Tys,
 ) -> Result<Query, NoMemory>
     ensures { IfOk result (λ q.
         query q
         ≡ plain.Truth (
-        record { negated = acc.now.opposite; from = from_items_of (ground_of g.entry) acc.now.chain; filter = filter_of filter; params = params })) }
+        record { negated = acc.now.opposite; from = from_items_of (ground_of g.entry) acc.now.chain; filter = inner_filter filter; params = params })) }
 {
     let from = from_items(alloc, g, acc.chain.as_slice())?;
     Ok(Query::Truth(TruthQuery {
         negated: acc.opposite,
         from,
-        filter,
+        filter: unboxed(filter),
         params,
     }))
 }

@@ -1,7 +1,7 @@
 // A known query within another.
 ghost use Rattle.std.specs.Prelude.{◌≡◌, ◌+◌, ℕ, IfOk, Some, option_map, slice_get};
 ghost use Rattle.sql_ast.specs.Meaning.{nth};
-ghost use Rattle.sql_ast.specs.Reading.{condition, filter_of};
+ghost use Rattle.sql_ast.specs.Reading.{condition, filter_of, inner_filter};
 ghost use Rattle.sql_ast.specs.Tree as plain;
 ghost use Rattle.sql_parts.specs.Emitted as spec;
 
@@ -74,12 +74,19 @@ pub fn moved_opnd(n: u32, args: &[u64], opnd: &SqlOpnd) -> Result<SqlOpnd, NoMem
     }
 }
 
-fn moved_compare(n: u32, args: &[u64], cmp: Cmp, a: &SqlOpnd, b: &SqlOpnd) -> Result<Cond, NoMemory>
-    ensures { IfOk result (λ c. condition c ≡ plain.Compare cmp (spec.moved_opnd n args.now a.now) (spec.moved_opnd n args.now b.now)) }
+fn moved_compare(
+    alloc: Global,
+    n: u32,
+    args: &[u64],
+    cmp: Cmp,
+    a: &SqlOpnd,
+    b: &SqlOpnd,
+) -> Result<Box<Cond>, NoMemory>
+    ensures { IfOk result (λ c. condition c.value ≡ plain.Compare cmp (spec.moved_opnd n args.now a.now) (spec.moved_opnd n args.now b.now)) }
 {
     let a = moved_opnd(n, args, a)?;
     let b = moved_opnd(n, args, b)?;
-    Ok(Cond::Compare(cmp, a, b))
+    Ok(Box::new(alloc, Cond::Compare(cmp, a, b))?)
 }
 
 /// The parts of IN, without its filter.
@@ -96,11 +103,11 @@ fn moved_within(
     n: u32,
     args: &[u64],
     parts: Membership,
-    filter: Option<Cond>,
-) -> Result<Cond, NoMemory>
+    filter: Option<Box<Cond>>,
+) -> Result<Box<Cond>, NoMemory>
     ensures { IfOk result (λ c.
-        condition c
-        ≡ plain.Within (spec.moved_opnd n args.now parts.entry.opnd.now) parts.entry.negated (spec.moved_col n parts.entry.col.now) parts.entry.from.now (filter_of filter)) }
+        condition c.value
+        ≡ plain.Within (spec.moved_opnd n args.now parts.entry.opnd.now) parts.entry.negated (spec.moved_col n parts.entry.col.now) parts.entry.from.now (inner_filter filter)) }
 {
     let opnd = moved_opnd(n, args, parts.opnd)?;
     let col = moved_col(n, parts.col)?;
@@ -109,8 +116,8 @@ fn moved_within(
 }
 
 /// A condition whose items are numbered on after `n`, with its arguments for its parameters.
-pub fn moved(alloc: Global, n: u32, args: &[u64], cond: &Cond) -> Result<Cond, NoMemory>
-    ensures { IfOk result (λ c. condition c ≡ spec.moved n args.now (condition cond.now)) }
+pub fn moved(alloc: Global, n: u32, args: &[u64], cond: &Cond) -> Result<Box<Cond>, NoMemory>
+    ensures { IfOk result (λ c. condition c.value ≡ spec.moved n args.now (condition cond.now)) }
 {
     match cond {
         Cond::Both(a, b) => {
@@ -127,8 +134,8 @@ pub fn moved(alloc: Global, n: u32, args: &[u64], cond: &Cond) -> Result<Cond, N
             let a = moved(alloc, n, args, a)?;
             opposite(alloc, a)
         }
-        Cond::Compare(cmp, a, b) => moved_compare(n, args, *cmp, a, b),
-        Cond::Bare(col) => Ok(Cond::Bare(moved_col(n, col)?)),
+        Cond::Compare(cmp, a, b) => moved_compare(alloc, n, args, *cmp, a, b),
+        Cond::Bare(col) => Ok(Box::new(alloc, Cond::Bare(moved_col(n, col)?))?),
         Cond::Exists { from, filter: None } => exists_in(alloc, from, None),
         Cond::Exists {
             from,
@@ -199,8 +206,8 @@ pub fn moved_filter(
     n: u32,
     args: &[u64],
     filter: &Option<Cond>,
-) -> Result<Option<Cond>, NoMemory>
-    ensures { IfOk result (λ f. filter_of f ≡ spec.moved_filter n args.now (filter_of filter.now)) }
+) -> Result<Option<Box<Cond>>, NoMemory>
+    ensures { IfOk result (λ f. inner_filter f ≡ spec.moved_filter n args.now (filter_of filter.now)) }
 {
     match filter {
         None => Ok(None),
