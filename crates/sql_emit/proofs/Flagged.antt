@@ -1,5 +1,6 @@
 -- The accumulators of members, by their numbers.
 use Rattle.std.proofs.Common.{◌≡◌, ℕ, zero, suc, ◌+◌, ◌<◌, ◌≤◌, arith, List, [], ◌∷◌, length, map, get_or, slice_get, Option, Some, None, option_map, Result, Ok, Err, IfOk, false, refl, sym, ap, ◌∙◌}
+use Rattle.std.specs.Global.{Box}
 use Rattle.kernel_lang.specs.declared.parts.Acc.{Acc}
 use Rattle.kernel_lang.specs.Plain.{Accumulator, accumulator}
 use Rattle.kernel_lang.specs.Pools.{Member, chosen, members_from}
@@ -34,11 +35,13 @@ member_is cand accs k = by_number cand 0 (map accumulator accs) k ∙ ap (option
 
 -- ---- a flag's condition, as the code makes it
 
-pub flag_none : (g : CodeGround) (s : Scope) (k : ℕ) → slice_get g.accs.now k ≡ None → flag_condition (ground_of g) s k ≡ fixed false
-flag_none g s k e = ap (flag_exists (ground_of g) s) (member_is g.cand.now g.accs.now k ∙ ap (option_map (λ a. (accumulator a, chosen g.cand.now (number_first 0 (map accumulator g.accs.now) k) (accumulator a).pool))) e)
+pub flag_none : (g : CodeGround) (s : Scope) (k : ℕ) (r : Result (Box Cond) NoMemory) → slice_get g.accs.now k ≡ None → IfOk r (λ c. condition c.value ≡ fixed false) → IfOk r (λ c. condition c.value ≡ flag_condition (ground_of g) s k)
+flag_none g s k (Err e) there h = tt
+flag_none g s k (Ok c) there h =
+    h ∙ sym (ap (flag_exists (ground_of g) s) (member_is g.cand.now g.accs.now k ∙ ap (option_map (λ a. (accumulator a, chosen g.cand.now (number_first 0 (map accumulator g.accs.now) k) (accumulator a).pool))) there))
 
-pub flag_ok : (g : CodeGround) (s : Scope) (k : ℕ) (a : Acc) (first : ℕ) (r : Result Cond NoMemory) → slice_get g.accs.now k ≡ Some a → first ≡ number_first 0 (map accumulator g.accs.now) k
-    → IfOk r (λ c. condition c ≡ flag_exists (ground_of g) s (Some (accumulator a, chosen g.cand.now first (forms_of a.pool)))) → IfOk r (λ c. condition c ≡ flag_condition (ground_of g) s k)
+pub flag_ok : (g : CodeGround) (s : Scope) (k : ℕ) (a : Acc) (first : ℕ) (r : Result (Box Cond) NoMemory) → slice_get g.accs.now k ≡ Some a → first ≡ number_first 0 (map accumulator g.accs.now) k
+    → IfOk r (λ c. condition c.value ≡ flag_exists (ground_of g) s (Some (accumulator a, chosen g.cand.now first (forms_of a.pool)))) → IfOk r (λ c. condition c.value ≡ flag_condition (ground_of g) s k)
 flag_ok g s k a first (Err e) there number h = tt
 flag_ok g s k a first (Ok c) there number h =
     h ∙ ap (λ n. flag_exists (ground_of g) s (Some (accumulator a, chosen g.cand.now n (forms_of a.pool)))) number

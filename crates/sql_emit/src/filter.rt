@@ -4,7 +4,7 @@ ghost use Rattle.std.specs.List.{list_any};
 ghost use Rattle.tor_terms.specs.Plain.{form_of, forms_of};
 ghost use Rattle.kernel_lang.specs.Plain.{accumulator};
 ghost use Rattle.kernel_lang.specs.Pools.{chosen, members_from};
-ghost use Rattle.sql_ast.specs.Reading.{condition, filter_of};
+ghost use Rattle.sql_ast.specs.Reading.{condition, inner_filter};
 ghost use Rattle.sql_parts.specs.Emitted as spec;
 ghost use Rattle.sql_parts.specs.Reading.{ground_of, scope_of, IsSmall, AreShort, all_also, number_first};
 
@@ -32,10 +32,10 @@ fn better(
     g: Ground,
     s: Scope,
     acc: &Acc,
-    filter: Option<Cond>,
-) -> Result<Option<Cond>, NoMemory>
+    filter: Option<Box<Cond>>,
+) -> Result<Option<Box<Cond>>, NoMemory>
     requires { IsSmall s }
-    ensures { IfOk result (λ f. filter_of f ≡ all_also (filter_of filter) (spec.best_tests (ground_of g.entry) (scope_of s.entry) acc.now.update acc.now.start)) }
+    ensures { IfOk result (λ f. inner_filter f ≡ all_also (inner_filter filter) (spec.best_tests (ground_of g.entry) (scope_of s.entry) acc.now.update acc.now.start)) }
 {
     let (way, e) = match &acc.update {
         Update::Best(way, e) => (*way, e),
@@ -47,7 +47,8 @@ fn better(
     };
     let col = SqlOpnd::Column(elem_col(alloc, g, s, e)?);
     let start = SqlOpnd::Lit(start.clone()?);
-    also(alloc, filter, Cond::Compare(way_test(way), col, start))
+    let test = Box::new(alloc, Cond::Compare(way_test(way), col, start))?;
+    also(alloc, filter, test)
 }
 
 /// The chosen ones of formulas that read no flag; the first has the number `first`.
@@ -57,13 +58,13 @@ fn quiet_formulas(
     s: Scope,
     first: u32,
     pool: &[Formula],
-    filter: Option<Cond>,
-) -> Result<Option<Cond>, NoMemory>
+    filter: Option<Box<Cond>>,
+) -> Result<Option<Box<Cond>>, NoMemory>
     requires small { IsSmall s }
     requires room { first + length pool.now < 2 ^ 32 }
     ensures { IfOk result (λ f.
-        filter_of f
-        ≡ all_also (filter_of filter) (
+        inner_filter f
+        ≡ all_also (inner_filter filter) (
         map (spec.formula spec.no_flag (ground_of g.entry) (scope_of s.entry)) (chosen g.entry.cand.now first (forms_of pool.now)))) }
 {
     match pool.split_first() {
@@ -89,12 +90,12 @@ fn quiet_filter(
     n: u32,
     acc: &Acc,
     first: u32,
-) -> Result<Option<Cond>, NoMemory>
+) -> Result<Option<Box<Cond>>, NoMemory>
     requires small { IsSmall s }
     requires place { n ≤ 6 }
     requires room { first + length acc.now.pool < 2 ^ 32 }
     ensures { IfOk result (λ f.
-        filter_of f
+        inner_filter f
         ≡ spec.joined (
         spec.conditions spec.no_flag (ground_of g.entry) (scope_of s.entry) n s.entry.own.now (
           accumulator acc.now,
@@ -149,13 +150,19 @@ fn flag_loops(acc: &Acc) -> &[u32]
 
 /// Some combination of the rows of a flag's own loops.
 #[tactic(auto, using(sql_parts::proofs::Also::also))]
-fn flag_exists(alloc: Global, g: Ground, s: Scope, acc: &Acc, first: u32) -> Result<Cond, NoMemory>
+fn flag_exists(
+    alloc: Global,
+    g: Ground,
+    s: Scope,
+    acc: &Acc,
+    first: u32,
+) -> Result<Box<Cond>, NoMemory>
     requires outermost { s.outer.now ≡ [] }
     requires some { 0 < length s.own.now }
     requires few { length s.own.now ≤ 3 }
     requires short { length acc.now.chain ≤ 3 }
     ensures { IfOk result (λ c.
-        condition c
+        condition c.value
         ≡ spec.flag_exists (ground_of g.entry) (scope_of s.entry) (
         Some (accumulator acc.now, chosen g.entry.cand.now first (forms_of acc.now.pool)))) }
 {
@@ -169,15 +176,15 @@ fn flag_exists(alloc: Global, g: Ground, s: Scope, acc: &Acc, first: u32) -> Res
 
 /// A flag's truth, by its number.
 #[tactic(auto, using(crate::proofs::Flagged::member_is))]
-fn flag(alloc: Global, g: Ground, s: Scope, k: u32) -> Result<Cond, NoMemory>
+fn flag(alloc: Global, g: Ground, s: Scope, k: u32) -> Result<Box<Cond>, NoMemory>
     requires outermost { s.outer.now ≡ [] }
     requires some { 0 < length s.own.now }
     requires few { length s.own.now ≤ 3 }
     requires short { AreShort g }
-    ensures { IfOk result (λ c. condition c ≡ spec.flag_condition (ground_of g.entry) (scope_of s.entry) k) }
+    ensures { IfOk result (λ c. condition c.value ≡ spec.flag_condition (ground_of g.entry) (scope_of s.entry) k) }
 {
     match g.accs.get(k as usize) {
-        None => Ok(fixed(false)),
+        None => fixed(alloc, false),
         Some(acc) => {
             let first = first_number(0, g.accs, k as usize)?;
             flag_exists(alloc, g, s, acc, first)
@@ -186,17 +193,17 @@ fn flag(alloc: Global, g: Ground, s: Scope, k: u32) -> Result<Cond, NoMemory>
 }
 
 /// An atom, by its number.
-fn literal(alloc: Global, g: Ground, s: Scope, k: u32, holds: bool) -> Result<Cond, NoMemory>
+fn literal(alloc: Global, g: Ground, s: Scope, k: u32, holds: bool) -> Result<Box<Cond>, NoMemory>
     requires outermost { s.outer.now ≡ [] }
     requires some { 0 < length s.own.now }
     requires few { length s.own.now ≤ 3 }
     requires short { AreShort g }
     ensures { IfOk result (λ c.
-        condition c
+        condition c.value
         ≡ spec.literal (spec.flag_condition (ground_of g.entry)) (ground_of g.entry) (scope_of s.entry) (slice_get g.entry.atoms.now k) holds) }
 {
     match g.atoms.get(k as usize) {
-        None => Ok(fixed(!holds)),
+        None => fixed(alloc, !holds),
         Some(Atom::Flag(number, _)) => {
             let c = flag(alloc, g, s, *number)?;
             signed(alloc, holds, c)
@@ -205,12 +212,12 @@ fn literal(alloc: Global, g: Ground, s: Scope, k: u32, holds: bool) -> Result<Co
     }
 }
 
-fn formula(alloc: Global, g: Ground, s: Scope, f: &Formula) -> Result<Cond, NoMemory>
+fn formula(alloc: Global, g: Ground, s: Scope, f: &Formula) -> Result<Box<Cond>, NoMemory>
     requires outermost { s.outer.now ≡ [] }
     requires some { 0 < length s.own.now }
     requires few { length s.own.now ≤ 3 }
     requires short { AreShort g }
-    ensures { IfOk result (λ c. condition c ≡ spec.formula (spec.flag_condition (ground_of g.entry)) (ground_of g.entry) (scope_of s.entry) (form_of f.now)) }
+    ensures { IfOk result (λ c. condition c.value ≡ spec.formula (spec.flag_condition (ground_of g.entry)) (ground_of g.entry) (scope_of s.entry) (form_of f.now)) }
 {
     match f {
         Formula::Is(k, holds) => literal(alloc, g, s, *k, *holds),
@@ -234,16 +241,16 @@ fn formulas(
     s: Scope,
     first: u32,
     pool: &[Formula],
-    filter: Option<Cond>,
-) -> Result<Option<Cond>, NoMemory>
+    filter: Option<Box<Cond>>,
+) -> Result<Option<Box<Cond>>, NoMemory>
     requires outermost { s.outer.now ≡ [] }
     requires some { 0 < length s.own.now }
     requires few { length s.own.now ≤ 3 }
     requires short { AreShort g }
     requires room { first + length pool.now < 2 ^ 32 }
     ensures { IfOk result (λ f.
-        filter_of f
-        ≡ all_also (filter_of filter) (
+        inner_filter f
+        ≡ all_also (inner_filter filter) (
         map (spec.formula (spec.flag_condition (ground_of g.entry)) (ground_of g.entry) (scope_of s.entry)) (chosen g.entry.cand.now first (forms_of pool.now)))) }
 {
     match pool.split_first() {
@@ -268,11 +275,11 @@ pub fn accumulator_filter(
     g: Ground,
     acc: &Acc,
     first: u32,
-) -> Result<Option<Cond>, NoMemory>
+) -> Result<Option<Box<Cond>>, NoMemory>
     requires some { 0 < length acc.now.chain }
     requires few { length acc.now.chain ≤ 3 }
     requires short { AreShort g }
-    ensures { IfOk result (λ f. filter_of f ≡ spec.where_of (ground_of g.entry) (accumulator acc.now, chosen g.entry.cand.now first (forms_of acc.now.pool))) }
+    ensures { IfOk result (λ f. inner_filter f ≡ spec.where_of (ground_of g.entry) (accumulator acc.now, chosen g.entry.cand.now first (forms_of acc.now.pool))) }
 {
     with_room(first, acc.pool.len())?;
     let s = Scope {

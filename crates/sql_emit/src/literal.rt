@@ -22,9 +22,9 @@ fn within_listing(
     args: &[u64],
     q: &ListQuery,
     holds: bool,
-) -> Result<Cond, NoMemory>
+) -> Result<Box<Cond>, NoMemory>
     requires { IsSmall s }
-    ensures { IfOk result (λ c. condition c ≡ spec.within_query (ground_of g.entry) (scope_of s.entry) a.now args.now (Some (query (Query.Listing q.now))) holds) }
+    ensures { IfOk result (λ c. condition c.value ≡ spec.within_query (ground_of g.entry) (scope_of s.entry) a.now args.now (Some (query (Query.Listing q.now))) holds) }
 {
     let opnd = side(alloc, g, s, a)?;
     let col = moved_col(count(s), &item_col(&q.item)?)?;
@@ -42,10 +42,10 @@ fn member(
     a: &Operand,
     number: u32,
     holds: bool,
-) -> Result<Cond, NoMemory>
+) -> Result<Box<Cond>, NoMemory>
     requires { IsSmall s }
     ensures { IfOk result (λ c.
-        condition c
+        condition c.value
         ≡ spec.within_query (ground_of g.entry) (scope_of s.entry) a.now (spec.args_of (slice_get g.entry.args.now number)) (slice_get (ground_of g.entry).known number) holds) }
 {
     let args: &[u64] = match g.args.get(number as usize) {
@@ -54,8 +54,8 @@ fn member(
     };
     match g.known.get(number as usize) {
         Some(Query::Listing(q)) => within_listing(alloc, g, s, a, args, q, holds),
-        Some(_) => Ok(fixed(!holds)),
-        None => Ok(fixed(!holds)),
+        Some(_) => fixed(alloc, !holds),
+        None => fixed(alloc, !holds),
     }
 }
 
@@ -66,34 +66,43 @@ pub fn quiet_atom(
     s: Scope,
     atom: &Atom,
     holds: bool,
-) -> Result<Cond, NoMemory>
+) -> Result<Box<Cond>, NoMemory>
     requires { IsSmall s }
-    ensures { IfOk result (λ c. condition c ≡ spec.literal spec.no_flag (ground_of g.entry) (scope_of s.entry) (Some atom.now) holds) }
+    ensures { IfOk result (λ c. condition c.value ≡ spec.literal spec.no_flag (ground_of g.entry) (scope_of s.entry) (Some atom.now) holds) }
 {
     match atom {
         Atom::Less(a, b) => less(alloc, g, s, a, b, holds),
         Atom::Same(a, b) => compared(alloc, g, s, same_test(holds), a, b),
         Atom::Truth(a) => truth(alloc, g, s, a, holds),
         Atom::Member(a, number) => member(alloc, g, s, a, *number, holds),
-        Atom::Flag(_, _) => signed(alloc, holds, fixed(false)),
+        Atom::Flag(_, _) => {
+            let c = fixed(alloc, false)?;
+            signed(alloc, holds, c)
+        }
     }
 }
 
 /// An atom by its number, where no flag is read.
-fn quiet_literal(alloc: Global, g: Ground, s: Scope, k: u32, holds: bool) -> Result<Cond, NoMemory>
+fn quiet_literal(
+    alloc: Global,
+    g: Ground,
+    s: Scope,
+    k: u32,
+    holds: bool,
+) -> Result<Box<Cond>, NoMemory>
     requires { IsSmall s }
-    ensures { IfOk result (λ c. condition c ≡ spec.literal spec.no_flag (ground_of g.entry) (scope_of s.entry) (slice_get g.entry.atoms.now k) holds) }
+    ensures { IfOk result (λ c. condition c.value ≡ spec.literal spec.no_flag (ground_of g.entry) (scope_of s.entry) (slice_get g.entry.atoms.now k) holds) }
 {
     match g.atoms.get(k as usize) {
         Some(atom) => quiet_atom(alloc, g, s, atom, holds),
-        None => Ok(fixed(!holds)),
+        None => fixed(alloc, !holds),
     }
 }
 
 /// A formula that reads no flag.
-pub fn quiet_formula(alloc: Global, g: Ground, s: Scope, f: &Formula) -> Result<Cond, NoMemory>
+pub fn quiet_formula(alloc: Global, g: Ground, s: Scope, f: &Formula) -> Result<Box<Cond>, NoMemory>
     requires { IsSmall s }
-    ensures { IfOk result (λ c. condition c ≡ spec.formula spec.no_flag (ground_of g.entry) (scope_of s.entry) (form_of f.now)) }
+    ensures { IfOk result (λ c. condition c.value ≡ spec.formula spec.no_flag (ground_of g.entry) (scope_of s.entry) (form_of f.now)) }
 {
     match f {
         Formula::Is(k, holds) => quiet_literal(alloc, g, s, *k, *holds),

@@ -1,7 +1,7 @@
 // A query for each update.
 ghost use Rattle.std.specs.Prelude.{◌≡◌, ◌≤◌, [], length, IfOk};
 ghost use Rattle.kernel_lang.specs.Plain.{accumulator};
-ghost use Rattle.sql_ast.specs.Reading.{filter_of, query};
+ghost use Rattle.sql_ast.specs.Reading.{inner_filter, query};
 ghost use Rattle.sql_ast.specs.Tree as plain;
 ghost use Rattle.sql_parts.specs.Emitted as spec;
 ghost use Rattle.sql_parts.specs.Numbered.{with_filter};
@@ -12,7 +12,9 @@ use kernel_lang::{Acc, Update};
 use qbs_base::{NoMemory, Tys};
 use sql_ast::{Cond, ListQuery, NumberKind, Query};
 use sql_parts::ground::{Ground, Scope, from_items};
-use sql_parts::query::{best_query, item, number_query, sum_query, truth_query, values_query};
+use sql_parts::query::{
+    best_query, item, number_query, sum_query, truth_query, unboxed, values_query,
+};
 use sql_parts::sort_keys::limit_of;
 use std::alloc::Global;
 use tor_terms::Elem;
@@ -23,11 +25,11 @@ fn rows_query(
     g: Ground,
     loops: &[u32],
     e: &Elem,
-    filter: Option<Cond>,
+    filter: Option<Box<Cond>>,
     params: Tys,
 ) -> Result<Query, NoMemory>
     requires { length loops.now ≤ 3 }
-    ensures { IfOk result (λ q. query q ≡ with_filter (spec.rows_query (ground_of g.entry) loops.now e.now plain.Everything) (filter_of filter) params) }
+    ensures { IfOk result (λ q. query q ≡ with_filter (spec.rows_query (ground_of g.entry) loops.now e.now plain.Everything) (inner_filter filter) params) }
 {
     let s = Scope {
         own: loops,
@@ -39,7 +41,7 @@ fn rows_query(
     Ok(Query::Listing(ListQuery {
         item,
         from,
-        filter,
+        filter: unboxed(filter),
         group: None,
         keys,
         limit: limit_of(g, loops),
@@ -52,13 +54,13 @@ pub fn query_by(
     alloc: Global,
     g: Ground,
     acc: &Acc,
-    filter: Option<Cond>,
+    filter: Option<Box<Cond>>,
     params: Tys,
 ) -> Result<Query, NoMemory>
     requires { length acc.now.chain ≤ 3 }
     ensures { IfOk result (λ q.
         query q
-        ≡ with_filter (spec.query_by acc.now.update (ground_of g.entry) (accumulator acc.now, []) plain.Everything) (filter_of filter) params) }
+        ≡ with_filter (spec.query_by acc.now.update (ground_of g.entry) (accumulator acc.now, []) plain.Everything) (inner_filter filter) params) }
 {
     let loops = acc.chain.as_slice();
     match &acc.update {
