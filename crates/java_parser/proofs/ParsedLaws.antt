@@ -1,13 +1,11 @@
 -- What reading from left to right gives is what the grammar says.
-use Rattle.std.proofs.Common.{◌≡◌, List, Result, Ok, Err, refl, sym, ap, subst, ◌∙◌}
-use Rattle.qbs_base.specs.declared.memory.Fail.{Fail}
+use Rattle.std.proofs.Common.{◌≡◌, Result, Ok, Err, refl, sym, ap, subst, ◌∙◌}
 use Rattle.qbs_base.specs.declared.memory.Fail.TheVariants as fails
 use Rattle.readers.specs.declared.fault.Fault.{Fault}
 use Rattle.readers.specs.declared.fault.Fault.TheVariants as faults
 use Rattle.readers.specs.declared.fault.ReadError.{ReadError}
 use Rattle.readers.specs.declared.fault.ReadError.TheVariants as errors
 use Rattle.readers.specs.Reading.{Fails, whole}
-use Rattle.java_lex.specs.declared.token.Token.{Token}
 use Rattle.java_lex.specs.declared.token.Tokens.{Tokens}
 use Rattle.java_ast.specs.Tree.{PlainProgram}
 use Rattle.java_parser.specs.declared.fault.ParseFault.{ParseFault}

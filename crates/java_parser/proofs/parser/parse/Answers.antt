@@ -6,7 +6,6 @@ use Rattle.java_grammar.specs.Marks.{all_strict}
 use Rattle.java_grammar.specs.Grammar.{HasProgram}
 use Rattle.java_grammar.specs.ReadingPrograms.{program_at}
 use Rattle.java_parser.proofs.ParsedLaws.{answers_program, answers_fault}
-use Rattle.java_parser.specs.Parsed.{parsed}
 use Rattle.java_grammar.proofs.Again.{Any}
 use Rattle.java_grammar.proofs.ProgramLaws.{program_reads}
 use Rattle.java_grammar.proofs.Whole.{whole_found}
