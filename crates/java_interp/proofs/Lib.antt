@@ -1,3 +1,4 @@
+pub mod Branches
 pub mod Called
-pub mod Stacked
+pub mod Passing
 pub mod Turns

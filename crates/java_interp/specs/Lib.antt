@@ -1,3 +1,2 @@
-pub mod Ended
+pub mod Passing
 pub mod Reached
-pub mod Stack

@@ -2,8 +2,8 @@
 #![tactic(auto)]
 
 mod run;
-mod stack;
+mod running;
 mod turn;
-mod went;
+mod way;
 
 pub use run::{Outcome, run_method};

@@ -10,7 +10,8 @@ ghost use Rattle.java_steps.specs.Held.{value_in};
 ghost use Rattle.java_steps.specs.Running.{world};
 ghost use Rattle.java_interp.specs.Reached.{reached, outcome_in};
 
-use crate::stack::{Ended, run_all};
+use crate::running::run_block;
+use crate::way::Way;
 use java_ast::{Method, Param};
 use java_mean::{Ending, RunFault};
 use java_steps::gather::gather;
@@ -97,13 +98,14 @@ fn reach<'a>(
         )?,
         lines: Texts::new(alloc),
         turns,
+        returned: None,
     };
-    let run = run_all(source, m.body.as_slice(), &mut machine);
+    let run = run_block(m.body.as_slice(), source, &mut machine);
     let prints = machine.lines;
     match run {
-        Ok(Ended::Behind) => Ok(Reached::Comes(returned(alloc, prints, None)?)),
-        Ok(Ended::Astray) => Ok(Reached::Stuck),
-        Ok(Ended::Returned(held)) => Ok(Reached::Comes(returned(alloc, prints, held)?)),
+        Ok(Way::On) => Ok(Reached::Comes(returned(alloc, prints, None)?)),
+        Ok(Way::Leaves) => Ok(Reached::Stuck),
+        Ok(Way::Returns) => Ok(Reached::Comes(returned(alloc, prints, machine.returned)?)),
         Err(Stop::Memory) => Err(NoMemory),
         Err(Stop::Ends(Ending::Faulted(fault, at))) => {
             Ok(Reached::Comes(Outcome::Faulted { fault, at }))

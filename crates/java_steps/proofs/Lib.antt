@@ -1,10 +1,10 @@
 pub mod Answerable
-pub mod Branches
 pub mod Changed
 pub mod Columns
 pub mod Occurring
 pub mod Operands
 pub mod Placing
+pub mod Quickly
 pub mod Readings
 pub mod Seen
 pub mod Sorted

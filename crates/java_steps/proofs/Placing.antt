@@ -5,7 +5,7 @@ use Rattle.std.specs.List.{AllByRecursion, IsDistinct}
 use Rattle.std.specs.Map.{lookup, keys_of}
 use Rattle.indexmap.specs.IndexMap.{insert_entry, set_value_at}
 use Rattle.java_mean.proofs.Puts.{names_equal}
-use Rattle.java_steps.specs.Placed.{test, same, Stands}
+use Rattle.java_steps.specs.Placed.{test, same, Stands, IsAt}
 use Rattle.java_steps.proofs.Stored.{back}
 
 module _ {V : Type 0} where
@@ -56,3 +56,10 @@ module _ {V : Type 0} where
 
   pub stands_put : (es : List (Bor (List ℕ) × V)) (i : ℕ) (key : Bor (List ℕ)) (w : V) → Stands es i key.now → IsDistinct same (keys_of es) → set_value_at es i w ≡ insert_entry same es key w
   stands_put es i key w s d = put_there es i s.key key s.value w d s.at s.is
+
+  pub stands_at : (es : List (Bor (List ℕ) × V)) (i : ℕ) (x : List ℕ) (v : V) → IsAt es i x v → Stands es i x
+  stands_at es i x v s = record { key = s.key; value = v; at = s.at; is = s.is }
+
+  -- one value stands at a place
+  pub one_there : (es : List (Bor (List ℕ) × V)) (i : ℕ) (x : List ℕ) (v w : V) (k : Bor (List ℕ)) → slice_get es i ≡ Some (k, w) → IsAt es i x v → v ≡ w
+  one_there es i x v w k at s = let h : Some (s.key, v) ≡ Some (k, w) = sym s.at ∙ at in let g : (s.key, v) ≡ (k, w) = cc in ap (λ (p : Bor (List ℕ) × V). p.1) g

@@ -12,13 +12,11 @@ use Rattle.java_mean.specs.Store.{put}
 use Rattle.java_mean.proofs.Puts.{names_equal, name_same}
 use Rattle.java_steps.specs.declared.held.Variable.{Variable}
 use Rattle.java_steps.specs.Placed.{test, same}
-use Rattle.java_steps.specs.Held.{variable_in}
+use Rattle.java_steps.specs.Quick.{written}
+use Rattle.java_steps.specs.Held.{seen, variable_in}
 
 abbrev pub Entries : Type 0
 Entries = List (Bor (List ℕ) × Variable)
-
-abbrev pub seen : Entries → meant.Store
-seen es = map (λ p. (p.0.now, variable_in p.1)) es
 
 back_true : (x y : List ℕ) → bytes_eq x y ≡ true → bytes_eq y x ≡ true
 back_true x y e = subst (λ z. bytes_eq z x ≡ true) (names_equal x y e) (name_same x)
@@ -60,3 +58,10 @@ cells_differ [] [] h = absurd (h refl)
 cells_differ [] (y ∷ ys) h = refl
 cells_differ (x ∷ xs) [] h = refl
 cells_differ (x ∷ xs) (y ∷ ys) h = and_false (scalar_same x y) (same_cells xs ys) (cells_differ xs ys (λ e. h (ap (λ n. suc n) e)))
+
+-- a number that is put in a variable that is there
+pub put_over : (es : Entries) (k : Bor (List ℕ)) (old new : Variable) (fs : Entries) → Some old ≡ lookup (test k.now) es → fs ≡ insert_entry same es k new → new.is_set ≡ old.is_set → Some (seen fs) ≡ written (seen es) k.now (variable_in new).value
+put_over es k old new fs there put stays =
+    let at : Some (variable_in old) ≡ at_name (seen es) k.now = ap (option_map variable_in) there ∙ get_lem k.now es in
+    ap Some (ap seen put ∙ put_lem k new es ∙ ap (λ (b : Bool). meant.put (seen es) k.now (record { value = (variable_in new).value; is_set = b })) stays)
+    ∙ ap (option_map (λ (held : meant.Variable). meant.put (seen es) k.now (record { value = (variable_in new).value; is_set = held.is_set }))) at

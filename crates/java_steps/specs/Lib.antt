@@ -1,9 +1,8 @@
-pub mod Chosen
-pub mod Frames
 pub mod Gives
 pub mod Held
 pub mod IsRead
 pub mod Met
 pub mod Placed
+pub mod Quick
 pub mod Running
 pub mod Words

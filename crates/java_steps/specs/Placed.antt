@@ -14,3 +14,9 @@ pub record Stands {V : Type 0} (es : List (Bor (List ℕ) × V)) (place : ℕ) (
   pub value : V
   pub at : slice_get es place ≡ Some (key, value)
   pub is : bytes_eq key.now x ≡ true
+
+-- the same, where the value is this one
+pub record IsAt {V : Type 0} (es : List (Bor (List ℕ) × V)) (place : ℕ) (x : List ℕ) (value : V) : Type 0 where
+  pub key : Bor (List ℕ)
+  pub at : slice_get es place ≡ Some (key, value)
+  pub is : bytes_eq key.now x ≡ true

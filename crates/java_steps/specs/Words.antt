@@ -13,9 +13,9 @@ use Rattle.sql_ast.specs.Grouped.{firsts}
 use Rattle.java_mean.specs.declared.ending.Ending.{Ending}
 use Rattle.java_mean.specs.Endings.{◌>>=◌, found}
 use Rattle.java_ast.specs.declared.tree.Op.{Op}
-use Rattle.java_ast.specs.Tree.{Expression, Expressions}
-use Rattle.java_mean.specs.Expression.{value_of, scalars_of, answered, as_scalar, as_row, as_rows, as_long, as_bool, alone, applied, cell, element, in_range, is_among, nth, number, or_else, same_member, same_text, settled, truth}
-use Rattle.java_mean.specs.Statement.{State, with_value, added, in_order}
+use Rattle.java_ast.specs.Tree.{Spelled, Expression, Expressions}
+use Rattle.java_mean.specs.Expression.{value_of, scalars_of, answered, as_scalar, as_row, as_rows, as_long, as_bool, as_member, alone, applied, cell, element, in_range, is_among, nth, number, or_else, same_member, same_text, settled, truth}
+use Rattle.java_mean.specs.Statement.{State, Passed, Does, done, with_value, with_variable, with_line, printed, is_set_type, added, in_order}
 use Rattle.java_mean.specs.Store.{Store}
 use Rattle.java_mean.specs.World.{World}
 
@@ -106,23 +106,54 @@ field_in e w s name = do
 abbrev pub key_before : Schema → List ℕ → Bool → Row → Row → Bool
 key_before schema key down = turned down (λ a b. value_before (cell schema a key) (cell schema b key))
 
--- the state with a variable that holds another value
-abbrev pub assigned : State → List ℕ → Value → Result State Ending
+-- ---- What statements without statements in them do, by the values of their expressions
+
+-- a variable that is there holds another value
+abbrev pub assigned : State → List ℕ → Value → Result Passed Ending
 assigned s x v = do
   held ← found (at_name s.store x)
-  Ok (with_value s x held v)
+  done (with_value s x held v)
 
-abbrev pub added_to : State → List ℕ → Row → Result State Ending
+-- a list or a set has a member more
+abbrev pub added_to : State → List ℕ → Row → Result Passed Ending
 added_to s x row = do
   held ← found (at_name s.store x)
   rows ← as_rows held.value
-  Ok (with_value s x held (Many (added held.is_set rows row)))
+  done (with_value s x held (Many (added held.is_set rows row)))
 
-abbrev pub sorted_at : Schema → State → List ℕ → List (List ℕ) → List Bool → Result State Ending
-sorted_at schema s x keys down = do
+abbrev pub sorts : Schema → List ℕ → List (List ℕ) → List Bool → Does
+sorts schema x keys down s = do
   held ← found (at_name s.store x)
   rows ← as_rows held.value
-  Ok (with_value s x held (Many (stable_sort (in_order schema keys down) rows)))
+  done (with_value s x held (Many (stable_sort (in_order schema keys down) rows)))
+
+abbrev pub declares : Spelled → List ℕ → Expression → World → Does
+declares ty x e w s = do
+  v ← value_of e w s.store
+  done (with_variable s x (record { value = v; is_set = is_set_type ty }))
+
+abbrev pub assigns : List ℕ → Expression → World → Does
+assigns x e w s = do
+  v ← value_of e w s.store
+  assigned s x v
+
+abbrev pub adds : List ℕ → Expression → World → Does
+adds x e w s = do
+  v ← value_of e w s.store
+  row ← as_member v
+  added_to s x row
+
+abbrev pub prints : Expression → World → Does
+prints e w s = do
+  v ← value_of e w s.store
+  x ← as_scalar v
+  done (with_line s (printed x))
+
+-- the rows that an expression gives
+abbrev pub rows_given : Expression → World → Store → Result (List Row) Ending
+rows_given e w s = do
+  v ← value_of e w s
+  as_rows v
 
 -- the answer of a text's query to the scalars of expressions
 abbrev pub asked_in : Expressions → World → Store → Span → List ℕ → Result Value Ending

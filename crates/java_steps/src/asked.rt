@@ -7,7 +7,7 @@ ghost use Rattle.java_steps.specs.Held.{rows_in, value_in};
 use crate::held::{Held, List};
 use crate::stop::Stop;
 use java_mean::Ending;
-use qbs_base::{Cells, Kind, NoMemory, Row, Scalar};
+use qbs_base::{Cells, Kind, NoMemory, Row, Scalar, copy_row};
 use std::alloc::Global;
 
 /// A scalar.
@@ -17,17 +17,19 @@ pub fn scalar_of(held: Held) -> Result<Scalar, Stop>
     match held {
         Held::One(x) => Ok(x),
         Held::Whole(_) => Err(Stop::Ends(Ending::Stuck)),
+        Held::Lent(_) => Err(Stop::Ends(Ending::Stuck)),
         Held::Many(_) => Err(Stop::Ends(Ending::Stuck)),
     }
 }
 
 /// A row.
-pub fn row_of(held: Held) -> Result<Row, Stop>
+pub fn row_of(alloc: Global, held: Held) -> Result<Row, Stop>
     ensures { Gives result (as_row (value_in held.entry)) }
 {
     match held {
         Held::One(_) => Err(Stop::Ends(Ending::Stuck)),
         Held::Whole(row) => Ok(row),
+        Held::Lent(row) => Ok(copy_row(alloc, row)?),
         Held::Many(_) => Err(Stop::Ends(Ending::Stuck)),
     }
 }
@@ -39,6 +41,7 @@ pub fn list_in<'a>(held: Held<'a>) -> Result<List<'a>, Stop>
     match held {
         Held::One(_) => Err(Stop::Ends(Ending::Stuck)),
         Held::Whole(_) => Err(Stop::Ends(Ending::Stuck)),
+        Held::Lent(_) => Err(Stop::Ends(Ending::Stuck)),
         Held::Many(list) => Ok(list),
     }
 }
@@ -83,6 +86,7 @@ pub fn member_of(alloc: Global, held: Held) -> Result<Row, Stop>
     match held {
         Held::One(x) => Ok(alone(alloc, x)?),
         Held::Whole(row) => Ok(row),
+        Held::Lent(row) => Ok(copy_row(alloc, row)?),
         Held::Many(_) => Err(Stop::Ends(Ending::Stuck)),
     }
 }

@@ -43,6 +43,7 @@ fn list<'b, 'a>(store: &'b Store<'a>, number: usize, name: &Name) -> Result<&'b 
     match held(store, number, name)? {
         Held::One(_) => Err(Stop::Ends(Ending::Stuck)),
         Held::Whole(_) => Err(Stop::Ends(Ending::Stuck)),
+        Held::Lent(_) => Err(Stop::Ends(Ending::Stuck)),
         Held::Many(list) => Ok(rows(list)),
     }
 }
@@ -82,6 +83,7 @@ fn scalar_held(alloc: Global, store: &Store, number: usize, name: &Name) -> Resu
     match held(store, number, name)? {
         Held::One(x) => Ok(copy_scalar(alloc, x)?),
         Held::Whole(_) => Err(Stop::Ends(Ending::Stuck)),
+        Held::Lent(_) => Err(Stop::Ends(Ending::Stuck)),
         Held::Many(_) => Err(Stop::Ends(Ending::Stuck)),
     }
 }
@@ -133,12 +135,14 @@ fn field(row: &Expr, source: &Source, store: &Store, name: &Name) -> Result<Scal
     ensures { Gives result (field_in (expression row.now) (world source.now) store.now name.now) }
 {
     if let ExprNode::Var(x) = &row.node {
-        if let Held::Whole(row) = held(store, source.numbers.at(row.span), x)? {
-            return cell_of(source, row, name);
-        }
-        return Err(Stop::Ends(Ending::Stuck));
+        return match held(store, source.numbers.at(row.span), x)? {
+            Held::One(_) => Err(Stop::Ends(Ending::Stuck)),
+            Held::Whole(row) => cell_of(source, row, name),
+            Held::Lent(row) => cell_of(source, row, name),
+            Held::Many(_) => Err(Stop::Ends(Ending::Stuck)),
+        };
     }
-    let row = row_of(eval(row, source, store)?)?;
+    let row = row_of(source.alloc, eval(row, source, store)?)?;
     cell_of(source, &row, name)
 }
 

@@ -16,12 +16,13 @@ pub enum List<'a> {
     Distinct(Rc<Members>),
 }
 
-/// What a variable holds or an expression gives. No list is copied until it is changed while
-/// something else holds it.
+/// What a variable holds or an expression gives: a scalar, a row of its own or one that the database
+/// lends, or a list. No list is copied until it is changed while something else holds it.
 #[derive(Drop)]
 pub enum Held<'a> {
     One(Scalar),
     Whole(Row),
+    Lent(&'a Row),
     Many(List<'a>),
 }
 
@@ -62,6 +63,7 @@ pub fn held_again<'a>(alloc: Global, held: &Held<'a>) -> Result<Held<'a>, NoMemo
     match held {
         Held::One(x) => Ok(Held::One(copy_scalar(alloc, x)?)),
         Held::Whole(row) => Ok(Held::Whole(copy_row(alloc, row)?)),
+        Held::Lent(row) => Ok(Held::Lent(row)),
         Held::Many(list) => Ok(Held::Many(list_again(list)?)),
     }
 }
@@ -126,6 +128,7 @@ pub fn value(alloc: Global, held: Held) -> Result<Value, NoMemory>
     match held {
         Held::One(x) => Ok(Value::One(x)),
         Held::Whole(row) => Ok(Value::Whole(row)),
+        Held::Lent(row) => Ok(Value::Whole(copy_row(alloc, row)?)),
         Held::Many(list) => Ok(Value::Many(own_rows(alloc, list)?)),
     }
 }

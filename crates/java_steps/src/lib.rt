@@ -4,7 +4,6 @@
 mod asked;
 mod eval;
 mod firsts;
-pub mod frame;
 pub mod gather;
 pub mod held;
 pub mod known;
@@ -15,6 +14,7 @@ pub mod numbers;
 mod operators;
 mod placed;
 mod queries;
+mod quick;
 pub mod rows;
 mod sorting;
 pub mod source;

@@ -1,9 +1,9 @@
 // Values under keys, where the place of a key is mostly known.
-ghost use Rattle.std.specs.Prelude.{◌≡◌, IsTrue, IfOk, OnOk, Some};
+ghost use Rattle.std.specs.Prelude.{◌≡◌, IsTrue, IfOk, IfSome, OnOk, Some};
 ghost use Rattle.std.specs.Map.{lookup};
 ghost use Rattle.std.specs.Option.{option_copied};
 ghost use Rattle.indexmap.specs.IndexMap.{insert_entry};
-ghost use Rattle.java_steps.specs.Placed.{test, same, Stands};
+ghost use Rattle.java_steps.specs.Placed.{test, same, Stands, IsAt};
 
 use indexmap::IndexMap;
 use qbs_base::NoMemory;
@@ -26,6 +26,21 @@ pub fn at_place<'b, 'a, V>(
     map.get(key)
 }
 
+/// The value at a place, where the key stands there.
+pub fn there<'b, 'a, V>(map: &'b IndexMap<&'a [u8], V>, place: usize, key: &[u8]) -> Option<&'b V>
+    ensures { IfSome result (λ v. IsAt map.now.entries place key.now v.now) }
+{
+    match map.get_index(place) {
+        Some((found, value)) => {
+            if *found == key {
+                return Some(value);
+            }
+            None
+        }
+        None => None,
+    }
+}
+
 // Whether the key stands at a place.
 fn is_there<'a, V>(map: &IndexMap<&'a [u8], V>, place: usize, key: &[u8]) -> bool
     ensures { IsTrue result → Stands map.now.entries place key.now }
@@ -36,15 +51,16 @@ fn is_there<'a, V>(map: &IndexMap<&'a [u8], V>, place: usize, key: &[u8]) -> boo
     }
 }
 
-// Puts a value in place of the one at a place, and gives that one.
+/// Puts a value in place of the one at a place, and gives that one.
 #[tactic(auto, using(crate::proofs::Placing::stands_within))]
-fn put_there<'a, V: Drop>(
+pub fn put_there<'a, V: Drop>(
     map: &mut IndexMap<&'a [u8], V>,
     place: usize,
     key: &'a [u8],
     value: V,
 ) -> V
     requires { Stands map.old.entries place key.now }
+    ensures was { (v : V) → IsAt map.old.entries place key.now v → v ≡ result }
     ensures old { Some result ≡ lookup (test key.now) map.old.entries }
     ensures entries { map.new.entries ≡ insert_entry same map.old.entries key.entry value }
 {

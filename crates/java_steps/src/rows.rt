@@ -1,12 +1,12 @@
 // Rows: their cells, and which are members of a list.
-ghost use Rattle.std.specs.Prelude.{◌≡◌, ℤ, IfOk, option_copied};
+ghost use Rattle.std.specs.Prelude.{◌≡◌, ◌<◌, ℤ, IfOk, Some, length, slice_get, option_copied, option_map};
 ghost use Rattle.std.specs.List.{list_any};
 ghost use Rattle.qbs_base.specs.Columns.{column_number};
 ghost use Rattle.qbs_base.specs.Scalar as scalars;
 ghost use Rattle.java_mean.specs.Expression as meant;
-ghost use Rattle.java_steps.specs.Held.{value_in};
+ghost use Rattle.java_steps.specs.Held.{rows_in, value_in};
 
-use crate::held::Held;
+use crate::held::{Held, List};
 use crate::operators::same;
 use qbs_base::{Column, Kind, Name, NoMemory, Row, Scalar, columns_at, copy_row, copy_scalar};
 use schema::Schema;
@@ -91,4 +91,45 @@ pub fn row_at(rows: &[Row], n: i64) -> Option<&Row>
         return None;
     }
     rows.get(n as usize)
+}
+
+// A row that is lent, as a value.
+fn lent_element<'a>(alloc: Global, row: &'a Row) -> Result<Held<'a>, NoMemory>
+    ensures { IfOk result (λ h. value_in h ≡ meant.element row.now) }
+{
+    if let Kind::Plain = row.kind {
+        if let [x] = row.cells.as_slice() {
+            return Ok(Held::One(copy_scalar(alloc, x)?));
+        }
+    }
+    Ok(Held::Lent(row))
+}
+
+#[tactic(auto, using(crate::proofs::Columns::value_there))]
+fn lent_member<'a>(alloc: Global, rows: &'a [Row], i: usize) -> Result<Held<'a>, NoMemory>
+    requires { i < length rows.now }
+    ensures { IfOk result (λ h. Some (value_in h) ≡ option_map meant.element (slice_get rows.now i)) }
+{
+    lent_element(alloc, &rows[i])
+}
+
+#[tactic(auto, using(crate::proofs::Columns::value_there))]
+fn copied_member<'a>(alloc: Global, rows: &[Row], i: usize) -> Result<Held<'a>, NoMemory>
+    requires { i < length rows.now }
+    ensures { IfOk result (λ h. Some (value_in h) ≡ option_map meant.element (slice_get rows.now i)) }
+{
+    element(alloc, &rows[i])
+}
+
+/// The member at a place of a list, as a value. A row that the database lends isn't copied.
+#[inline(never)]
+pub fn member<'a>(alloc: Global, list: &List<'a>, i: usize) -> Result<Held<'a>, NoMemory>
+    requires { i < length (rows_in list.now) }
+    ensures { IfOk result (λ h. Some (value_in h) ≡ option_map meant.element (slice_get (rows_in list.now) i)) }
+{
+    match list {
+        List::Lent(rows) => lent_member(alloc, rows, i),
+        List::Shared(rows) => copied_member(alloc, rows.as_slice(), i),
+        List::Distinct(members) => copied_member(alloc, members.as_slice(), i),
+    }
 }

@@ -1,24 +1,23 @@
-// How statements begin.
-ghost use Rattle.std.specs.Prelude.{◌≡◌, ◌≤◌, ◌+◌, IfOk, OnOk, option_map};
-ghost use Rattle.java_ast.specs.Reading.{expression, statement, statements, spelled};
+// What statements that hold no others do, and what those that do ask first.
+ghost use Rattle.std.specs.Prelude.{◌≡◌, IfOk, OnOk, IsTrue, IsFalse, Ok, option_map};
+ghost use Rattle.java_ast.specs.Reading.{expression, spelled, statement};
+ghost use Rattle.java_mean.specs.Expression.{value_of as meant_value};
 ghost use Rattle.java_mean.specs.Statement as meant;
-ghost use Rattle.java_mean.specs.Statement.{meaning, test_of};
-ghost use Rattle.java_steps.specs.Gives.{Gives, GivesBy, Leaves};
+ghost use Rattle.java_mean.specs.Statement.{test_of};
+ghost use Rattle.java_steps.specs.Gives.{Gives, GivesBy, Goes, GivesBack};
 ghost use Rattle.java_steps.specs.Held.{rows_in, value_in};
 ghost use Rattle.java_steps.specs.Running.{state, world};
-ghost use Rattle.java_steps.specs.Chosen.{chosen, count_other};
-ghost use Rattle.java_steps.specs.Frames.{Moves, weight_next, count, count_all};
-ghost use Rattle.java_steps.specs.Words.{assigned, added_to, sorted_at};
+ghost use Rattle.java_steps.specs.Words.{assigned, added_to, adds, assigns, declares, prints, rows_given, sorts};
 
 use crate::asked::{bool_of, list_in, member_of};
 use crate::eval::{eval, scalar};
-use crate::frame::{Frame, Next};
 use crate::held::{Held, List, Variable, list_of, list_of_members, own_members, own_rows};
 use crate::machine::Machine;
-use crate::numbers::Slot;
+use crate::quick::{long, truth};
 use crate::sorting::sorted;
 use crate::source::Source;
 use crate::stop::Stop;
+use crate::store::Store;
 use java_ast::{Expr, JTy, Stmt, StmtNode};
 use java_mean::Ending;
 use qbs_base::{Name, NoMemory, Row, Scalar, Text, copy_text};
@@ -28,7 +27,26 @@ use std::alloc::Global;
 pub fn test<'a>(source: &Source<'a>, cond: &Expr, m: &Machine<'a>) -> Result<bool, Stop>
     ensures { Gives result (test_of (expression cond.now) (world source.now) m.now.store) }
 {
+    match truth(cond, source, &m.store) {
+        Some(b) => Ok(b),
+        None => any_test(source, cond, m),
+    }
+}
+
+// The truth value of any condition.
+#[inline(never)]
+fn any_test<'a>(source: &Source<'a>, cond: &Expr, m: &Machine<'a>) -> Result<bool, Stop>
+    ensures { Gives result (test_of (expression cond.now) (world source.now) m.now.store) }
+{
     bool_of(&scalar(cond, source, &m.store)?)
+}
+
+/// The rows that an expression gives.
+#[inline(never)]
+pub fn rows_of<'a>(source: &Source<'a>, list: &Expr, m: &Machine<'a>) -> Result<List<'a>, Stop>
+    ensures { GivesBy rows_in result (rows_given (expression list.now) (world source.now) m.now.store) }
+{
+    list_in(eval(list, source, &m.store)?)
 }
 
 fn is_set_type(ty: &JTy) -> bool
@@ -40,22 +58,41 @@ fn is_set_type(ty: &JTy) -> bool
     }
 }
 
-// A list that holds nothing, in place of one that is being changed.
-fn nothing<'a>() -> Variable<'a> {
-    Variable {
-        held: Held::Many(List::Lent(&[])),
-        is_set: false,
+// The value of an expression. A number takes no look at what else it could be.
+fn value_of<'a>(e: &Expr, source: &Source<'a>, store: &Store<'a>) -> Result<Held<'a>, Stop>
+    ensures { GivesBy value_in result (meant_value (expression e.now) (world source.now) store.now) }
+{
+    match long(e, source, store) {
+        Some(n) => Ok(Held::One(Scalar::Long(n))),
+        None => eval(e, source, store),
     }
 }
 
-fn assign<'a>(
+/// Declares a variable with the value of an expression.
+#[inline(never)]
+pub fn declare<'a>(
+    source: &Source<'a>,
+    number: usize,
+    ty: &JTy,
+    name: &'a Name,
+    value: &Expr,
+    m: &mut Machine<'a>,
+) -> Result<(), Stop>
+    ensures { Goes result (state m.new) (declares (spelled ty.now) name.now (expression value.now) (world source.now) (state m.old)) }
+{
+    let held = value_of(value, source, &m.store)?;
+    let is_set = is_set_type(ty);
+    m.store.replace(number, name, Variable { held, is_set })?;
+    Ok(())
+}
+
+fn put_value<'a>(
     number: usize,
     name: &'a Name,
     held: Held<'a>,
     m: &mut Machine<'a>,
 ) -> Result<(), Stop>
-    ensures moves { Leaves result (state m.new) (assigned (state m.old) name.now (value_in held.entry)) }
-    ensures turns { m.new.turns ≡ m.old.turns }
+    ensures { Goes result (state m.new) (assigned (state m.old) name.now (value_in held.entry)) }
 {
     let is_set = match m.store.get(number, name) {
         Some(variable) => variable.is_set,
@@ -63,6 +100,44 @@ fn assign<'a>(
     };
     m.store.replace(number, name, Variable { held, is_set })?;
     Ok(())
+}
+
+/// Puts the value of an expression in a variable.
+#[inline(never)]
+pub fn assign<'a>(
+    source: &Source<'a>,
+    number: usize,
+    name: &'a Name,
+    value: &Expr,
+    m: &mut Machine<'a>,
+) -> Result<(), Stop>
+    ensures { Goes result (state m.new) (assigns name.now (expression value.now) (world source.now) (state m.old)) }
+{
+    put_value(number, name, eval(value, source, &m.store)?, m)
+}
+
+/// Does what a statement does, where it puts a number in a variable and no fault comes, and says
+/// whether it did. Most turns of a loop count, so that nothing else is made for them.
+#[tactic(auto, using(crate::proofs::Quickly::written_over))]
+pub fn counts<'a>(source: &Source<'a>, s: &'a Stmt, m: &mut Machine<'a>) -> bool
+    ensures does { IsTrue result → meant.meaning (statement s.now) (world source.now) (state m.old) ≡ Ok (meant.GoesOn (state m.new)) }
+    ensures kept { IsFalse result → state m.new ≡ state m.old }
+{
+    let StmtNode::Assign { name, value } = &s.node else {
+        return false;
+    };
+    let Some(n) = long(value, source, &m.store) else {
+        return false;
+    };
+    m.store.set_long(source.numbers.at(s.span), name, n)
+}
+
+// A list that holds nothing, in place of one that is being changed.
+fn nothing<'a>() -> Variable<'a> {
+    Variable {
+        held: Held::Many(List::Lent(&[])),
+        is_set: false,
+    }
 }
 
 fn with_member<'a>(alloc: Global, is_set: bool, list: List, row: Row) -> Result<List<'a>, NoMemory>
@@ -77,15 +152,14 @@ fn with_member<'a>(alloc: Global, is_set: bool, list: List, row: Row) -> Result<
     list_of(alloc, rows)
 }
 
-fn add<'a>(
+fn add_row<'a>(
     alloc: Global,
     number: usize,
     name: &'a Name,
     row: Row,
     m: &mut Machine<'a>,
 ) -> Result<(), Stop>
-    ensures moves { Leaves result (state m.new) (added_to (state m.old) name.now row) }
-    ensures turns { m.new.turns ≡ m.old.turns }
+    ensures { Goes result (state m.new) (added_to (state m.old) name.now row) }
 {
     let Some(old) = m.store.replace(number, name, nothing())? else {
         return Err(Stop::Ends(Ending::Stuck));
@@ -97,7 +171,24 @@ fn add<'a>(
     Ok(())
 }
 
-fn sort<'a>(
+/// Adds the member that an expression gives to a list or a set.
+#[inline(never)]
+pub fn add<'a>(
+    source: &Source<'a>,
+    number: usize,
+    name: &'a Name,
+    value: &Expr,
+    m: &mut Machine<'a>,
+) -> Result<(), Stop>
+    ensures { Goes result (state m.new) (adds name.now (expression value.now) (world source.now) (state m.old)) }
+{
+    let row = member_of(source.alloc, value_of(value, source, &m.store)?)?;
+    add_row(source.alloc, number, name, row, m)
+}
+
+/// Sorts a list by keys, the first one first, each up or down.
+#[inline(never)]
+pub fn sort<'a>(
     source: &Source<'a>,
     number: usize,
     name: &'a Name,
@@ -105,8 +196,7 @@ fn sort<'a>(
     down: &[bool],
     m: &mut Machine<'a>,
 ) -> Result<(), Stop>
-    ensures moves { Leaves result (state m.new) (sorted_at source.now.queries (state m.old) name.now keys.now down.now) }
-    ensures turns { m.new.turns ≡ m.old.turns }
+    ensures { Goes result (state m.new) (sorts source.now.queries name.now keys.now down.now (state m.old)) }
 {
     let Some(old) = m.store.replace(number, name, nothing())? else {
         return Err(Stop::Ends(Ending::Stuck));
@@ -131,95 +221,35 @@ fn printed(alloc: Global, x: &Scalar) -> Result<Text, NoMemory>
     }
 }
 
-fn print(alloc: Global, x: &Scalar, m: &mut Machine) -> Result<(), NoMemory>
-    ensures moves { OnOk result (state m.new ≡ meant.with_line (state m.old) (meant.printed x.now)) }
-    ensures turns { m.new.turns ≡ m.old.turns }
+fn put_line(alloc: Global, x: &Scalar, m: &mut Machine) -> Result<(), NoMemory>
+    ensures { OnOk result (state m.new ≡ meant.with_line (state m.old) (meant.printed x.now)) }
 {
     m.lines.push(printed(alloc, x)?)?;
     Ok(())
 }
 
-// How a return goes on.
-fn returned<'a>(
+/// Prints the scalar that an expression gives.
+#[inline(never)]
+pub fn print<'a>(source: &Source<'a>, value: &Expr, m: &mut Machine<'a>) -> Result<(), Stop>
+    ensures { Goes result (state m.new) (prints (expression value.now) (world source.now) (state m.old)) }
+{
+    let x = scalar(value, source, &m.store)?;
+    put_line(source.alloc, &x, m)?;
+    Ok(())
+}
+
+/// Holds what a method returns.
+#[inline(never)]
+pub fn give_back<'a>(
     source: &Source<'a>,
     value: &Option<Expr>,
-    m: &Machine<'a>,
-) -> Result<Next<'a>, Stop>
-    ensures moves { Moves (world source.now) result (state m.now) (meant.returned (option_map expression value.now) (world source.now) (state m.now)) }
-    ensures falls { IfOk result (λ next. weight_next next ≡ 0) }
+    m: &mut Machine<'a>,
+) -> Result<(), Stop>
+    ensures { GivesBack result m.new (meant.returned (option_map expression value.now) (world source.now) (state m.old)) }
 {
-    match value {
-        None => Ok(Next::Return(None)),
-        Some(e) => Ok(Next::Return(Some(eval(e, source, &m.store)?))),
-    }
-}
-
-// The branch of a condition.
-fn choose<'a>(
-    source: &Source<'a>,
-    cond: &Expr,
-    yes: &'a [Stmt],
-    other: &'a Option<Vec<Stmt>>,
-    m: &Machine<'a>,
-) -> Result<Next<'a>, Stop>
-    ensures moves { Moves (world source.now) result (state m.now) (chosen (expression cond.now) (statements yes.now) other.now (world source.now) (state m.now)) }
-    ensures falls { IfOk result (λ next. weight_next next ≤ count_all (statements yes.now) + count_other other.now) }
-{
-    if test(source, cond, m)? {
-        return Ok(Next::Enter(Frame::Run(yes)));
-    }
-    match other {
-        None => Ok(Next::On),
-        Some(other) => Ok(Next::Enter(Frame::Run(other))),
-    }
-}
-
-/// Begins a statement, and says how it goes on.
-#[tactic(auto, using(java_ast::proofs::Nodes::nodes, crate::proofs::Branches::meaning_if, crate::proofs::Branches::count_if))]
-pub fn start<'a>(source: &Source<'a>, s: &'a Stmt, m: &mut Machine<'a>) -> Result<Next<'a>, Stop>
-    ensures moves { Moves (world source.now) result (state m.new) (meaning (statement s.now) (world source.now) (state m.old)) }
-    ensures falls { IfOk result (λ next. weight_next next ≤ count (statement s.now)) }
-    ensures turns { OnOk result (m.new.turns ≡ m.old.turns) }
-{
-    let number = source.numbers.at(s.span);
-    match &s.node {
-        StmtNode::Declare { ty, name, value } => {
-            let held = eval(value, source, &m.store)?;
-            let is_set = is_set_type(ty);
-            m.store.replace(number, name, Variable { held, is_set })?;
-            Ok(Next::On)
-        }
-        StmtNode::Assign { name, value } => {
-            assign(number, name, eval(value, source, &m.store)?, m)?;
-            Ok(Next::On)
-        }
-        StmtNode::Add { name, value } => {
-            let row = member_of(source.alloc, eval(value, source, &m.store)?)?;
-            add(source.alloc, number, name, row, m)?;
-            Ok(Next::On)
-        }
-        StmtNode::Sort { name, keys, down } => {
-            sort(source, number, name, keys.as_slice(), down.as_slice(), m)?;
-            Ok(Next::On)
-        }
-        StmtNode::If { cond, yes, other } => choose(source, cond, yes, other, m),
-        StmtNode::ForEach {
-            ty: _,
-            name,
-            list,
-            body,
-        } => {
-            let rows = list_in(eval(list, source, &m.store)?)?;
-            let slot = Slot { number, name };
-            Ok(Next::Enter(Frame::Each(slot, rows, 0, body)))
-        }
-        StmtNode::While { cond, body } => Ok(Next::Enter(Frame::Loop(cond, body))),
-        StmtNode::Print { value } => {
-            let x = scalar(value, source, &m.store)?;
-            print(source.alloc, &x, m)?;
-            Ok(Next::On)
-        }
-        StmtNode::Return { value } => returned(source, value, m),
-        StmtNode::Break => Ok(Next::Leave),
-    }
+    m.returned = match value {
+        None => None,
+        Some(e) => Some(eval(e, source, &m.store)?),
+    };
+    Ok(())
 }

@@ -1,14 +1,17 @@
 // The variables of a run.
-ghost use Rattle.std.specs.Prelude.{◌≡◌, [], IfOk, OnOk};
+ghost use Rattle.std.specs.Prelude.{◌≡◌, [], IfOk, OnOk, IsTrue, IsFalse, Some};
 ghost use Rattle.std.specs.Option.{option_copied, option_map};
 ghost use Rattle.qbs_base.specs.Named.{at_name};
 ghost use Rattle.java_mean.specs.Store.{put};
-ghost use Rattle.java_steps.specs.Held.{variable_in};
+ghost use Rattle.qbs_base.specs.declared.scalar.Scalar.TheVariants.{Long};
+ghost use Rattle.qbs_base.specs.declared.scalar.Value.TheVariants.{One};
+ghost use Rattle.java_steps.specs.Held.{seen, value_in, variable_in};
+ghost use Rattle.java_steps.specs.Quick.{written};
 
-use crate::held::Variable;
-use crate::placed::{at_place, put_at_place};
+use crate::held::{Held, Variable};
+use crate::placed::{at_place, put_at_place, put_there, there};
 use indexmap::IndexMap;
-use qbs_base::{Name, NoMemory};
+use qbs_base::{Name, NoMemory, Scalar};
 use std::alloc::Global;
 use std::marker::Model;
 
@@ -44,6 +47,25 @@ fn note(places: &mut Vec<usize>, number: usize, place: usize) {
     if number < places.len() {
         places[number] = place;
     }
+}
+
+// Puts a value in the variable at a place, where the name stands there, and says whether it does.
+#[tactic(auto, using(crate::proofs::Placing::stands_at))]
+fn put_held<'a>(
+    variables: &mut IndexMap<&'a [u8], Variable<'a>>,
+    place: usize,
+    name: &'a [u8],
+    held: Held<'a>,
+) -> bool
+    ensures set { IsTrue result → Some (seen variables.new.entries) ≡ written (seen variables.old.entries) name.now (value_in held.entry) }
+    ensures kept { IsFalse result → variables.new ≡ variables.old }
+{
+    let Some(variable) = there(variables, place, name) else {
+        return false;
+    };
+    let is_set = variable.is_set;
+    put_there(variables, place, name, Variable { held, is_set });
+    true
 }
 
 impl<'a> Store<'a> {
@@ -83,5 +105,16 @@ impl<'a> Store<'a> {
         let put = put_at_place(&mut self.variables, place, name, variable)?;
         note(&mut self.places, number, put.0);
         Ok(put.1)
+    }
+
+    /// Puts a number in the variable of this name, which stays a set or none, and says whether it did:
+    /// it does where the variable stands at the place of its number.
+    pub fn set_long(&mut self, number: usize, name: &'a Name, n: i64) -> bool
+        ensures set { IsTrue result → Some self.new ≡ written self.old name.now (One (Long n)) }
+        ensures kept { IsFalse result → self.new ≡ self.old }
+    {
+        let place = place_of(self.places.as_slice(), number);
+        let held = Held::One(Scalar::Long(n));
+        put_held(&mut self.variables, place, name.as_slice(), held)
     }
 }

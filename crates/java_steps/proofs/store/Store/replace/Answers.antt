@@ -2,9 +2,9 @@ use Rattle.std.proofs.Common.{◌≡◌, ◌∙◌, ap}
 use Rattle.std.specs.Map.{lookup}
 use Rattle.std.specs.Option.{option_map}
 use Rattle.indexmap.specs.IndexMap.{insert_entry}
-use Rattle.java_steps.specs.Held.{variable_in}
+use Rattle.java_steps.specs.Held.{seen, variable_in}
 use Rattle.java_steps.specs.Placed.{test, same}
-use Rattle.java_steps.proofs.Stored.{get_lem, put_lem, seen}
+use Rattle.java_steps.proofs.Stored.{get_lem, put_lem}
 use Rattle.java_steps.proofs.store.Store.replace.Goals as goal
 
 pub returns-clause-old : goal.returns-clause-old
