@@ -46,13 +46,13 @@ pub fn ends_block(tokens: &[Token]) -> bool
     tokens.is_empty() || is_next_sign("}", tokens)
 }
 
-fn alone(alloc: Global, statement: Stmt) -> Result<Vec<Stmt>, ReadError>
-    ensures ok { IfOk result (λ v. v.items ≡ statement ∷ []) }
+fn alone<T: Drop>(alloc: Global, item: T) -> Result<Vec<T>, ReadError>
+    ensures ok { IfOk result (λ v. v.items ≡ item ∷ []) }
     ensures err { IfErr result (λ e. e ≡ Memory) }
 {
-    let mut statements = Vec::new(alloc);
-    statements.push(statement)?;
-    Ok(statements)
+    let mut items = Vec::new(alloc);
+    items.push(item)?;
+    Ok(items)
 }
 
 /// A block, or a statement that is no declaration.

@@ -13,13 +13,13 @@ use qbs_base::{Name, Text};
 use readers::ReadError;
 use std::alloc::Global;
 
-/// The expression in a box.
-pub fn boxed(alloc: Global, e: Expr) -> Result<Box<Expr>, ReadError>
-    ensures ok { IfOk result (λ b. expression b.value ≡ expression e) }
+/// What was read in a box.
+pub fn boxed<T: Drop>(alloc: Global, node: T) -> Result<Box<T>, ReadError>
+    ensures ok { IfOk result (λ b. b.value ≡ node) }
     ensures err { IfErr result (λ e. e ≡ Memory) }
 {
-    let e = Box::new(alloc, e)?;
-    Ok(e)
+    let node = Box::new(alloc, node)?;
+    Ok(node)
 }
 
 pub fn field(row: Box<Expr>, member: &Name) -> Result<ExprNode, ReadError>
