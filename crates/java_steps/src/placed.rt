@@ -9,8 +9,17 @@ use indexmap::IndexMap;
 use qbs_base::NoMemory;
 use std::mem;
 
+// The value under a key, by its hash.
+#[inline(never)]
+fn elsewhere<'b, 'a, V>(map: &'b IndexMap<&'a [u8], V>, key: &[u8]) -> Option<&'b V>
+    ensures { option_copied result ≡ lookup (test key.now) map.now.entries }
+{
+    map.get(key)
+}
+
 /// The value under a key. It is looked for at a place first: where the key stands there, the look-up
 /// takes no hash.
+#[inline(always)]
 pub fn at_place<'b, 'a, V>(
     map: &'b IndexMap<&'a [u8], V>,
     place: usize,
@@ -23,7 +32,7 @@ pub fn at_place<'b, 'a, V>(
             return Some(value);
         }
     }
-    map.get(key)
+    elsewhere(map, key)
 }
 
 /// The value at a place, where the key stands there.

@@ -41,6 +41,7 @@ fn truth_in(x: &Scalar) -> Option<bool>
 }
 
 // The scalar that a variable holds, if it holds one.
+#[inline(always)]
 fn held_scalar<'b>(store: &'b Store, number: usize, name: &Name) -> Option<&'b Scalar>
     ensures { IfScalar result (held_at store.now name.now) }
 {
@@ -125,6 +126,19 @@ fn compared(op: Op, at: &Span, x: i64, y: i64) -> Option<bool>
     }
 }
 
+// The number that an operand gives, where it is made as `long` says. A literal or a variable takes no call.
+#[inline(always)]
+#[cycle(long)]
+fn operand(e: &Expr, source: &Source, store: &Store) -> Option<i64>
+    ensures { IfLong result (meant.value_of (expression e.now) (world source.now) store.now) }
+{
+    match &e.node {
+        ExprNode::Lit(x) => long_in(x),
+        ExprNode::Var(x) => long_in(held_scalar(store, source.numbers.at(e.span), x)?),
+        _ => long(e, source, store),
+    }
+}
+
 /// The number that an expression gives, where it is made of numbers by sums, differences and products, and no fault comes.
 #[cycle(long)]
 #[tactic(auto, using(crate::proofs::Quickly::binary_comes))]
@@ -136,9 +150,21 @@ pub fn long(e: &Expr, source: &Source, store: &Store) -> Option<i64>
         ExprNode::Var(x) => long_in(held_scalar(store, source.numbers.at(e.span), x)?),
         ExprNode::Field(row, name) => long_in(cell_of(row, source, store, name, &e.span)?),
         ExprNode::Binary(op, a, b) => match op {
-            Op::Add => sum(&e.span, long(a, source, store)?, long(b, source, store)?),
-            Op::Sub => difference(&e.span, long(a, source, store)?, long(b, source, store)?),
-            Op::Mul => product(&e.span, long(a, source, store)?, long(b, source, store)?),
+            Op::Add => sum(
+                &e.span,
+                operand(a, source, store)?,
+                operand(b, source, store)?,
+            ),
+            Op::Sub => difference(
+                &e.span,
+                operand(a, source, store)?,
+                operand(b, source, store)?,
+            ),
+            Op::Mul => product(
+                &e.span,
+                operand(a, source, store)?,
+                operand(b, source, store)?,
+            ),
             _ => None,
         },
         _ => None,
@@ -150,8 +176,8 @@ pub fn long(e: &Expr, source: &Source, store: &Store) -> Option<i64>
 fn comparison(op: Op, at: &Span, a: &Expr, b: &Expr, source: &Source, store: &Store) -> Option<bool>
     ensures { IfTruth result (meant.value_of (Binary at.now op (expression a.now) (expression b.now)) (world source.now) store.now) }
 {
-    let x = long(a, source, store)?;
-    let y = long(b, source, store)?;
+    let x = operand(a, source, store)?;
+    let y = operand(b, source, store)?;
     compared(op, at, x, y)
 }
 

@@ -24,6 +24,7 @@ use qbs_base::{Name, NoMemory, Row, Scalar, Text, copy_text};
 use std::alloc::Global;
 
 /// The truth value of a condition.
+#[inline(always)]
 pub fn test<'a>(source: &Source<'a>, cond: &Expr, m: &Machine<'a>) -> Result<bool, Stop>
     ensures { Gives result (test_of (expression cond.now) (world source.now) m.now.store) }
 {

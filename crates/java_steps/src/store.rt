@@ -82,6 +82,7 @@ impl<'a> Store<'a> {
     }
 
     /// The variable of this name, which is looked for by its number first.
+    #[inline(always)]
     pub fn get(&self, number: usize, name: &Name) -> Option<&Variable<'a>>
         ensures { option_map variable_in (option_copied result) ≡ at_name self.now name.now }
     {
