@@ -44,15 +44,15 @@ kept_read schema k q [] i a = (i, tt)
 kept_read schema k q (e ∷ es) i a = kept_by schema k q e es (insert_entry same es k q) (bytes_eq k.now e.0.now) refl i a (kept_read schema k q es i a.1)
 
 -- the answer of a text's query
-pub answer_is : (s : Source) (text : List ℕ) (args : List Scalar) (q : PlainQuery) (a : Answered) (at : Span) (r : Result Held Stop) → IsRead s.queries text q → a ≡ query_answer s.db.now args q → GivesBy value_in r (meant.answered at (Some a)) → GivesBy value_in r (meant.answered at ((world s).ask text args))
+pub answer_is : (s : Source) (text : List ℕ) (args : List Scalar) (q : PlainQuery) (a : Answered) (at : Span) (r : Result Held Stop) → IsRead s.queries text q → a ≡ query_answer s.tables args q → GivesBy value_in r (meant.answered at (Some a)) → GivesBy value_in r (meant.answered at ((world s).ask text args))
 answer_is s text args q a at r i e g =
-    let asks : (world s).ask text args ≡ Some a = ap (option_map (query_answer s.db.now args)) i.read ∙ ap (λ x. Some x) (sym e) in
+    let asks : (world s).ask text args ≡ Some a = ap (option_map (query_answer s.tables args)) i.read ∙ ap (λ x. Some x) (sym e) in
     subst (λ o. GivesBy value_in r (meant.answered at o)) (sym asks) g
 
 pub no_answer : (s : Source) (text : List ℕ) (args : List Scalar) (at : Span) (o : Option (Box Query Global)) → o ≡ None → option_map query (option_map box_value o) ≡ read_by s.queries text → meant.answered at ((world s).ask text args) ≡ Err Stuck
 no_answer s text args at o n e =
     let none : read_by s.queries text ≡ None = sym e ∙ ap (λ p. option_map query (option_map box_value p)) n in
-    ap (λ p. meant.answered at (option_map (query_answer s.db.now args) p)) none
+    ap (λ p. meant.answered at (option_map (query_answer s.tables args) p)) none
 
 copied_some : (r : Option (Bor (Box Query Global))) (P : Box Query Global → Type 0) → IfSome (option_copied r) P → IfSome r (λ q. P q.now)
 copied_some None P h = tt

@@ -122,7 +122,7 @@ fn member<'a>(alloc: Global, rows: &[Row], n: i64, at: Span) -> Result<Held<'a>,
 fn fetched<'a>(source: &Source<'a>, table: &Name) -> Result<Held<'a>, Stop>
     ensures { GivesBy value_in result (fetched_in (world source.now) table.now) }
 {
-    match source.db.table(table) {
+    match source.tables.table(table) {
         Some(rows) => Ok(Held::Many(List::Lent(rows.as_slice()))),
         None => Err(Stop::Ends(Ending::Stuck)),
     }

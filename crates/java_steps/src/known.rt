@@ -6,8 +6,9 @@ ghost use Rattle.java_types.specs.Texts.{read_by};
 ghost use Rattle.java_steps.specs.IsRead.{IsRead};
 
 use crate::placed::at_place;
+use crate::tables::Tables;
 use indexmap::IndexMap;
-use qbs_base::{Fail, NoMemory, Text};
+use qbs_base::{Db, Fail, NoMemory, Text};
 use schema::Schema;
 use sql_ast::Query;
 use sql_parse::parse_query;
@@ -32,12 +33,14 @@ pub fn read_query(
     }
 }
 
-/// The queries of texts under a schema, as which contracts see it: each text is read once.
+/// The queries of texts under a schema, as which contracts see it: each text is read once. Which of
+/// them are repeated says only how their answers are found, so nothing is promised of it.
 #[derive(Drop)]
 pub struct Queries<'a> {
     alloc: Global,
     schema: &'a Schema,
     known: IndexMap<&'a [u8], Box<Query>>,
+    repeated: Vec<bool>,
 }
 
 impl<'a> Model for Queries<'a> {
@@ -60,6 +63,7 @@ impl<'a> Queries<'a> {
             alloc,
             schema,
             known: IndexMap::new(alloc),
+            repeated: Vec::new(alloc),
         }
     }
 
@@ -90,17 +94,70 @@ impl<'a> Queries<'a> {
         }
     }
 
+    // Notes that a query is repeated, or nothing.
+    fn note(&mut self, number: usize, is_repeated: bool) -> Result<(), NoMemory>
+        ensures { self.new ≡ self.old }
+    {
+        if !is_repeated {
+            return Ok(());
+        }
+        if number >= self.repeated.len() {
+            self.repeated.resize(number.saturating_add(1), false)?;
+        }
+        if number < self.repeated.len() {
+            self.repeated[number] = true;
+        }
+        Ok(())
+    }
+
     /// Reads a text, where it wasn't read before or has no query, and gives its number, which means
-    /// nothing where it has none.
-    pub fn read(&mut self, text: &'a Text) -> Result<usize, NoMemory>
+    /// nothing where it has none. The query is repeated where it is so at one place at least.
+    pub fn read(&mut self, text: &'a Text, is_repeated: bool) -> Result<usize, NoMemory>
         ensures { self.new ≡ self.old }
     {
         if let Some(number) = self.known.get_index_of(text.as_slice()) {
+            self.note(number, is_repeated)?;
             return Ok(number);
         }
         match read_query(self.alloc, self.schema, text)? {
-            Some(q) => self.keep(text, q),
+            Some(q) => {
+                let number = self.keep(text, q)?;
+                self.note(number, is_repeated)?;
+                Ok(number)
+            }
             None => Ok(0),
         }
+    }
+
+    /// Whether the query with this number may be asked many times.
+    pub fn is_repeated(&self, number: usize) -> bool {
+        match self.repeated.get(number) {
+            Some(is_repeated) => *is_repeated,
+            None => false,
+        }
+    }
+
+    // The same tables, with lookups for the query with this number where it is repeated.
+    fn add_lookups<'b>(&self, tables: Tables<'b>, number: usize) -> Result<Tables<'b>, NoMemory>
+        ensures { IfOk result (λ t. t ≡ tables.entry) }
+    {
+        if !self.is_repeated(number) {
+            return Ok(tables);
+        }
+        match self.known.get_index(number) {
+            Some((_, q)) => tables.with_lookups_for(q),
+            None => Ok(tables),
+        }
+    }
+
+    /// The tables of a database, with lookups for the queries that are repeated.
+    pub fn tables<'b>(&self, db: &'b Db) -> Result<Tables<'b>, NoMemory>
+        ensures { IfOk result (λ t. t ≡ db.now) }
+    {
+        let mut tables = Tables::new(self.alloc, db);
+        for number in 0..self.repeated.len() {
+            tables = self.add_lookups(tables, number)?;
+        }
+        Ok(tables)
     }
 }

@@ -21,3 +21,4 @@ pub mod source;
 pub mod steps;
 pub mod stop;
 pub mod store;
+pub mod tables;

@@ -18,7 +18,6 @@ use java_mean::{Ending, RunFault};
 use qbs_base::{Scalars, Span, Text};
 use sql_ast::Query;
 use sql_exec::Answer;
-use sql_index::answer_indexed;
 use std::alloc::Global;
 
 fn value_of<'a>(alloc: Global, answer: Answer, at: Span) -> Result<Held<'a>, Stop>
@@ -39,13 +38,14 @@ fn answer_of<'a>(
     text: &Text,
     q: &Query,
     args: &Scalars,
+    is_repeated: bool,
 ) -> Result<Held<'a>, Stop>
     requires { IsRead source.now.queries text.now (query q.now) }
     ensures { GivesBy value_in result (meant.answered at ((world source.now).ask text.now args.now)) }
 {
     value_of(
         source.alloc,
-        answer_indexed(source.alloc, q, source.db, args)?,
+        source.tables.answer(q, args, is_repeated)?,
         at,
     )
 }
@@ -55,11 +55,19 @@ fn answer_of<'a>(
 pub fn ask<'a>(source: &Source, at: Span, text: &Text, args: &Scalars) -> Result<Held<'a>, Stop>
     ensures { GivesBy value_in result (meant.answered at ((world source.now).ask text.now args.now)) }
 {
-    if let Some(q) = source.queries.find(source.numbers.at(at), text) {
-        return answer_of(source, at, text, q, args);
+    let number = source.numbers.at(at);
+    if let Some(q) = source.queries.find(number, text) {
+        return answer_of(
+            source,
+            at,
+            text,
+            q,
+            args,
+            source.queries.is_repeated(number),
+        );
     }
     match read_query(source.alloc, source.queries.schema(), text)? {
-        Some(q) => answer_of(source, at, text, &q, args),
+        Some(q) => answer_of(source, at, text, &q, args, false),
         None => Err(Stop::Ends(Ending::Stuck)),
     }
 }

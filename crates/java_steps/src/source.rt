@@ -1,7 +1,7 @@
 // What a method runs on.
 use crate::known::Queries;
 use crate::numbers::Numbers;
-use qbs_base::Db;
+use crate::tables::Tables;
 use std::alloc::Global;
 
 /// What a method runs on, and the numbers of its names and texts. The queries know the schema.
@@ -10,5 +10,5 @@ pub struct Source<'a> {
     pub alloc: Global,
     pub queries: Queries<'a>,
     pub numbers: Numbers<'a>,
-    pub db: &'a Db,
+    pub tables: Tables<'a>,
 }
