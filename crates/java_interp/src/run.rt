@@ -115,7 +115,8 @@ fn reach<'a>(
     }
 }
 
-// Reads the query texts of a method, each once, notes the numbers of its names, and runs it.
+// Reads the query texts of a method, each once, notes the numbers of its names, makes lookups for the
+// queries that are repeated, and runs it.
 fn call<'a>(
     alloc: Global,
     schema: &'a Schema,
@@ -128,12 +129,13 @@ fn call<'a>(
 {
     let mut queries = Queries::new(alloc, schema);
     let mut numbers = Numbers::new(alloc);
-    gather(m.body.as_slice(), &mut queries, &mut numbers)?;
+    gather(m.body.as_slice(), &mut queries, &mut numbers, false)?;
+    let tables = queries.tables(db)?;
     let source = Source {
         alloc,
         queries,
         numbers,
-        db,
+        tables,
     };
     reach(&source, m, args, turns)
 }
