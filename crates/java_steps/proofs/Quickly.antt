@@ -1,10 +1,7 @@
 -- Numbers and truth values that come without a fault.
-use Rattle.std.proofs.Common.{◌≡◌, ℕ, ℤ, List, Bool, true, false, Option, Some, None, Result, Ok, Err, refl, sym, ap, ap₂, ◌∙◌, option_map}
-use Rattle.std.specs.Prelude.{Box}
-use Rattle.std.specs.declared.alloc.Global.{Global}
+use Rattle.std.proofs.Common.{◌≡◌, ℕ, List, Bool, true, false, Option, Some, None, Ok, refl, sym, ap, ◌∙◌, option_map}
 use Rattle.qbs_base.specs.declared.scalar.Row.{Row}
 use Rattle.qbs_base.specs.declared.scalar.Scalar.{Scalar}
-use Rattle.qbs_base.specs.declared.scalar.Scalar.TheVariants as scalars
 use Rattle.qbs_base.specs.declared.scalar.Value.{Value}
 use Rattle.qbs_base.specs.declared.scalar.Value.TheVariants.{One, Whole}
 use Rattle.qbs_base.specs.declared.span.Span.{Span}
@@ -12,10 +9,9 @@ use Rattle.qbs_base.specs.Named.{at_name}
 use Rattle.java_ast.specs.declared.tree.Op.{Op}
 use Rattle.java_ast.specs.declared.tree.Op.TheVariants as ops
 use Rattle.java_ast.specs.Tree.{Expression, Var, Field, Binary}
-use Rattle.java_mean.specs.declared.ending.Ending.{Ending}
 use Rattle.java_mean.specs.Endings.{◌>>=◌, found}
-use Rattle.java_mean.specs.Expression.{value_of, as_scalar, as_row, applied, cell, or_else, settled, truth}
-use Rattle.java_mean.specs.Statement.{State, Passed, GoesOn, with_value}
+use Rattle.java_mean.specs.Expression.{value_of, cell, truth}
+use Rattle.java_mean.specs.Statement.{GoesOn, with_value}
 use Rattle.java_mean.specs.Store.{Store, Variable, put}
 use Rattle.java_mean.specs.World.{World}
 use Rattle.java_steps.specs.Quick.{operated_on, written}

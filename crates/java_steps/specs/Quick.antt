@@ -1,5 +1,5 @@
 -- Numbers and truth values that come without a fault. Where none is given nothing is said.
-use Rattle.std.specs.Prelude.{◌≡◌, ℤ, Bool, Option, Some, None, Result, Ok, Err, option_map, List, ℕ}
+use Rattle.std.specs.Prelude.{◌≡◌, ℤ, Bool, Option, Some, None, Result, Ok, option_map, List, ℕ}
 use Rattle.std.specs.Borrow.{Bor}
 use Rattle.qbs_base.specs.declared.scalar.Scalar.{Scalar}
 use Rattle.qbs_base.specs.declared.scalar.Scalar.TheVariants as scalars
