@@ -13,7 +13,7 @@ use Rattle.java_mean.specs.declared.ending.Ending.{Ending}
 use Rattle.java_mean.specs.Endings.{◌>>=◌}
 use Rattle.qbs_base.specs.declared.scalar.Value.{Value}
 use Rattle.java_mean.specs.Expression.{value_of, as_rows}
-use Rattle.java_mean.specs.Statement.{State, Passed, branch, done, each, test_of, meaning, meanings}
+use Rattle.java_mean.specs.Statement.{State, Passed, each, test_of, meaning, meanings}
 use Rattle.java_mean.specs.World.{World}
 use Rattle.java_interp.specs.declared.way.Way.{Way}
 use Rattle.java_interp.specs.Passing.{Passes}

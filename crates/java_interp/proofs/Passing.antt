@@ -1,5 +1,5 @@
 -- Statements one by one, and turns of loops.
-use Rattle.std.proofs.Common.{◌≡◌, ℕ, zero, suc, ◌+◌, ◌<◌, ◌≤◌, true, List, [], ◌∷◌, subst, add-one, length, drop, get_or, slice_get, option_map, Some, Option, Result, Ok, Err, refl, sym, ap, ◌∙◌, arith}
+use Rattle.std.proofs.Common.{◌≡◌, ℕ, zero, suc, ◌+◌, ◌<◌, ◌≤◌, true, List, [], ◌∷◌, subst, add-one, length, drop, get_or, slice_get, option_map, Some, Option, Ok, Err, refl, sym, ap, ◌∙◌, arith}
 use Rattle.qbs_base.specs.declared.scalar.Row.{Row}
 use Rattle.qbs_base.specs.declared.scalar.Value.{Value}
 use Rattle.java_ast.specs.declared.tree.Stmt.{Stmt}
@@ -7,11 +7,11 @@ use Rattle.java_ast.specs.Reading.{statement, statements}
 use Rattle.java_ast.specs.Tree.{Statements}
 use Rattle.java_mean.specs.declared.ending.Ending.{Ending}
 use Rattle.java_mean.specs.Expression.{element}
-use Rattle.java_mean.specs.Statement.{State, Passed, GoesOn, Leaves, Returns, Does, Test, turn, with_variable, then_do, then_turn, each, repeat, meaning, meanings}
+use Rattle.java_mean.specs.Statement.{State, GoesOn, Leaves, Returns, Does, Test, turn, then_do, then_turn, each, repeat, meaning, meanings}
 use Rattle.java_mean.specs.Store.{Store, plainly, put}
 use Rattle.java_mean.specs.World.{World}
 use Rattle.java_steps.proofs.Columns.{next_item}
-use Rattle.java_interp.proofs.Turns.{Within, turn_one, meanings_keeps, repeat_unrolled, repeat_over, repeat_out, repeat_stops}
+use Rattle.java_interp.proofs.Turns.{Within, turn_one, meanings_keeps, repeat_unrolled}
 
 -- ---- Statements one by one
 
