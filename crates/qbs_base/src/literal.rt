@@ -10,15 +10,22 @@ use std::alloc::AllocError;
 
 /// Appends a text in quotes, with a backslash before a quote, a backslash, a line feed, a carriage
 /// return and a tab.
-#[tactic(auto, using(crate::proofs::Escapes::next_char))]
 pub fn push_text_literal(out: &mut String, text: &Text) -> Result<(), AllocError>
     ensures { OnOk result (string_bytes out.new ≡ string_bytes out.old ++ text_literal text.now) }
 {
     out.push_str("\"")?;
+    push_escaped(out, text)?;
+    out.push_str("\"")
+}
+
+#[tactic(auto, using(crate::proofs::Escapes::next_char))]
+fn push_escaped(out: &mut String, text: &Text) -> Result<(), AllocError>
+    ensures { OnOk result (string_bytes out.new ≡ string_bytes out.old ++ flat_map escaped text.now) }
+{
     for c in text.as_str().chars() {
         push_char(out, c)?;
     }
-    out.push_str("\"")
+    Ok(())
 }
 
 #[tactic(auto, using(crate::proofs::Escapes::plain_char))]
