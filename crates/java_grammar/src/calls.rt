@@ -8,7 +8,7 @@ use qbs_base::{Name, Text};
 use std::alloc::{AllocError, Global};
 
 /// A call behind a dot.
-#[derive(Clone, Copy, Debug, PartialEq, Eq)]
+#[derive(Clone, Copy, PartialEq, Eq)]
 pub enum Called {
     EqualTo,
     SizeOf,

@@ -76,7 +76,7 @@ impl LexRule {
 }
 
 /// The first fault of a text and its place.
-#[derive(Clone, Copy, Debug, PartialEq, Eq)]
+#[derive(Clone, Copy, PartialEq, Eq)]
 pub struct LexFault {
     pub rule: LexRule,
     pub at: Span,

@@ -6,7 +6,7 @@ use qbs_base::Span;
 
 /// A fault of a run: a whole number outside 64 bits, a `get` outside its list, or a query whose
 /// total is outside 64 bits.
-#[derive(Clone, Copy, Debug, PartialEq, Eq)]
+#[derive(Clone, Copy, PartialEq, Eq)]
 pub enum RunFault {
     Overflow,
     OutOfRange,
@@ -39,7 +39,7 @@ impl RunFault {
 
 /// How a run ends before its end: by a fault of the expression at this place, by a turn that was
 /// due when none was left, or stuck, as no well-typed program does.
-#[derive(Clone, Copy, Debug, PartialEq, Eq)]
+#[derive(Clone, Copy, PartialEq, Eq)]
 pub enum Ending {
     Faulted(RunFault, Span),
     OutOfTurns,

@@ -84,7 +84,7 @@ impl TypeRule {
 }
 
 /// A type rule that is broken, and the place where it is.
-#[derive(Clone, Copy, Debug, PartialEq, Eq)]
+#[derive(Clone, Copy, PartialEq, Eq)]
 pub struct TypeFault {
     pub rule: TypeRule,
     pub at: Span,

@@ -2,14 +2,14 @@
 use qbs_base::Ty;
 
 /// What a member of a list or a variable may be: a scalar, or a row of the table with this number.
-#[derive(Clone, Copy, Debug, PartialEq, Eq)]
+#[derive(Clone, Copy, PartialEq, Eq)]
 pub enum Single {
     ScalarOf(Ty),
     RowOf(u32),
 }
 
 /// The type of a variable: one scalar or row, a list, or a set, whose members are distinct.
-#[derive(Clone, Copy, Debug, PartialEq, Eq)]
+#[derive(Clone, Copy, PartialEq, Eq)]
 pub enum JavaType {
     Of(Single),
     Listed(Single),
@@ -18,7 +18,7 @@ pub enum JavaType {
 
 /// What an expression is of: one type, or any type of lists where it is a new list, or any type of
 /// sets where it is a new set.
-#[derive(Clone, Copy, Debug, PartialEq, Eq)]
+#[derive(Clone, Copy, PartialEq, Eq)]
 pub enum Kindred {
     Only(JavaType),
     AnyList,

@@ -40,7 +40,7 @@ impl ParseRule {
 
 /// The fault kept: its rule, its place, and the number of the token, counted from 0. At the end of
 /// the text the number is that of the tokens.
-#[derive(Clone, Copy, Debug, PartialEq, Eq)]
+#[derive(Clone, Copy, PartialEq, Eq)]
 pub struct ParseFault {
     pub rule: ParseRule,
     pub at: Span,

@@ -12,7 +12,7 @@ pub enum FragmentEnd {
 }
 
 /// Why a run stops before its end.
-#[derive(Clone, Copy, Debug)]
+#[derive(Clone, Copy)]
 pub enum Stop {
     NoMemory,
     Overflow,

@@ -3,7 +3,7 @@ use qbs_base::{Items, Scalar, ScalarLists, Scalars, Tys};
 use tor_terms::{Atoms, Elem, Formula, Formulas, Loops, Way};
 
 /// A key of a sort: a column, and whether it goes down.
-#[derive(Clone, Copy, Debug, PartialEq, Eq)]
+#[derive(Clone, Copy, PartialEq, Eq)]
 pub struct Col {
     pub column: u32,
     pub down: bool,
@@ -23,7 +23,7 @@ pub type ListDefs = Items<ListDef>;
 
 /// What an accumulator's loop does at each turn: append, append what isn't there yet, count, add,
 /// keep the greatest or the least, or set a flag.
-#[derive(Clone, Copy, Debug)]
+#[derive(Clone, Copy)]
 pub enum Update {
     Push(Elem),
     PushNew(Elem),

@@ -1,7 +1,7 @@
 // What is said of a candidate before its conditions are derived.
 
 /// Whether to go on with a candidate.
-#[derive(Clone, Copy, Debug, PartialEq, Eq)]
+#[derive(Clone, Copy, PartialEq, Eq)]
 pub enum PruneAnswer {
     /// Go on with the candidate.
     Keep,

@@ -6,7 +6,7 @@ use crate::Span;
 
 /// A place in a text. `line` and `column` count from 1, the column in bytes, and `index` is the
 /// number of bytes before it.
-#[derive(Clone, Copy, Debug, PartialEq, Eq)]
+#[derive(Clone, Copy, PartialEq, Eq)]
 pub struct Place {
     pub line: u64,
     pub column: u64,

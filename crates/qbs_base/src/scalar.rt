@@ -13,7 +13,7 @@ pub enum Scalar {
 }
 
 /// A type of scalars.
-#[derive(Clone, Copy, Debug, PartialEq, Eq)]
+#[derive(Clone, Copy, PartialEq, Eq)]
 pub enum Ty {
     Long,
     Bool,
@@ -22,7 +22,7 @@ pub enum Ty {
 
 /// What a row is a row of: a table, by its number, or nothing, as a row of one cell that stands
 /// for a scalar in a list.
-#[derive(Clone, Copy, Debug, PartialEq, Eq)]
+#[derive(Clone, Copy, PartialEq, Eq)]
 pub enum Kind {
     Plain,
     Table(u32),

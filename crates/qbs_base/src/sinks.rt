@@ -9,7 +9,7 @@ use std::alloc::Global;
 use std::io::Write;
 use std::marker::Model;
 
-#[derive(Clone, Copy, Debug, PartialEq, Eq)]
+#[derive(Clone, Copy, PartialEq, Eq)]
 pub enum WriteAnswer {
     Ok,
     Failed,

@@ -6,7 +6,7 @@ use qbs_base::{Bytes, Items, Span};
 /// What is said of a loop: the number of the candidate that was found, and the loop gave way; or that none of all `n` candidates was
 /// accepted; or none of the first `b`, and there are `n`, which are more; or the rule of the kernel form, from 1 to 9, that the loop
 /// breaks first, and the first place that breaks it.
-#[derive(Clone, Copy, Debug, PartialEq, Eq)]
+#[derive(Clone, Copy, PartialEq, Eq)]
 pub enum Said {
     Found { k: u64 },
     NoneOf { n: u64 },
@@ -15,7 +15,7 @@ pub enum Said {
 }
 
 /// A loop that was tried, by its place in the program as it stood then, and what is said of it.
-#[derive(Clone, Copy, Debug, PartialEq, Eq)]
+#[derive(Clone, Copy, PartialEq, Eq)]
 pub struct LoopVerdict {
     pub at: Span,
     pub said: Said,

@@ -61,7 +61,7 @@ impl SchemaRule {
 
 /// The first fault of a text and its place: of two rules that one name breaks the one of the
 /// smaller number.
-#[derive(Clone, Copy, Debug, PartialEq, Eq)]
+#[derive(Clone, Copy, PartialEq, Eq)]
 pub struct SchemaFault {
     pub rule: SchemaRule,
     pub at: Span,
@@ -123,7 +123,7 @@ impl DataRule {
 
 /// The rule that the first bad row breaks in its first bad field, and the number of the row: the
 /// header is row 0, and the records after it are counted from 1.
-#[derive(Clone, Copy, Debug, PartialEq, Eq)]
+#[derive(Clone, Copy, PartialEq, Eq)]
 pub struct DataFault {
     pub rule: DataRule,
     pub row: u64,

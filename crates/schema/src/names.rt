@@ -12,7 +12,7 @@ const MOST_TABLES: usize = 64;
 const MOST_COLUMNS: usize = 32;
 
 /// What the next token is in a schema.
-#[derive(Clone, Copy, Debug, PartialEq, Eq)]
+#[derive(Clone, Copy, PartialEq, Eq)]
 pub enum Where {
     /// The word CREATE.
     Create,
@@ -33,7 +33,7 @@ pub enum Where {
 }
 
 /// What a name is the name of.
-#[derive(Clone, Copy, Debug, PartialEq, Eq)]
+#[derive(Clone, Copy, PartialEq, Eq)]
 pub enum Role {
     Table,
     Column,

@@ -3,7 +3,7 @@ use crate::keywords::spells;
 use qbs_base::{Name, Span, Ty};
 
 /// A mark of punctuation.
-#[derive(Clone, Copy, Debug, PartialEq, Eq)]
+#[derive(Clone, Copy, PartialEq, Eq)]
 pub enum Sign {
     Open,
     Close,

@@ -232,7 +232,7 @@ fn count(alloc: Global, room: usize, tokens: &[Token]) -> Result<(RawQuery, &[To
 }
 
 /// What a number query makes of a column.
-#[derive(Clone, Copy, Debug)]
+#[derive(Clone, Copy)]
 enum Total {
     Sum,
     Max,

@@ -9,7 +9,7 @@ use qbs_base::{Column, NoMemory, Scalar, Table, Ty, same_ty};
 use sql_ast::{Cmp, Cond, FromItem, NumberKind, SqlCol, SqlColumn, SqlOpnd};
 
 /// The types of the columns that a parameter is compared with, as far as they were seen.
-#[derive(Clone, Copy, Debug)]
+#[derive(Clone, Copy)]
 pub enum Seen {
     Nothing,
     One(Ty),

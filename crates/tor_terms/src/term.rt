@@ -42,14 +42,14 @@ pub enum Formula {
 pub type Formulas = Items<Formula>;
 
 /// What is taken of a tuple: the row of a loop, or a column of it.
-#[derive(Clone, Copy, Debug, PartialEq, Eq)]
+#[derive(Clone, Copy, PartialEq, Eq)]
 pub enum Elem {
     Whole(u32),
     Field(u32, u32),
 }
 
 /// Whether the greatest or the least value is looked for.
-#[derive(Clone, Copy, Debug, PartialEq, Eq)]
+#[derive(Clone, Copy, PartialEq, Eq)]
 pub enum Way {
     Max,
     Min,
@@ -57,7 +57,7 @@ pub enum Way {
 
 /// How many rows of a list are taken: none, as many as a loop has done turns, one more, or as many
 /// as the loop's list has.
-#[derive(Clone, Copy, Debug, PartialEq, Eq)]
+#[derive(Clone, Copy, PartialEq, Eq)]
 pub enum Index {
     Zero,
     At(u32),

@@ -2,7 +2,7 @@
 use qbs_base::{Text, Words};
 
 /// The word that a command begins with.
-#[derive(Clone, Copy, Debug, PartialEq, Eq)]
+#[derive(Clone, Copy, PartialEq, Eq)]
 pub enum Verb {
     Rewrite,
     Prove,
@@ -16,7 +16,7 @@ pub enum Verb {
 }
 
 /// An option.
-#[derive(Clone, Copy, Debug, PartialEq, Eq)]
+#[derive(Clone, Copy, PartialEq, Eq)]
 pub enum Key {
     /// `--size N`, from 0 to 8.
     Size,

@@ -6,7 +6,7 @@ use qbs_base::{Names, NumberLists, Numbers, Span};
 use sql_ast::Queries;
 
 /// The rule of the kernel form, from 1 to 9, that a loop breaks first, and the first place that breaks it.
-#[derive(Clone, Copy, Debug, PartialEq, Eq)]
+#[derive(Clone, Copy, PartialEq, Eq)]
 pub struct Outside {
     pub rule: u32,
     pub at: Span,
