@@ -1,6 +1,6 @@
 // Words of command lines.
-use crate::places::text_of;
-use qbs_base::{NoMemory, Words};
+use crate::places::words_of;
+use qbs_base::NoMemory;
 use std::alloc::Global;
 use words::read_words;
 
@@ -10,10 +10,7 @@ fn is_there<T: Drop>(value: Option<T>) -> bool {
 
 /// Appends whether words are plain.
 pub fn put_command(out: &mut String, alloc: Global, fields: &[Vec<u8>]) -> Result<(), NoMemory> {
-    let mut words = Words::new(alloc);
-    for word in fields {
-        words.push(text_of(alloc, word.as_slice())?)?;
-    }
+    let words = words_of(alloc, fields)?;
     let is_plain = is_there(read_words(alloc, &words)?);
     out.push_str(if is_plain { "plain" } else { "not plain" })?;
     Ok(())

@@ -1,5 +1,5 @@
 // Places in texts, and fields of cases.
-use qbs_base::{NoMemory, Span, Text};
+use qbs_base::{NoMemory, Span, Text, Words};
 use std::alloc::{AllocError, Global};
 
 /// Appends the line and the column of a place.
@@ -31,4 +31,13 @@ pub fn text_of(alloc: Global, bytes: &[u8]) -> Result<Text, NoMemory> {
         Some(text) => Ok(text),
         None => Ok(Text::from_string(String::new(alloc))),
     }
+}
+
+/// The fields as words.
+pub fn words_of(alloc: Global, fields: &[Vec<u8>]) -> Result<Words, NoMemory> {
+    let mut words = Words::new(alloc);
+    for word in fields {
+        words.push(text_of(alloc, word.as_slice())?)?;
+    }
+    Ok(words)
 }

@@ -20,8 +20,8 @@ fn put_flattened(out: &mut String, text: &str) -> Result<(), AllocError> {
     Ok(())
 }
 
-// The canonical text, line ends and margins aside where `flat` is true.
-fn put_program(
+/// Appends the canonical text of a program, line ends and margins aside where `flat` is true.
+pub fn put_program(
     out: &mut String,
     alloc: Global,
     program: &Program,
@@ -125,4 +125,15 @@ pub fn put_grammar(out: &mut String, alloc: Global, tokens: &Tokens) -> Result<(
         Ok(None) => Ok(out.push_str("not in the grammar")?),
         Err(NoMemory) => Err(NoMemory),
     }
+}
+
+/// Appends whether the grammar without limits wants more memory for tokens than there is.
+pub fn put_memory(out: &mut String, alloc: Global, tokens: &Tokens) -> Result<(), NoMemory> {
+    let wants = matches!(parse_grammar(alloc, tokens), Err(NoMemory));
+    out.push_str(if wants {
+        "wants memory"
+    } else {
+        "enough memory"
+    })?;
+    Ok(())
 }

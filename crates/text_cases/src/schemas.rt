@@ -1,6 +1,7 @@
 // Texts of schemas and of tables.
 use crate::escapes::put_line;
 use crate::places::{field, put_span};
+use crate::repeats::source_of;
 use qbs_base::{Column, Fail, NoMemory, Scalar, Table, Ty};
 use schema::{Schema, load_table, parse_schema};
 use std::alloc::{AllocError, Global};
@@ -88,6 +89,20 @@ fn put_rows(out: &mut String, alloc: Global, schema: &Schema, text: &[u8]) -> Re
     }
 }
 
+// The rows of a text under a schema of one table.
+fn put_loaded(out: &mut String, alloc: Global, schema: &[u8], text: &[u8]) -> Result<(), NoMemory> {
+    match parse_schema(alloc, schema) {
+        Ok(schema) => put_rows(out, alloc, &schema, text),
+        Err(_) => Err(NoMemory),
+    }
+}
+
+// The rows of a table of one column, of which some stand as often as is said.
+fn put_tall(out: &mut String, alloc: Global, fields: &[Vec<u8>]) -> Result<(), NoMemory> {
+    let text = source_of(alloc, fields)?;
+    put_loaded(out, alloc, b"CREATE TABLE T (x BIGINT);", text.as_slice())
+}
+
 /// Appends the tables of a schema or the rows of a table, or the fault of their text.
 pub fn put_answer(
     out: &mut String,
@@ -96,11 +111,14 @@ pub fn put_answer(
     fields: &[Vec<u8>],
 ) -> Result<(), NoMemory> {
     let text = field(fields, 0);
-    if kind == "schema" {
-        return put_schema(out, alloc, text);
-    }
-    match parse_schema(alloc, b"CREATE TABLE T (n BIGINT, b BOOLEAN, s TEXT);") {
-        Ok(schema) => put_rows(out, alloc, &schema, text),
-        Err(_) => Err(NoMemory),
+    match kind {
+        "schema" => put_schema(out, alloc, text),
+        "tall" => put_tall(out, alloc, fields),
+        _ => put_loaded(
+            out,
+            alloc,
+            b"CREATE TABLE T (n BIGINT, b BOOLEAN, s TEXT);",
+            text,
+        ),
     }
 }
