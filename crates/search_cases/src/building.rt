@@ -12,14 +12,16 @@ use tor_terms::{Atoms, Formulas, Loops};
 #[derive(Drop)]
 pub struct Building {
     lists: ListDefs,
-    atoms: Atoms,
+    /// The atoms so far.
+    pub atoms: Atoms,
     accs: Accs,
     entries: Tys,
     known: u32,
     keys: Cols,
     chain: Loops,
     guards: Guards,
-    pool: Formulas,
+    /// The pool of the next accumulator.
+    pub pool: Formulas,
 }
 
 impl Building {

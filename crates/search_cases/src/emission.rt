@@ -12,7 +12,8 @@ use sql_ast::{Queries, print_query};
 use sql_emit::{Emitted, emit_exactly};
 use std::alloc::Global;
 
-static TABLES: &str =
+/// The tables that fragments are over.
+pub static TABLES: &str =
     "CREATE TABLE User (id BIGINT, name TEXT, roleId BIGINT, age BIGINT, active BOOLEAN);
 CREATE TABLE Role (id BIGINT, label TEXT);";
 
@@ -43,7 +44,8 @@ fn emitted(
     }
 }
 
-fn put_query(out: &mut String, alloc: Global, emitted: &Emitted) -> Result<(), NoMemory> {
+/// Appends a query, with the entries that its parameters are.
+pub fn put_query(out: &mut String, alloc: Global, emitted: &Emitted) -> Result<(), NoMemory> {
     let text = print_query(alloc, &emitted.query)?;
     out.push_str(text.as_str())?;
     for entry in emitted.entries.as_slice() {

@@ -2,7 +2,7 @@
 use deriv_check::print_derivation;
 use kernel_lang::KFragment;
 use qbs_base::NoMemory;
-use query_search::{Found, search};
+use query_search::{Found, Pruner, search};
 use std::alloc::Global;
 use tor_axioms::Derivation;
 
@@ -25,7 +25,7 @@ fn put_candidate(
     Ok(())
 }
 
-// No pruner is asked, so that none is dropped.
+// With no pruner none is dropped.
 fn put_dropped(out: &mut String, dropped: u64) -> Result<(), NoMemory> {
     if dropped != 0 {
         write!(out, "dropped {dropped}\n")?;
@@ -41,8 +41,9 @@ pub fn put_found(
     frag: &KFragment,
     size: u32,
     budget: u32,
+    pruners: &[Pruner],
 ) -> Result<(), NoMemory> {
-    match search(alloc, frag, size.min(8), u64::from(budget), &[])? {
+    match search(alloc, frag, size.min(8), u64::from(budget), pruners)? {
         Found::Found {
             k,
             cand,

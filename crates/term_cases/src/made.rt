@@ -1,0 +1,24 @@
+// Terms, formulas and lists in boxes.
+use qbs_base::{Items, NoMemory};
+use std::alloc::Global;
+use tor_terms::{Formula, Loops, Term};
+
+pub fn boxed(alloc: Global, term: Term) -> Result<Box<Term>, NoMemory> {
+    Ok(Box::new(alloc, term)?)
+}
+
+pub fn numbers(alloc: Global, list: &[u32]) -> Result<Loops, NoMemory> {
+    Ok(Items::from_vec(list.to_vec(alloc)?))
+}
+
+pub fn is(alloc: Global, atom: u32, holds: bool) -> Result<Box<Formula>, NoMemory> {
+    Ok(Box::new(alloc, Formula::Is(atom, holds))?)
+}
+
+pub fn both(alloc: Global, f: Box<Formula>, g: Box<Formula>) -> Result<Box<Formula>, NoMemory> {
+    Ok(Box::new(alloc, Formula::Both(f, g))?)
+}
+
+pub fn either(alloc: Global, f: Box<Formula>, g: Box<Formula>) -> Result<Box<Formula>, NoMemory> {
+    Ok(Box::new(alloc, Formula::Either(f, g))?)
+}
