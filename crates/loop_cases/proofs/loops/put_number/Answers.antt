@@ -2,7 +2,7 @@ use Rattle.std.proofs.Common.{ℕ, List, length, slice_get, refl, sym, ap, ◌�
 use Rattle.std.proofs.lemmas.Option.{slice_get_read}
 use Rattle.java_ast.specs.Reading.{program as plain_program}
 use Rattle.java_loops.proofs.Placing.PathsLead.{listed_is_loop}
-use Rattle.loop_tests.proofs.loops.put_number.Goals as goal
+use Rattle.loop_cases.proofs.loops.put_number.Goals as goal
 
 pub lower-requires-clause-loops : goal.lower-requires-clause-loops
 lower-requires-clause-loops c =

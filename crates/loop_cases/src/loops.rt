@@ -16,7 +16,7 @@ use schema::{Schema, parse_schema};
 use std::alloc::{AllocError, Global};
 
 /// How much is said of a loop of the kernel form.
-#[derive(Clone, Copy, Debug, PartialEq, Eq)]
+#[derive(Clone, Copy)]
 pub enum Detail {
     Verdict,
     Fragment,
