@@ -8,6 +8,7 @@ pub mod Evidence
 pub mod Headline
 pub mod Lines
 pub mod Make
+pub mod Memory
 pub mod Opening
 pub mod Plan
 pub mod Prove

@@ -9,6 +9,7 @@ mod fetch;
 pub mod laws;
 mod lines;
 mod make;
+mod memory;
 mod opening;
 mod plan;
 mod prove;
@@ -21,6 +22,7 @@ mod tables;
 mod top;
 
 pub use clean::qbs_main_over_clean_ends;
+pub use memory::refuse_for_memory;
 pub use plan::Plan;
 pub use top::qbs_main;
 pub use words::schema_word;

@@ -2,18 +2,16 @@
 #![tactic(auto)]
 
 ghost use Rattle.std.specs.Prelude.{◌≡◌};
-ghost use Rattle.qbs_base.specs.Outside.{Rose};
 ghost use Rattle.kernel_lang.specs.declared.prune.PruneAnswer.TheVariants as answers;
 ghost use Rattle.kernel_lang.specs.Pools.{IsCandidateOf};
 ghost use Rattle.kernel_lang.specs.Refuted.{IsRefuted};
 ghost use Rattle.kernel_lang.specs.Whole.{fragment_of};
-ghost use Rattle.qbs_program.specs.Refused.{Refuses};
 
 mod read_once;
 
 use kernel_lang::{Candidate, KFragment, PruneAnswer};
-use qbs::{qbs_main, schema_word};
-use qbs_base::{Files, ReadAnswer, RealFiles, RealSink, Sink, Status, Text, Words, WriteAnswer};
+use qbs::{qbs_main, refuse_for_memory, schema_word};
+use qbs_base::{Files, ReadAnswer, RealFiles, RealSink, Sink, Status, Text, Words};
 use query_search::{Call, Pruner};
 use read_once::ReadOnce;
 use schema::{Schema, parse_schema};
@@ -30,16 +28,6 @@ fn words_of<R: Env + AllocGlobal>(rt: &R) -> io::Result<Words> {
         words.push(Text::from_string(word))?;
     }
     Ok(Words::from_vec(words))
-}
-
-// What is answered where memory runs out before the words are read.
-fn refuse_for_memory<E: Sink>(rep: &mut E) -> Status
-    ensures { Refuses (E.told rep.old) (E.told rep.new) (Rose (E.faults rep.old) (E.faults rep.new)) result }
-{
-    match rep.write_all(b"qbs: memory\n") {
-        WriteAnswer::Ok => Status::NoMemory,
-        WriteAnswer::Failed => Status::WriteFault,
-    }
 }
 
 // The schema that was read, where it is one.
@@ -106,14 +94,3 @@ fn main(rt: HostRuntime) -> ExitCode {
     };
     ExitCode::from(status.code())
 }
-
-#[cfg(test)]
-mod evidence;
-#[cfg(test)]
-mod hostile;
-#[cfg(test)]
-mod rows;
-#[cfg(test)]
-mod tables;
-#[cfg(test)]
-mod tests;
