@@ -1,6 +1,8 @@
 // Copies of terms, formulas and atoms. Each arm owns boxes alone where memory may run out.
-ghost use Rattle.std.specs.Prelude.{◌≡◌, IfOk};
+ghost use Rattle.std.specs.Prelude.{◌≡◌, if◌then◌else◌, IfOk};
+ghost use Rattle.tor_terms.specs.declared.term.Atom.TheVariants as atoms;
 ghost use Rattle.tor_terms.specs.Plain.{form_of, forms_of, tree_of};
+ghost use Rattle.tor_terms.specs.Parts.{over_tree, over_trees};
 
 use crate::term::{Atom, Atoms, Formula, Formulas, Operand, Term};
 use qbs_base::{Items, NoMemory};
@@ -55,53 +57,62 @@ pub fn copy_term(alloc: Global, t: &Term) -> Result<Term, NoMemory>
     match t {
         Term::Nil => Ok(Term::Nil),
         Term::Walk(j) => Ok(Term::Walk(*j)),
-        Term::Top(index, r) => Ok(Term::Top(*index, copy_boxed_term(alloc, r)?)),
         Term::One(loops) => Ok(Term::One(loops.clone()?)),
         Term::Unit(e) => Ok(Term::Unit(*e)),
-        Term::Cat(r, s) => {
-            let first = copy_boxed_term(alloc, r)?;
-            let second = copy_boxed_term(alloc, s)?;
-            Ok(Term::Cat(first, second))
-        }
-        Term::Join(r, s) => {
-            let first = copy_boxed_term(alloc, r)?;
-            let second = copy_boxed_term(alloc, s)?;
-            Ok(Term::Join(first, second))
-        }
         Term::Sel(fs, r) => {
             let formulas = copy_formulas(alloc, fs.as_slice())?;
             let child = copy_boxed_term(alloc, r)?;
             Ok(Term::Sel(formulas, child))
         }
-        Term::Proj(e, r) => Ok(Term::Proj(*e, copy_boxed_term(alloc, r)?)),
-        Term::Uniq(r) => Ok(Term::Uniq(copy_boxed_term(alloc, r)?)),
-        Term::Insert(r, e) => Ok(Term::Insert(copy_boxed_term(alloc, r)?, *e)),
         Term::Hold(n) => Ok(Term::Hold(*n)),
         Term::Lit(x) => Ok(Term::Lit(x.clone()?)),
         Term::Item(e) => Ok(Term::Item(*e)),
-        Term::Count(r) => Ok(Term::Count(copy_boxed_term(alloc, r)?)),
-        Term::Sum(r) => Ok(Term::Sum(copy_boxed_term(alloc, r)?)),
-        Term::Any(r) => Ok(Term::Any(copy_boxed_term(alloc, r)?)),
-        Term::Best(way, v, r) => {
-            let first = copy_boxed_term(alloc, v)?;
-            let second = copy_boxed_term(alloc, r)?;
-            Ok(Term::Best(*way, first, second))
+        Term::Top(_, r)
+        | Term::Proj(_, r)
+        | Term::Uniq(r)
+        | Term::Insert(r, _)
+        | Term::Count(r)
+        | Term::Sum(r)
+        | Term::Any(r) => Ok(over_child(t, copy_boxed_term(alloc, r)?)),
+        Term::Cat(r, s)
+        | Term::Join(r, s)
+        | Term::Best(_, r, s)
+        | Term::Pick(_, r, s)
+        | Term::Add(r, s)
+        | Term::Or(r, s) => {
+            let first = copy_boxed_term(alloc, r)?;
+            let second = copy_boxed_term(alloc, s)?;
+            Ok(over_children(t, first, second))
         }
-        Term::Pick(way, v, n) => {
-            let first = copy_boxed_term(alloc, v)?;
-            let second = copy_boxed_term(alloc, n)?;
-            Ok(Term::Pick(*way, first, second))
-        }
-        Term::Add(a, b) => {
-            let first = copy_boxed_term(alloc, a)?;
-            let second = copy_boxed_term(alloc, b)?;
-            Ok(Term::Add(first, second))
-        }
-        Term::Or(a, b) => {
-            let first = copy_boxed_term(alloc, a)?;
-            let second = copy_boxed_term(alloc, b)?;
-            Ok(Term::Or(first, second))
-        }
+    }
+}
+
+// A term as another with one child alone, over this child.
+fn over_child(t: &Term, child: Box<Term>) -> Term
+    ensures { tree_of result ≡ over_tree (tree_of t.now) (tree_of child.value) }
+{
+    match t {
+        Term::Top(index, _) => Term::Top(*index, child),
+        Term::Proj(e, _) => Term::Proj(*e, child),
+        Term::Uniq(_) => Term::Uniq(child),
+        Term::Insert(_, e) => Term::Insert(child, *e),
+        Term::Count(_) => Term::Count(child),
+        Term::Sum(_) => Term::Sum(child),
+        _ => Term::Any(child),
+    }
+}
+
+// A term as another with two children, over these.
+fn over_children(t: &Term, first: Box<Term>, second: Box<Term>) -> Term
+    ensures { tree_of result ≡ over_trees (tree_of t.now) (tree_of first.value) (tree_of second.value) }
+{
+    match t {
+        Term::Cat(_, _) => Term::Cat(first, second),
+        Term::Join(_, _) => Term::Join(first, second),
+        Term::Best(way, _, _) => Term::Best(*way, first, second),
+        Term::Pick(way, _, _) => Term::Pick(*way, first, second),
+        Term::Add(_, _) => Term::Add(first, second),
+        _ => Term::Or(first, second),
     }
 }
 
@@ -125,19 +136,26 @@ pub fn copy_operand(operand: &Operand) -> Result<Operand, NoMemory>
     }
 }
 
+// The test of a copy of two operands: whether they are the same, or the first is less.
+fn copy_pair(same: bool, a: &Operand, b: &Operand) -> Result<Atom, NoMemory>
+    ensures { IfOk result (λ copy. copy ≡ (if same then atoms.Same a.now b.now else atoms.Less a.now b.now)) }
+{
+    let first = copy_operand(a)?;
+    let second = copy_operand(b)?;
+    Ok(if same {
+        Atom::Same(first, second)
+    } else {
+        Atom::Less(first, second)
+    })
+}
+
 /// A copy of an atom.
 pub fn copy_atom(atom: &Atom) -> Result<Atom, NoMemory>
     ensures { IfOk result (λ copy. copy ≡ atom.now) }
 {
     match atom {
-        Atom::Less(a, b) => {
-            let first = copy_operand(a)?;
-            Ok(Atom::Less(first, copy_operand(b)?))
-        }
-        Atom::Same(a, b) => {
-            let first = copy_operand(a)?;
-            Ok(Atom::Same(first, copy_operand(b)?))
-        }
+        Atom::Less(a, b) => copy_pair(false, a, b),
+        Atom::Same(a, b) => copy_pair(true, a, b),
         Atom::Truth(a) => Ok(Atom::Truth(copy_operand(a)?)),
         Atom::Member(a, q) => Ok(Atom::Member(copy_operand(a)?, *q)),
         Atom::Flag(k, loops) => Ok(Atom::Flag(*k, loops.clone()?)),

@@ -108,22 +108,21 @@ pub fn has_whole(t: &Term) -> bool
     ensures { result ≡ fits.has_whole (tree_of t.now) }
 {
     match t {
-        Term::Top(_, r) => has_whole(r),
-        Term::Unit(e) => is_whole(*e),
-        Term::Cat(r, s) => has_whole(r) || has_whole(s),
-        Term::Join(r, s) => has_whole(r) || has_whole(s),
-        Term::Sel(_, r) => has_whole(r),
+        Term::Unit(e) | Term::Item(e) => is_whole(*e),
         Term::Proj(e, r) => is_whole(*e) || has_whole(r),
-        Term::Uniq(r) => has_whole(r),
         Term::Insert(r, e) => has_whole(r) || is_whole(*e),
-        Term::Item(e) => is_whole(*e),
-        Term::Count(r) => has_whole(r),
-        Term::Sum(r) => has_whole(r),
-        Term::Any(r) => has_whole(r),
-        Term::Best(_, v, r) => has_whole(v) || has_whole(r),
-        Term::Pick(_, v, n) => has_whole(v) || has_whole(n),
-        Term::Add(a, b) => has_whole(a) || has_whole(b),
-        Term::Or(a, b) => has_whole(a) || has_whole(b),
+        Term::Top(_, r)
+        | Term::Sel(_, r)
+        | Term::Uniq(r)
+        | Term::Count(r)
+        | Term::Sum(r)
+        | Term::Any(r) => has_whole(r),
+        Term::Cat(r, s)
+        | Term::Join(r, s)
+        | Term::Best(_, r, s)
+        | Term::Pick(_, r, s)
+        | Term::Add(r, s)
+        | Term::Or(r, s) => has_whole(r) || has_whole(s),
         _ => false,
     }
 }

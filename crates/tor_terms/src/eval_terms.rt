@@ -4,6 +4,7 @@ ghost use Rattle.tor_terms.specs.Plain.{tree_of};
 ghost use Rattle.tor_terms.specs.Worlds.{world_of};
 ghost use Rattle.tor_terms.specs.Fits as fits;
 ghost use Rattle.tor_terms.specs.Evaluation as spec;
+ghost use Rattle.tor_terms.specs.Parts as parts;
 
 use crate::eval_found::{Found, Tuple};
 use crate::eval_numbers::has_whole;
@@ -31,59 +32,66 @@ fn evaluate(alloc: Global, env: &Env, atoms: &[Atom], t: &Term) -> Result<Option
             let second = part(alloc, env, atoms, s)?;
             cat(first, second)
         }
-        Term::Join(r, s) => {
-            let first = part(alloc, env, atoms, r)?;
-            let second = part(alloc, env, atoms, s)?;
-            join(alloc, &first, &second)
-        }
-        Term::Sel(fs, r) => {
-            let list = part(alloc, env, atoms, r)?;
-            sel(alloc, env, atoms, fs.as_slice(), &list)
-        }
-        Term::Proj(e, r) => {
-            let list = part(alloc, env, atoms, r)?;
-            proj(alloc, env, *e, &list)
-        }
-        Term::Uniq(r) => {
-            let list = part(alloc, env, atoms, r)?;
-            uniq(alloc, &list)
-        }
         Term::Insert(r, e) => insert(alloc, env, *e, evaluate(alloc, env, atoms, r)?),
         Term::Hold(n) => hold(env.holds.as_slice().get(*n as usize)),
         Term::Lit(x) => Ok(Some(Found::One(x.clone()?))),
         Term::Item(e) => item(env, *e),
-        Term::Count(r) => {
+        Term::Sel(_, r)
+        | Term::Proj(_, r)
+        | Term::Uniq(r)
+        | Term::Count(r)
+        | Term::Sum(r)
+        | Term::Any(r) => {
             let list = part(alloc, env, atoms, r)?;
-            Ok(count(&list))
+            of_part(alloc, env, atoms, t, &list)
         }
-        Term::Sum(r) => {
-            let list = part(alloc, env, atoms, r)?;
-            Ok(sum(has_whole(r), &list))
+        Term::Join(r, s)
+        | Term::Best(_, r, s)
+        | Term::Pick(_, r, s)
+        | Term::Add(r, s)
+        | Term::Or(r, s) => {
+            let first = part(alloc, env, atoms, r)?;
+            let second = part(alloc, env, atoms, s)?;
+            of_parts(alloc, t, &first, &second)
         }
-        Term::Any(r) => {
-            let list = part(alloc, env, atoms, r)?;
-            Ok(any(&list))
-        }
-        Term::Best(way, v, r) => {
-            let start = part(alloc, env, atoms, v)?;
-            let list = part(alloc, env, atoms, r)?;
-            Ok(best(*way, has_whole(r), &start, &list))
-        }
-        Term::Pick(way, v, n) => {
-            let first = part(alloc, env, atoms, v)?;
-            let second = part(alloc, env, atoms, n)?;
-            Ok(pick(*way, &first, &second))
-        }
-        Term::Add(a, b) => {
-            let first = part(alloc, env, atoms, a)?;
-            let second = part(alloc, env, atoms, b)?;
-            Ok(add(&first, &second))
-        }
-        Term::Or(a, b) => {
-            let first = part(alloc, env, atoms, a)?;
-            let second = part(alloc, env, atoms, b)?;
-            Ok(or(&first, &second))
-        }
+    }
+}
+
+// What a term with one part is found to be, from what this is found to be.
+fn of_part(
+    alloc: Global,
+    env: &Env,
+    atoms: &[Atom],
+    t: &Term,
+    part: &Option<Found>,
+) -> Result<Option<Found>, NoMemory>
+    ensures { IfOk result (λ o. o ≡ parts.of_part env.now atoms.now (tree_of t.now) part.now) }
+{
+    match t {
+        Term::Sel(fs, _) => sel(alloc, env, atoms, fs.as_slice(), part),
+        Term::Proj(e, _) => proj(alloc, env, *e, part),
+        Term::Uniq(_) => uniq(alloc, part),
+        Term::Count(_) => Ok(count(part)),
+        Term::Sum(r) => Ok(sum(has_whole(r), part)),
+        _ => Ok(any(part)),
+    }
+}
+
+// What a term with two parts is found to be, from what these are found to be.
+fn of_parts(
+    alloc: Global,
+    t: &Term,
+    first: &Option<Found>,
+    second: &Option<Found>,
+) -> Result<Option<Found>, NoMemory>
+    ensures { IfOk result (λ o. o ≡ parts.of_parts (tree_of t.now) first.now second.now) }
+{
+    match t {
+        Term::Join(_, _) => join(alloc, first, second),
+        Term::Best(way, _, r) => Ok(best(*way, has_whole(r), first, second)),
+        Term::Pick(way, _, _) => Ok(pick(*way, first, second)),
+        Term::Add(_, _) => Ok(add(first, second)),
+        _ => Ok(or(first, second)),
     }
 }
 

@@ -29,9 +29,9 @@ fn same_index(i: Index, j: Index) -> bool
 {
     match (i, j) {
         (Index::Zero, Index::Zero) => true,
-        (Index::At(i), Index::At(j)) => i == j,
-        (Index::Next(i), Index::Next(j)) => i == j,
-        (Index::Len(i), Index::Len(j)) => i == j,
+        (Index::At(i), Index::At(j))
+        | (Index::Next(i), Index::Next(j))
+        | (Index::Len(i), Index::Len(j)) => i == j,
         _ => false,
     }
 }
@@ -75,8 +75,10 @@ pub fn same_formula(f: &Formula, g: &Formula) -> bool
 {
     match (f, g) {
         (Formula::Is(i, s), Formula::Is(j, t)) => *i == *j && same_flag(*s, *t),
-        (Formula::Both(f, g), Formula::Both(h, i)) => same_formula(f, h) && same_formula(g, i),
-        (Formula::Either(f, g), Formula::Either(h, i)) => same_formula(f, h) && same_formula(g, i),
+        (Formula::Both(f, g), Formula::Both(h, i))
+        | (Formula::Either(f, g), Formula::Either(h, i)) => {
+            same_formula(f, h) && same_formula(g, i)
+        }
         _ => false,
     }
 }
@@ -97,32 +99,27 @@ pub fn same_term(t: &Term, u: &Term) -> bool
 {
     match (t, u) {
         (Term::Nil, Term::Nil) => true,
-        (Term::Walk(i), Term::Walk(j)) => *i == *j,
+        (Term::Walk(i), Term::Walk(j)) | (Term::Hold(i), Term::Hold(j)) => *i == *j,
         (Term::Top(i, r), Term::Top(j, s)) => same_index(*i, *j) && same_term(r, s),
         (Term::One(a), Term::One(b)) => same_numbers(a.as_slice(), b.as_slice()),
-        (Term::Unit(d), Term::Unit(e)) => same_elem(*d, *e),
-        (Term::Cat(r, s), Term::Cat(v, w)) => same_term(r, v) && same_term(s, w),
-        (Term::Join(r, s), Term::Join(v, w)) => same_term(r, v) && same_term(s, w),
+        (Term::Unit(d), Term::Unit(e)) | (Term::Item(d), Term::Item(e)) => same_elem(*d, *e),
         (Term::Sel(fs, r), Term::Sel(gs, s)) => {
             same_formulas(fs.as_slice(), gs.as_slice()) && same_term(r, s)
         }
         (Term::Proj(d, r), Term::Proj(e, s)) => same_elem(*d, *e) && same_term(r, s),
-        (Term::Uniq(r), Term::Uniq(s)) => same_term(r, s),
         (Term::Insert(r, d), Term::Insert(s, e)) => same_term(r, s) && same_elem(*d, *e),
-        (Term::Hold(i), Term::Hold(j)) => *i == *j,
         (Term::Lit(x), Term::Lit(y)) => same_cell(x, y),
-        (Term::Item(d), Term::Item(e)) => same_elem(*d, *e),
-        (Term::Count(r), Term::Count(s)) => same_term(r, s),
-        (Term::Sum(r), Term::Sum(s)) => same_term(r, s),
-        (Term::Any(r), Term::Any(s)) => same_term(r, s),
-        (Term::Best(i, r, s), Term::Best(j, v, w)) => {
+        (Term::Uniq(r), Term::Uniq(s))
+        | (Term::Count(r), Term::Count(s))
+        | (Term::Sum(r), Term::Sum(s))
+        | (Term::Any(r), Term::Any(s)) => same_term(r, s),
+        (Term::Best(i, r, s), Term::Best(j, v, w)) | (Term::Pick(i, r, s), Term::Pick(j, v, w)) => {
             same_way(*i, *j) && (same_term(r, v) && same_term(s, w))
         }
-        (Term::Pick(i, r, s), Term::Pick(j, v, w)) => {
-            same_way(*i, *j) && (same_term(r, v) && same_term(s, w))
-        }
-        (Term::Add(r, s), Term::Add(v, w)) => same_term(r, v) && same_term(s, w),
-        (Term::Or(r, s), Term::Or(v, w)) => same_term(r, v) && same_term(s, w),
+        (Term::Cat(r, s), Term::Cat(v, w))
+        | (Term::Join(r, s), Term::Join(v, w))
+        | (Term::Add(r, s), Term::Add(v, w))
+        | (Term::Or(r, s), Term::Or(v, w)) => same_term(r, v) && same_term(s, w),
         _ => false,
     }
 }
