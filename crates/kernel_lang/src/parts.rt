@@ -23,7 +23,7 @@ pub type ListDefs = Items<ListDef>;
 
 /// What an accumulator's loop does at each turn: append, append what isn't there yet, count, add,
 /// keep the greatest or the least, or set a flag.
-#[derive(Clone, Copy)]
+#[derive(Clone, Copy, Debug)]
 pub enum Update {
     Push(Elem),
     PushNew(Elem),

@@ -171,11 +171,20 @@ fn put_accs(out: &mut String, accs: &[Acc], names: &Names) -> Result<(), AllocEr
     Ok(())
 }
 
+fn name_of_type(ty: Ty) -> &'static str {
+    match ty {
+        Ty::Long => "Long",
+        Ty::Bool => "Bool",
+        Ty::Text => "Text",
+    }
+}
+
 fn put_types(out: &mut String, types: &[Ty]) -> Result<(), AllocError> {
     let mut gap = "";
     out.push_str("[")?;
     for ty in types {
-        write!(out, "{gap}{ty:?}")?;
+        out.push_str(gap)?;
+        out.push_str(name_of_type(*ty))?;
         gap = ", ";
     }
     out.push_str("]")

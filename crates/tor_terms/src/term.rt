@@ -42,22 +42,14 @@ pub enum Formula {
 pub type Formulas = Items<Formula>;
 
 /// What is taken of a tuple: the row of a loop, or a column of it.
-<<<<<<< HEAD
-#[derive(Clone, Copy, PartialEq, Eq)]
-=======
 #[derive(Clone, Copy, Debug)]
->>>>>>> d4b9cec120c32a43656bba16bdb192b74730c4e4
 pub enum Elem {
     Whole(u32),
     Field(u32, u32),
 }
 
 /// Whether the greatest or the least value is looked for.
-<<<<<<< HEAD
-#[derive(Clone, Copy, PartialEq, Eq)]
-=======
 #[derive(Clone, Copy, Debug)]
->>>>>>> d4b9cec120c32a43656bba16bdb192b74730c4e4
 pub enum Way {
     Max,
     Min,
@@ -65,11 +57,7 @@ pub enum Way {
 
 /// How many rows of a list are taken: none, as many as a loop has done turns, one more, or as many
 /// as the loop's list has.
-<<<<<<< HEAD
-#[derive(Clone, Copy, PartialEq, Eq)]
-=======
 #[derive(Clone, Copy)]
->>>>>>> d4b9cec120c32a43656bba16bdb192b74730c4e4
 pub enum Index {
     Zero,
     At(u32),
