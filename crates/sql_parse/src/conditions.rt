@@ -1,8 +1,9 @@
 // Conditions, with the SELECTs inside them.
-ghost use Rattle.std.specs.Prelude.{◌≡◌, IfOk, codes, option_map};
+ghost use Rattle.std.specs.Prelude.{◌≡◌, List, IfOk, codes, option_map};
 ghost use Rattle.std.specs.declared.option.Option.TheVariants.{Some, None};
 ghost use Rattle.sql_ast.specs.Reader.{is_word as is_word_token, in_at, source_at, one_at, enclosed_at, atom_at, negation_at, conjunction_at, condition_at};
-ghost use Rattle.sql_ast.specs.Written.{Both, Either, Not, Compare, Bare, Exists, Within};
+ghost use Rattle.sql_ast.specs.Tokens as plain;
+ghost use Rattle.sql_ast.specs.Written.{WrittenCondition, Both, Either, Not, Compare, Bare, Exists, Within};
 ghost use Rattle.sql_parse.specs.Begins.{begun_of, one_begins, column_begins, bare_begun, within_begun, begun_from as begun_behind, begun_at, closed_by};
 ghost use Rattle.sql_parse.specs.Calls.{test_at};
 ghost use Rattle.sql_parse.specs.Negations.{negations, nots};
@@ -221,23 +222,30 @@ fn within<'a>(
     closed(cond, tokens)
 }
 
-fn compared(
+fn compared<'a>(
     alloc: Global,
     cmp: Cmp,
-    first: ReadOpnd<'_>,
-    second: ReadOpnd<'_>,
-) -> Result<Box<RawCond>, NoMemory>
-    ensures { IfOk result (λ c. condition_of c.value ≡ Compare cmp (read_opnd_of first.entry) (read_opnd_of second.entry)) }
+    first: ReadOpnd<'a>,
+    second: ReadOpnd<'a>,
+    tokens: &'a [Token],
+) -> Result<(Box<RawCond>, &'a [Token]), Stop>
+    ensures { Gives {Y = WrittenCondition × List plain.Token} (λ x. (condition_of x.0.value, tokens_of x.1.now)) result (Some (Compare cmp (read_opnd_of first.entry) (read_opnd_of second.entry), tokens_of tokens.now)) }
 {
     let first = kept_opnd(first)?;
     let second = kept_opnd(second)?;
-    Ok(Box::new(alloc, RawCond::Compare(cmp, first, second))?)
+    let cond = Box::new(alloc, RawCond::Compare(cmp, first, second))?;
+    Ok((cond, tokens))
 }
 
-fn bare(alloc: Global, col: ReadCol<'_>) -> Result<Box<RawCond>, NoMemory>
-    ensures { IfOk result (λ c. condition_of c.value ≡ Bare (read_col_of col.entry)) }
+fn bare<'a>(
+    alloc: Global,
+    col: ReadCol<'a>,
+    tokens: &'a [Token],
+) -> Result<(Box<RawCond>, &'a [Token]), Stop>
+    ensures { Gives {Y = WrittenCondition × List plain.Token} (λ x. (condition_of x.0.value, tokens_of x.1.now)) result (Some (Bare (read_col_of col.entry), tokens_of tokens.now)) }
 {
-    Ok(Box::new(alloc, RawCond::Bare(kept_col(col)?))?)
+    let cond = Box::new(alloc, RawCond::Bare(kept_col(col)?))?;
+    Ok((cond, tokens))
 }
 
 // ---- conditions and sources, where `room` more parentheses and SELECTs may be open
@@ -281,10 +289,8 @@ fn atom(alloc: Global, room: usize, tokens: &[Token]) -> Result<(Box<RawCond>, &
             let (source, rest) = source(alloc, room, rest)?;
             within(alloc, opnd, negated, col, source, rest)
         }
-        Begun::Compared(cmp, first, second, rest) => {
-            Ok((compared(alloc, cmp, first, second)?, rest))
-        }
-        Begun::Bare(col, rest) => Ok((bare(alloc, col)?, rest)),
+        Begun::Compared(cmp, first, second, rest) => compared(alloc, cmp, first, second, rest),
+        Begun::Bare(col, rest) => bare(alloc, col, rest),
     }
 }
 

@@ -110,9 +110,8 @@ fn key(tokens: &[Token]) -> Result<(RawKey, &[Token]), Stop>
             Ok(direction(col, rest))
         }
         Some(rest) => {
-            let (col, rest) = read_col(rest)?;
+            let (col, rest) = col(rest)?;
             let rest = close(rest)?;
-            let col = kept_col(col)?;
             let (least, down) = (true, false);
             Ok((RawKey { least, col, down }, rest))
         }

@@ -1,10 +1,10 @@
-use Rattle.std.proofs.Common.{◌≡◌, suc, ◌-◌, ◌+◌, length, List, Bor, sym, ap, ◌∙◌, subst, codes, arith}
+use Rattle.std.proofs.Common.{◌≡◌, suc, ◌-◌, ◌+◌, length, List, Bor, refl, sym, ap, ◌∙◌, subst, codes, arith}
 use Rattle.std.specs.Global.{Box}
 use Rattle.std.proofs.lemmas.Result.{err_from_is_err_and}
 use Rattle.std.proofs.lemmas.List.{length-map}
 use Rattle.sql_ast.specs.Reader.{Read, joined_from, negation_at, atom_at, conjunction_at, condition_at}
 use Rattle.sql_ast.specs.Tokens as plain
-use Rattle.sql_ast.specs.Written.{WrittenCondition, Both, Either}
+use Rattle.sql_ast.specs.Written.{WrittenCondition, Both, Either, Compare, Bare}
 use Rattle.sql_parse.specs.declared.raw.RawCond.{RawCond}
 use Rattle.sql_parse.specs.declared.token.Token.{Token}
 use Rattle.sql_parse.specs.Begins.{begun_of}
@@ -56,13 +56,17 @@ atom-returns-in_ok-source-in-Within t c =
     (sym (within_gives (condition_at c.args.room) (tokens_of c.args.tokens.now) (begun_of c.in_ok-rest.field-0) c.in_ok-rest.ensures (read_opnd_of c.in-Within.opnd) c.in-Within.negated (read_col_of c.in-Within.col) (tokens_of c.in-Within.rest.now) (tokens_of c.in_ok-source-in-Within.rest.now) (source_of c.in_ok-source-in-Within.source) (ap begun_of c.in-Within.is) c.in_ok-source-in-Within.ensures))
     c.within.ensures
 
-pub atom-returns-in_ok-compared-in-Compared : goal.atom-returns-in_ok-compared-in-Compared
-atom-returns-in_ok-compared-in-Compared t c =
-    compared_gives (condition_at c.args.room) (tokens_of c.args.tokens.now) (begun_of c.in_ok-rest.field-0) c.in_ok-rest.ensures c.in-Compared.cmp (read_opnd_of c.in-Compared.first) (read_opnd_of c.in-Compared.second) (tokens_of c.in-Compared.rest.now) (condition_of c.in_ok-compared-in-Compared.field-0.value) (ap begun_of c.in-Compared.is) c.in_ok-compared-in-Compared.ensures
+pub atom-returns-in-Compared : goal.atom-returns-in-Compared
+atom-returns-in-Compared t c =
+    subst (λ (r : Read WrittenCondition). Gives seen c.compared.result r)
+    (sym (compared_gives (condition_at c.args.room) (tokens_of c.args.tokens.now) (begun_of c.in_ok-rest.field-0) c.in_ok-rest.ensures c.in-Compared.cmp (read_opnd_of c.in-Compared.first) (read_opnd_of c.in-Compared.second) (tokens_of c.in-Compared.rest.now) (Compare c.in-Compared.cmp (read_opnd_of c.in-Compared.first) (read_opnd_of c.in-Compared.second)) (ap begun_of c.in-Compared.is) refl))
+    c.compared.ensures
 
-pub atom-returns-in_ok-bare-in-Bare : goal.atom-returns-in_ok-bare-in-Bare
-atom-returns-in_ok-bare-in-Bare t c =
-    bare_gives (condition_at c.args.room) (tokens_of c.args.tokens.now) (begun_of c.in_ok-rest.field-0) c.in_ok-rest.ensures (read_col_of c.in-Bare.col) (tokens_of c.in-Bare.rest.now) (condition_of c.in_ok-bare-in-Bare.field-0.value) (ap begun_of c.in-Bare.is) c.in_ok-bare-in-Bare.ensures
+pub atom-returns-in-Bare : goal.atom-returns-in-Bare
+atom-returns-in-Bare t c =
+    subst (λ (r : Read WrittenCondition). Gives seen c.bare.result r)
+    (sym (bare_gives (condition_at c.args.room) (tokens_of c.args.tokens.now) (begun_of c.in_ok-rest.field-0) c.in_ok-rest.ensures (read_col_of c.in-Bare.col) (tokens_of c.in-Bare.rest.now) (Bare (read_col_of c.in-Bare.col)) (ap begun_of c.in-Bare.is) refl))
+    c.bare.ensures
 
 pub condition-returns-in_default : goal.condition-returns-in_default
 condition-returns-in_default t c = no_room c.args.room (tokens_of c.args.tokens.now) (omega (arith, c.in_default.ensures))
