@@ -1,14 +1,14 @@
 -- What is selected, by what stands at the front.
 use Rattle.std.proofs.Common.{◌≡◌, ◌≤◌, ℕ, suc, length, ap, sym, ◌∙◌, arith, Bool, true, false, List, [], ◌∷◌, Some, None, refl, codes}
-use Rattle.sql_ast.specs.Reader.{Read, given, is_word, after_star, opnd_at, atom_from, within_from, item_at, listing_at, count_at, total_at, selected_at, query_at, condition_at, ended, query_in}
+use Rattle.sql_ast.specs.Reader.{Read, given, is_word, after_star, item_at, listing_at, count_at, total_at, selected_at, query_at, condition_at, ended, query_in}
 use Rattle.sql_ast.specs.Names.{◌>>=◌}
-use Rattle.sql_ast.specs.Tokens.{Token, Word, Test, Open, Dot, Star}
-use Rattle.sql_ast.specs.Written.{WrittenOpnd, WrittenCondition, Compare, WrittenQuery}
+use Rattle.sql_ast.specs.Tokens.{Token, Word, Open, Dot, Star}
+use Rattle.sql_ast.specs.Written.{WrittenCondition, WrittenQuery}
 use Rattle.sql_ast.specs.Written as written
 use Rattle.sql_parse.specs.declared.fault.Stop.{Stop}
 use Rattle.sql_parse.specs.declared.fault.Stop.TheVariants as stops
 use Rattle.sql_parse.specs.Seen.{Fails}
-use Rattle.sql_parse.specs.Calls.{behind_call, named_item_at, test_at}
+use Rattle.sql_parse.specs.Calls.{behind_call, named_item_at}
 
 pub star_or_named : (ts : List Token) → item_at ts ≡ given (after_star ts) (λ rest. Some (written.Whole None, rest)) (named_item_at ts)
 star_or_named [] = refl
@@ -32,11 +32,6 @@ selected_by_call group (t ∷ Open ∷ ts) = by (is_word (codes "COUNT") t) (is_
     by false true e f = rw (e, f) refl
     by false false e f = rw (e, f) refl
 selected_by_call group (t ∷ u ∷ ts) = refl
-
-pub compared_or_within : (group : List Token → Read WrittenCondition) (a : WrittenOpnd) (ts : List Token) → atom_from group a ts ≡ given (test_at ts) (λ x. opnd_at x.1 >>= λ y. Some (Compare x.0 a y.0, y.1)) (within_from group a ts)
-compared_or_within group a [] = refl
-compared_or_within group a (Test cmp ∷ ts) = refl
-compared_or_within group a (t ∷ ts) = refl
 
 read_is : (room : ℕ) (ts : List Token) → room ≡ suc (length ts) → query_in ts ≡ (query_at (condition_at room) ts >>= ended)
 read_is room ts e = ap (λ (n : ℕ). query_at (condition_at n) ts >>= ended) (sym e)

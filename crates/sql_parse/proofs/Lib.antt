@@ -1,4 +1,5 @@
 pub mod Ascii
+pub mod Beginning
 pub mod Climbing
 pub mod Depths
 pub mod Descents

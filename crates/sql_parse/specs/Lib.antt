@@ -1,4 +1,5 @@
 pub mod Answers
+pub mod Begins
 pub mod Calls
 pub mod Chains
 pub mod InSight
@@ -7,6 +8,7 @@ pub mod Negations
 pub mod Operands
 pub mod Pieces
 pub mod Places
+pub mod ReadNames
 pub mod Said
 pub mod Scopes
 pub mod Seen

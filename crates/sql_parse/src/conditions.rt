@@ -1,16 +1,20 @@
 // Conditions, with the SELECTs inside them.
-ghost use Rattle.std.specs.Prelude.{◌≡◌, IfOk, codes, option_map};
+ghost use Rattle.std.specs.Prelude.{◌≡◌, List, IfOk, codes, option_map};
 ghost use Rattle.std.specs.declared.option.Option.TheVariants.{Some, None};
-ghost use Rattle.sql_ast.specs.Reader.{is_word as is_word_token, in_at, where_at, source_at, one_at, column_at, enclosed_at, bare_from as bare_behind, within_from as within_behind, atom_from as atom_behind, other_atom as other_behind, atom_at, negation_at, conjunction_at, condition_at};
-ghost use Rattle.sql_ast.specs.Written.{Both, Either, Not, Exists, Within};
+ghost use Rattle.sql_ast.specs.Reader.{is_word as is_word_token, in_at, source_at, one_at, enclosed_at, atom_at, negation_at, conjunction_at, condition_at};
+ghost use Rattle.sql_ast.specs.Tokens as plain;
+ghost use Rattle.sql_ast.specs.Written.{WrittenCondition, Both, Either, Not, Compare, Bare, Exists, Within};
+ghost use Rattle.sql_parse.specs.Begins.{begun_of, one_begins, column_begins, bare_begun, within_begun, begun_from as begun_behind, begun_at, closed_by};
 ghost use Rattle.sql_parse.specs.Calls.{test_at};
 ghost use Rattle.sql_parse.specs.Negations.{negations, nots};
 ghost use Rattle.sql_parse.specs.Seen.{token_of, tokens_of, Gives};
-ghost use Rattle.sql_parse.specs.Said.{col_of, opnd_of, parts_of, filter_of, source_of, condition_of};
+ghost use Rattle.sql_parse.specs.ReadNames.{read_col_of, read_opnd_of};
+ghost use Rattle.sql_parse.specs.Said.{parts_of, filter_of, source_of, condition_of};
 
+use crate::begun::{Begun, ReadCol, ReadOpnd};
 use crate::fault::Stop;
-use crate::operands::{col, opnd, parts};
-use crate::raw::{RawCol, RawCond, RawOpnd, RawSource};
+use crate::operands::{kept_col, kept_opnd, parts, read_col, read_opnd};
+use crate::raw::{RawCond, RawSource};
 use crate::token::Token;
 use crate::words::{after_word, close, is_word, one as number_one, open, word};
 use qbs_base::NoMemory;
@@ -46,27 +50,6 @@ fn negated(alloc: Global, count: usize, mut cond: Box<RawCond>) -> Result<Box<Ra
         cond = not(alloc, cond)?;
     }
     Ok(cond)
-}
-
-fn exists(source: RawSource) -> RawCond
-    ensures { condition_of result ≡ Exists (parts_of source.parts) (filter_of source.filter) }
-{
-    RawCond::Exists {
-        parts: source.parts,
-        filter: source.filter,
-    }
-}
-
-fn within(opnd: RawOpnd, negated: bool, col: RawCol, source: RawSource) -> RawCond
-    ensures { condition_of result ≡ Within (opnd_of opnd) negated (col_of col) (parts_of source.parts) (filter_of source.filter) }
-{
-    RawCond::Within {
-        opnd,
-        negated,
-        col,
-        parts: source.parts,
-        filter: source.filter,
-    }
 }
 
 // ---- tokens
@@ -112,144 +95,202 @@ fn comparison(tokens: &[Token]) -> Option<(Cmp, &[Token])>
     }
 }
 
+// ---- what a condition begins with
+
+/// The tokens behind `(SELECT 1`.
+fn after_one(tokens: &[Token]) -> Result<&[Token], Stop>
+    ensures { Gives (λ x. tokens_of x.now) result (one_begins (tokens_of tokens.now)) }
+{
+    let rest = open(tokens)?;
+    let rest = word("SELECT", rest)?;
+    number_one(rest)
+}
+
+/// The column of `(SELECT COLUMN`.
+fn column(tokens: &[Token]) -> Result<(ReadCol<'_>, &[Token]), Stop>
+    ensures { Gives (λ x. (read_col_of x.0, tokens_of x.1.now)) result (column_begins (tokens_of tokens.now)) }
+{
+    let rest = open(tokens)?;
+    let rest = word("SELECT", rest)?;
+    read_col(rest)
+}
+
 /// An operand that is a condition by itself.
-fn bare<'a>(
-    alloc: Global,
-    opnd: RawOpnd,
-    tokens: &'a [Token],
-) -> Result<(Box<RawCond>, &'a [Token]), Stop>
-    ensures { Gives (λ x. (condition_of x.0.value, tokens_of x.1.now)) result (bare_behind (opnd_of opnd) (tokens_of tokens.now)) }
+fn begun_bare<'a>(opnd: ReadOpnd<'a>, tokens: &'a [Token]) -> Result<Begun<'a>, Stop>
+    ensures { Gives begun_of result (bare_begun (read_opnd_of opnd.entry) (tokens_of tokens.now)) }
 {
     match opnd {
-        RawOpnd::Column(col) => Ok((Box::new(alloc, RawCond::Bare(col))?, tokens)),
+        ReadOpnd::Column(col) => Ok(Begun::Bare(col, tokens)),
         _ => Err(Stop::Broken),
     }
 }
 
-// ---- conditions and sources, where `room` more parentheses and SELECTs may be open
-
-/// WHERE, or none.
-#[cycle(condition)]
-fn filter(
-    alloc: Global,
-    room: usize,
-    tokens: &[Token],
-) -> Result<(Option<Box<RawCond>>, &[Token]), Stop>
-    ensures { Gives (λ x. (filter_of x.0, tokens_of x.1.now)) result (where_at (condition_at room) (tokens_of tokens.now)) }
-{
-    match tokens {
-        [] => Ok((None, tokens)),
-        [first, rest @ ..] => {
-            if !is_word("WHERE", first) {
-                return Ok((None, tokens));
-            }
-            let (cond, rest) = condition(alloc, room, rest)?;
-            Ok((Some(cond), rest))
-        }
-    }
-}
-
-/// FROM and WHERE.
-#[cycle(condition)]
-pub fn source(alloc: Global, room: usize, tokens: &[Token]) -> Result<(RawSource, &[Token]), Stop>
-    ensures { Gives (λ x. (source_of x.0, tokens_of x.1.now)) result (source_at (condition_at room) (tokens_of tokens.now)) }
-{
-    let rest = word("FROM", tokens)?;
-    let (parts, rest) = parts(alloc, rest)?;
-    let (filter, rest) = filter(alloc, room, rest)?;
-    Ok((RawSource { parts, filter }, rest))
-}
-
-/// `(SELECT 1 ..)`.
-#[cycle(condition)]
-pub fn one(alloc: Global, room: usize, tokens: &[Token]) -> Result<(RawSource, &[Token]), Stop>
-    ensures { Gives (λ x. (source_of x.0, tokens_of x.1.now)) result (enclosed_at (one_at (condition_at room)) (tokens_of tokens.now)) }
-{
-    let rest = open(tokens)?;
-    let rest = word("SELECT", rest)?;
-    let rest = number_one(rest)?;
-    let (source, rest) = source(alloc, room, rest)?;
-    let rest = close(rest)?;
-    Ok((source, rest))
-}
-
-/// `(SELECT COLUMN ..)`.
-#[cycle(condition)]
-fn column(
-    alloc: Global,
-    room: usize,
-    tokens: &[Token],
-) -> Result<(RawCol, RawSource, &[Token]), Stop>
-    ensures { Gives (λ x. ((col_of x.0, source_of x.1), tokens_of x.2.now)) result (enclosed_at (column_at (condition_at room)) (tokens_of tokens.now)) }
-{
-    let rest = open(tokens)?;
-    let rest = word("SELECT", rest)?;
-    let (col, rest) = col(rest)?;
-    let (source, rest) = source(alloc, room, rest)?;
-    let rest = close(rest)?;
-    Ok((col, source, rest))
-}
-
 /// A condition whose first operand is read, and that is no comparison.
-#[cycle(condition)]
-fn within_from<'a>(
-    alloc: Global,
-    room: usize,
-    opnd: RawOpnd,
-    tokens: &'a [Token],
-) -> Result<(Box<RawCond>, &'a [Token]), Stop>
-    ensures { Gives (λ x. (condition_of x.0.value, tokens_of x.1.now)) result (within_behind (condition_at room) (opnd_of opnd) (tokens_of tokens.now)) }
+fn begun_within<'a>(opnd: ReadOpnd<'a>, tokens: &'a [Token]) -> Result<Begun<'a>, Stop>
+    ensures { Gives begun_of result (within_begun (read_opnd_of opnd.entry) (tokens_of tokens.now)) }
 {
     match membership(tokens) {
-        None => bare(alloc, opnd, tokens),
+        None => begun_bare(opnd, tokens),
         Some((negated, rest)) => {
-            let (col, source, rest) = column(alloc, room, rest)?;
-            Ok((Box::new(alloc, within(opnd, negated, col, source))?, rest))
+            let (col, rest) = column(rest)?;
+            Ok(Begun::Within(opnd, negated, col, rest))
         }
     }
 }
 
 /// A condition whose first operand is read.
-#[cycle(condition)]
-#[tactic(auto, using(crate::proofs::Items::compared_or_within))]
-fn atom_from<'a>(
-    alloc: Global,
-    room: usize,
-    first: RawOpnd,
-    tokens: &'a [Token],
-) -> Result<(Box<RawCond>, &'a [Token]), Stop>
-    ensures { Gives (λ x. (condition_of x.0.value, tokens_of x.1.now)) result (atom_behind (condition_at room) (opnd_of first) (tokens_of tokens.now)) }
+#[tactic(auto, using(crate::proofs::Beginning::compared_or_within))]
+fn begun_from<'a>(first: ReadOpnd<'a>, tokens: &'a [Token]) -> Result<Begun<'a>, Stop>
+    ensures { Gives begun_of result (begun_behind (read_opnd_of first.entry) (tokens_of tokens.now)) }
 {
     match comparison(tokens) {
-        None => within_from(alloc, room, first, tokens),
+        None => begun_within(first, tokens),
         Some((cmp, rest)) => {
-            let (second, rest) = opnd(rest)?;
-            Ok((Box::new(alloc, RawCond::Compare(cmp, first, second))?, rest))
+            let (second, rest) = read_opnd(rest)?;
+            Ok(Begun::Compared(cmp, first, second, rest))
+        }
+    }
+}
+
+/// A condition without AND, OR and NOT around it.
+#[tactic(auto, unfolding(crate::specs::Begins::begun_at))]
+fn begun(tokens: &[Token]) -> Result<Begun<'_>, Stop>
+    ensures { Gives begun_of result (begun_at (tokens_of tokens.now)) }
+{
+    match tokens {
+        [] => Err(Stop::Broken),
+        [Token::Open, rest @ ..] => Ok(Begun::Group(rest)),
+        [first, rest @ ..] => {
+            if is_word("EXISTS", first) {
+                return Ok(Begun::Exists(after_one(rest)?));
+            }
+            let (first, rest) = read_opnd(tokens)?;
+            begun_from(first, rest)
+        }
+    }
+}
+
+// ---- how a condition goes on
+
+/// A condition in parentheses, behind the condition.
+fn closed(cond: Box<RawCond>, tokens: &[Token]) -> Result<(Box<RawCond>, &[Token]), Stop>
+    ensures { Gives (λ x. (condition_of x.0.value, tokens_of x.1.now)) result (closed_by (condition_of cond.value) (tokens_of tokens.now)) }
+{
+    let rest = close(tokens)?;
+    Ok((cond, rest))
+}
+
+/// EXISTS, behind its source.
+fn exists(
+    alloc: Global,
+    source: RawSource,
+    tokens: &[Token],
+) -> Result<(Box<RawCond>, &[Token]), Stop>
+    ensures { Gives (λ x. (condition_of x.0.value, tokens_of x.1.now)) result (closed_by (Exists (parts_of source.parts) (filter_of source.filter)) (tokens_of tokens.now)) }
+{
+    let RawSource { parts, filter } = source;
+    let cond = Box::new(alloc, RawCond::Exists { parts, filter })?;
+    closed(cond, tokens)
+}
+
+/// IN or NOT IN, behind its source.
+fn within<'a>(
+    alloc: Global,
+    opnd: ReadOpnd<'a>,
+    negated: bool,
+    col: ReadCol<'a>,
+    source: RawSource,
+    tokens: &'a [Token],
+) -> Result<(Box<RawCond>, &'a [Token]), Stop>
+    ensures { Gives (λ x. (condition_of x.0.value, tokens_of x.1.now)) result (closed_by (Within (read_opnd_of opnd.entry) negated (read_col_of col.entry) (parts_of source.parts) (filter_of source.filter)) (tokens_of tokens.now)) }
+{
+    let source = Box::new(alloc, source)?;
+    let opnd = Box::new(alloc, kept_opnd(opnd)?)?;
+    let col = kept_col(col)?;
+    let RawSource { parts, filter } = Box::into_inner(source);
+    let opnd = Box::into_inner(opnd);
+    let cond = Box::new(
+        alloc,
+        RawCond::Within {
+            opnd,
+            negated,
+            col,
+            parts,
+            filter,
+        },
+    )?;
+    closed(cond, tokens)
+}
+
+fn compared<'a>(
+    alloc: Global,
+    cmp: Cmp,
+    first: ReadOpnd<'a>,
+    second: ReadOpnd<'a>,
+    tokens: &'a [Token],
+) -> Result<(Box<RawCond>, &'a [Token]), Stop>
+    ensures { Gives {Y = WrittenCondition × List plain.Token} (λ x. (condition_of x.0.value, tokens_of x.1.now)) result (Some (Compare cmp (read_opnd_of first.entry) (read_opnd_of second.entry), tokens_of tokens.now)) }
+{
+    let first = kept_opnd(first)?;
+    let second = kept_opnd(second)?;
+    let cond = Box::new(alloc, RawCond::Compare(cmp, first, second))?;
+    Ok((cond, tokens))
+}
+
+fn bare<'a>(
+    alloc: Global,
+    col: ReadCol<'a>,
+    tokens: &'a [Token],
+) -> Result<(Box<RawCond>, &'a [Token]), Stop>
+    ensures { Gives {Y = WrittenCondition × List plain.Token} (λ x. (condition_of x.0.value, tokens_of x.1.now)) result (Some (Bare (read_col_of col.entry), tokens_of tokens.now)) }
+{
+    let cond = Box::new(alloc, RawCond::Bare(kept_col(col)?))?;
+    Ok((cond, tokens))
+}
+
+// ---- conditions and sources, where `room` more parentheses and SELECTs may be open
+
+/// FROM and WHERE.
+#[cycle(condition)]
+#[tactic(auto, using(crate::proofs::Beginning::where_is))]
+pub fn source(alloc: Global, room: usize, tokens: &[Token]) -> Result<(RawSource, &[Token]), Stop>
+    ensures { Gives (λ x. (source_of x.0, tokens_of x.1.now)) result (source_at (condition_at room) (tokens_of tokens.now)) }
+{
+    let rest = word("FROM", tokens)?;
+    let (parts, rest) = parts(alloc, rest)?;
+    match after_word("WHERE", rest) {
+        None => {
+            let filter = None;
+            Ok((RawSource { parts, filter }, rest))
+        }
+        Some(rest) => {
+            let (cond, rest) = condition(alloc, room, rest)?;
+            let filter = Some(cond);
+            Ok((RawSource { parts, filter }, rest))
         }
     }
 }
 
 /// A condition without AND, OR and NOT around it.
 #[cycle(condition)]
-#[tactic(auto, unfolding(sql_ast::specs::Reader::atom_at))]
 fn atom(alloc: Global, room: usize, tokens: &[Token]) -> Result<(Box<RawCond>, &[Token]), Stop>
     ensures { Gives (λ x. (condition_of x.0.value, tokens_of x.1.now)) result (atom_at (condition_at room) (tokens_of tokens.now)) }
 {
-    match tokens {
-        [] => Err(Stop::Broken),
-        [Token::Open, rest @ ..] => {
+    match begun(tokens)? {
+        Begun::Group(rest) => {
             let (cond, rest) = condition(alloc, room, rest)?;
-            let rest = close(rest)?;
-            Ok((cond, rest))
+            closed(cond, rest)
         }
-        [first, rest @ ..] => {
-            if is_word("EXISTS", first) {
-                let (source, rest) = one(alloc, room, rest)?;
-                return Ok((Box::new(alloc, exists(source))?, rest));
-            }
-            let (first, rest) = opnd(tokens)?;
-            atom_from(alloc, room, first, rest)
+        Begun::Exists(rest) => {
+            let (source, rest) = source(alloc, room, rest)?;
+            exists(alloc, source, rest)
         }
+        Begun::Within(opnd, negated, col, rest) => {
+            let (source, rest) = source(alloc, room, rest)?;
+            within(alloc, opnd, negated, col, source, rest)
+        }
+        Begun::Compared(cmp, first, second, rest) => compared(alloc, cmp, first, second, rest),
+        Begun::Bare(col, rest) => bare(alloc, col, rest),
     }
 }
 
@@ -308,4 +349,15 @@ pub fn condition(
         rest = after;
     }
     Ok((left, rest))
+}
+
+/// `(SELECT 1 ..)`.
+#[tactic(auto, using(crate::proofs::Beginning::one_is))]
+pub fn one(alloc: Global, room: usize, tokens: &[Token]) -> Result<(RawSource, &[Token]), Stop>
+    ensures { Gives (λ x. (source_of x.0, tokens_of x.1.now)) result (enclosed_at (one_at (condition_at room)) (tokens_of tokens.now)) }
+{
+    let rest = after_one(tokens)?;
+    let (source, rest) = source(alloc, room, rest)?;
+    let rest = close(rest)?;
+    Ok((source, rest))
 }

@@ -1,6 +1,7 @@
 //! Query texts: their tokens, what they say, and the query that they have under a schema.
 #![tactic(auto)]
 
+mod begun;
 mod bounds;
 mod bytes;
 mod conditions;

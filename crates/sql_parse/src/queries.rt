@@ -5,10 +5,12 @@ ghost use Rattle.sql_ast.specs.Reader.{condition_at, col_at, enclosed_at, item_a
 ghost use Rattle.sql_parse.specs.Calls.{behind_call, number_within, make_of, whole_of_at, named_item_at};
 ghost use Rattle.sql_parse.specs.Seen.{token_of, tokens_of, Gives};
 ghost use Rattle.sql_parse.specs.Said.{col_of, filter_of, item_of, key_of, keys_of, kind_of, parts_of, query_of, source_of};
+ghost use Rattle.sql_parse.specs.ReadNames.{read_col_of};
 
+use crate::begun::ReadCol;
 use crate::conditions::{one, source};
 use crate::fault::Stop;
-use crate::operands::{col, long};
+use crate::operands::{col, kept_col, long, read_col};
 use crate::raw::{
     RawCol, RawItem, RawKey, RawKeys, RawKind, RawListing, RawNumber, RawPart, RawQuery, RawSource,
     RawTruth,
@@ -279,11 +281,11 @@ fn totalled<'a>(
 }
 
 /// A column in parentheses.
-fn enclosed_col(tokens: &[Token]) -> Result<(RawCol, &[Token]), Stop>
-    ensures { Gives (λ x. (col_of x.0, tokens_of x.1.now)) result (enclosed_at col_at (tokens_of tokens.now)) }
+fn enclosed_col(tokens: &[Token]) -> Result<(ReadCol<'_>, &[Token]), Stop>
+    ensures { Gives (λ x. (read_col_of x.0, tokens_of x.1.now)) result (enclosed_at col_at (tokens_of tokens.now)) }
 {
     let rest = open(tokens)?;
-    let (col, rest) = col(rest)?;
+    let (col, rest) = read_col(rest)?;
     let rest = close(rest)?;
     Ok((col, rest))
 }
@@ -300,6 +302,7 @@ fn coalesced(alloc: Global, room: usize, tokens: &[Token]) -> Result<(RawQuery, 
     let rest = after_comma(rest).ok_or(Stop::Broken)?;
     let (other, rest) = long(rest)?;
     let rest = close(rest)?;
+    let col = kept_col(col)?;
     let (source, rest) = source(alloc, room, rest)?;
     totalled(kind(total, col, other), source, rest)
 }

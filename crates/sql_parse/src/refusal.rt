@@ -6,7 +6,7 @@ use sql_ast::SqlRule;
 use thiserror::Error;
 
 /// The first rule that a query text breaks.
-#[derive(Clone, Copy, Debug, PartialEq, Eq, Error)]
+#[derive(Clone, Copy, Debug, Error)]
 #[error("the query text breaks a rule")]
 pub struct SqlFault {
     pub rule: SqlRule,

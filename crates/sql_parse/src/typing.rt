@@ -156,11 +156,7 @@ pub fn seen_in<'a>(
     ensures same { OnOk result (froms.new.items ≡ froms.old.items) }
 {
     match cond {
-        Cond::Both(a, b) => {
-            let seen = seen_in(schema, froms, number, a, seen)?;
-            seen_in(schema, froms, number, b, seen)
-        }
-        Cond::Either(a, b) => {
+        Cond::Both(a, b) | Cond::Either(a, b) => {
             let seen = seen_in(schema, froms, number, a, seen)?;
             seen_in(schema, froms, number, b, seen)
         }
@@ -256,12 +252,7 @@ pub fn fits<'a>(
     ensures same { OnOk result (froms.new.items ≡ froms.old.items) }
 {
     match cond {
-        Cond::Both(a, b) => {
-            let first = fits(params, schema, froms, a)?;
-            let second = fits(params, schema, froms, b)?;
-            Ok(first && second)
-        }
-        Cond::Either(a, b) => {
+        Cond::Both(a, b) | Cond::Either(a, b) => {
             let first = fits(params, schema, froms, a)?;
             let second = fits(params, schema, froms, b)?;
             Ok(first && second)

@@ -7,34 +7,19 @@ use Rattle.sql_parse.proofs.conditions.+condition.Given as goal
 
 -- a function calls those below it at the same room, and conditions at less
 abbrev pub decreases-conjunction : goal.decreases-conjunction
-decreases-conjunction l = l.room * 10 + 9
+decreases-conjunction l = l.room * 5 + 4
 
 abbrev pub decreases-negation : goal.decreases-negation
-decreases-negation l = l.room * 10 + 8
+decreases-negation l = l.room * 5 + 3
 
 abbrev pub decreases-atom : goal.decreases-atom
-decreases-atom l = l.room * 10 + 7
-
-abbrev pub decreases-atom_from : goal.decreases-atom_from
-decreases-atom_from l = l.room * 10 + 6
-
-abbrev pub decreases-within_from : goal.decreases-within_from
-decreases-within_from l = l.room * 10 + 5
-
-abbrev pub decreases-column : goal.decreases-column
-decreases-column l = l.room * 10 + 4
-
-abbrev pub decreases-one : goal.decreases-one
-decreases-one l = l.room * 10 + 3
+decreases-atom l = l.room * 5 + 2
 
 abbrev pub decreases-source : goal.decreases-source
-decreases-source l = l.room * 10 + 2
-
-abbrev pub decreases-filter : goal.decreases-filter
-decreases-filter l = l.room * 10 + 1
+decreases-source l = l.room * 5 + 1
 
 abbrev pub decreases-condition : goal.decreases-condition
-decreases-condition l = l.room * 10
+decreases-condition l = l.room * 5
 
 abbrev pub invariant-conjunction-loop : goal.invariant-conjunction-loop
 invariant-conjunction-loop l =
