@@ -1,6 +1,6 @@
 // Commands over files and sinks in memory, and what is printed of them: the status, then what stands on `out` behind `>`, and on `rep` behind `!`.
 use crate::held::{File, clean_files_of, files_of};
-use crate::words::{first_and_rest, number_of};
+use crate::split::{first_and_rest, number_of};
 use qbs::{qbs_main, qbs_main_over_clean_ends};
 use qbs_base::{CleanSink, MemFiles, MemSink, NoMemory, Words};
 use std::alloc::{AllocError, Global};

@@ -13,7 +13,7 @@
 use crate::calls::{Ends, failing, put_clean, put_command, whole};
 use crate::held::{File, filled, padded_of, repeated};
 use crate::prefixes::{Prefixes, put_prefixes};
-use crate::words::{first_and_rest, number_of, words_of};
+use crate::split::{first_and_rest, number_of, words_of};
 use qbs_base::NoMemory;
 use std::alloc::Global;
 

@@ -1,5 +1,5 @@
 // Files that are held for commands, and the rules that their bytes are made by.
-use crate::words::{first_and_rest, number_of};
+use crate::split::{first_and_rest, number_of};
 use qbs_base::{Bytes, CleanFiles, MemFiles, NoMemory, Text};
 use std::alloc::Global;
 

@@ -5,7 +5,7 @@ mod calls;
 mod commands;
 mod held;
 mod prefixes;
-mod words;
+mod split;
 
 use anyhow::{Result, bail};
 use qbs_base::NoMemory;

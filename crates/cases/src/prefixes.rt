@@ -1,7 +1,7 @@
 // A command over each prefix of one of its files.
 use crate::calls::{Came, came_of, whole};
 use crate::held::{File, bytes_of, files_of, named};
-use crate::words::words_of;
+use crate::split::words_of;
 use qbs_base::{NoMemory, Words};
 use std::alloc::Global;
 
