@@ -12,7 +12,7 @@ use java_ast::{
 use java_lex::{Tokens, lex};
 use java_parser::parse;
 use qbs_base::{Fail, NoMemory, Span};
-use std::alloc::{AllocError, Global};
+use std::alloc::Global;
 
 const NOWHERE: Span = Span {
     line: 1,
@@ -91,12 +91,12 @@ fn put_in_place(
 
 // ---- Places of conditions
 
-fn put_spans(out: &mut String, e: &Expr) -> Result<(), AllocError> {
+fn put_spans(out: &mut String, e: &Expr) -> Result<(), NoMemory> {
     put_span(out, &e.span)?;
     match &e.node {
         ExprNode::Not(inner) => {
             out.push_str(", ")?;
-            put_span(out, &inner.span)
+            Ok(put_span(out, &inner.span)?)
         }
         _ => Ok(()),
     }
@@ -104,7 +104,7 @@ fn put_spans(out: &mut String, e: &Expr) -> Result<(), AllocError> {
 
 fn put_copy(out: &mut String, alloc: Global, cond: &Expr) -> Result<(), NoMemory> {
     match copy_placed(alloc, NOWHERE, cond) {
-        Ok(copy) => Ok(put_spans(out, &copy)?),
+        Ok(copy) => put_spans(out, &copy),
         Err(NoMemory) => Err(NoMemory),
     }
 }

@@ -28,7 +28,7 @@ fn put_options(out: &mut String, options: &Options) -> Result<(), AllocError> {
     out.push_str(if options.rewritten {
         "rewritten, "
     } else {
-        "as it stands, "
+        "not rewritten, "
     })?;
     put_store(out, &options.store)
 }
@@ -43,7 +43,7 @@ fn put_call(out: &mut String, method: &Text, arguments: &[Text]) -> Result<(), A
     Ok(())
 }
 
-fn put_set(out: &mut String, command: &Option<Command>) -> Result<(), AllocError> {
+fn put_set(out: &mut String, command: &Option<Command>) -> Result<(), NoMemory> {
     match command {
         Some(
             Command::Run {
@@ -54,9 +54,9 @@ fn put_set(out: &mut String, command: &Option<Command>) -> Result<(), AllocError
             },
         ) => {
             put_options(out, options)?;
-            put_call(out, method, arguments.as_slice())
+            Ok(put_call(out, method, arguments.as_slice())?)
         }
-        _ => out.push_str("no run"),
+        _ => Ok(out.push_str("no run")?),
     }
 }
 
@@ -64,7 +64,7 @@ fn put_set(out: &mut String, command: &Option<Command>) -> Result<(), AllocError
 pub fn put_run(out: &mut String, alloc: Global, fields: &[Vec<u8>]) -> Result<(), NoMemory> {
     let words = words_of(alloc, fields)?;
     match read_words(alloc, &words) {
-        Ok(command) => Ok(put_set(out, &command)?),
+        Ok(command) => put_set(out, &command),
         Err(_) => Err(NoMemory),
     }
 }

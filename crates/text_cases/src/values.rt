@@ -84,11 +84,11 @@ fn put_name(out: &mut String, db: &Db, table: u32) -> Result<(), AllocError> {
 }
 
 // What is said of the first two tables, and of the table of another name.
-fn put_tables(out: &mut String, db: &Db, other: &Text) -> Result<(), AllocError> {
+fn put_tables(out: &mut String, db: &Db, other: &Text) -> Result<(), NoMemory> {
     put_count(out, db, 0)?;
     put_count(out, db, 1)?;
     put_known(out, db, other)?;
-    put_name(out, db, 0)
+    Ok(put_name(out, db, 0)?)
 }
 
 // A database of one table. The number that the table gets is appended.
@@ -118,7 +118,7 @@ pub fn put_database(out: &mut String, alloc: Global, fields: &[Vec<u8>]) -> Resu
     let name = text_of(alloc, name)?;
     let other = text_of(alloc, other)?;
     match database(out, alloc, name, rows) {
-        Ok(db) => Ok(put_tables(out, &db, &other)?),
+        Ok(db) => put_tables(out, &db, &other),
         Err(NoMemory) => Err(NoMemory),
     }
 }
