@@ -1,5 +1,5 @@
 -- What is kept after the rules at a statement of each kind, one rule after the other.
-use Rattle.std.proofs.Common.{◌≡◌, ℕ, List, [], ◌++◌, Bool, true, false, sym, ap, refl, ◌∙◌, Option, Some, None, ◌⊎◌, inl, inr}
+use Rattle.std.proofs.Common.{◌≡◌, ℕ, List, [], ◌++◌, Bool, sym, ap, refl, ◌∙◌, Option, Some, None}
 use Rattle.std.specs.Prelude.{not, ◌&&◌, Vec}
 use Rattle.std.specs.declared.alloc.Global.{Global}
 use Rattle.qbs_base.specs.declared.span.Span.{Span}
@@ -31,15 +31,6 @@ joined k0 k1 k2 A B a b = b ∙ ap (λ (k : Option TypeFault). least k B) a ∙ 
 -- the last rule
 pub alone : (k0 k1 : Option TypeFault) (A : List TypeFault) → k1 ≡ least k0 A → k1 ≡ least k0 (A ++ [])
 alone k0 k1 A a = a ∙ sym (least-append k0 A [])
-
--- what two tests say together, in the words of the code and of the rules
-pub both_said : (a b n : Bool) → (n ≡ false → ((a ≡ true) × (b ≡ false)) ⊎ (a ≡ false)) → (n ≡ true → (a ≡ true) × (b ≡ true)) → n ≡ a && b
-both_said true true true f t = refl
-both_said true false true f t = sym (t refl).1
-both_said false b true f t = sym (t refl).0
-both_said true true false f t = elim (f refl) [ inl p ↦ sym p.1 | inr p ↦ sym p ]
-both_said true false false f t = refl
-both_said false b false f t = refl
 
 -- two places of one rule
 pub alike : (r : TypeRule) (k0 k1 k2 : Option TypeFault) (xs ys : List Span) → k1 ≡ least k0 (marked r xs) → k2 ≡ least k1 (marked r ys) → k2 ≡ least k0 (marked r (xs ++ ys))

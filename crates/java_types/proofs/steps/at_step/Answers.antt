@@ -1,5 +1,5 @@
-use Rattle.std.proofs.Common.{◌∙◌, ℕ, sym, ap, Bool, List}
-use Rattle.std.specs.Prelude.{Option, not}
+use Rattle.std.proofs.Common.{rules, ◌≡◌, ◌∙◌, ℕ, sym, ap, Bool, List}
+use Rattle.std.specs.Prelude.{Option, not, ◌&&◌}
 use Rattle.std.specs.Option.{option_map}
 use Rattle.qbs_base.specs.declared.span.Span.{Span}
 use Rattle.java_ast.specs.declared.tree.StmtNode.{StmtNode}
@@ -16,7 +16,7 @@ use Rattle.java_types.specs.Least.{least}
 use Rattle.java_types.specs.Texts.{read_by}
 use Rattle.java_ast.proofs.Nodes.{for_each_is, while_is}
 use Rattle.java_types.proofs.Passed.{for_each_noted, none_said}
-use Rattle.java_types.proofs.Noted.{alone, both_said, declare_noted, assign_noted, add_noted, sort_noted, return_noted, if_noted}
+use Rattle.java_types.proofs.Noted.{alone, declare_noted, assign_noted, add_noted, sort_noted, return_noted, if_noted}
 use Rattle.java_types.proofs.steps.at_step.Goals as goal
 
 pub returns-in-Declare : goal.returns-in-Declare
@@ -108,13 +108,15 @@ returns-in-Print c =
 
 pub returns-after-end : goal.returns-after-end
 returns-after-end c =
+    let said : c.if-end.note_if ≡ c.args.end && c.args.last = search rules in
     return_noted c.args.schema.now (read_by c.args.schema.now) (option_map spelled c.args.result_type.now) c.args.scope.now (around c.args.walked.now c.args.in_loop c.args.end) c.args.last c.args.s.now.span (option_map expression c.in-Return.value) c.args.kept.now c.returned.new.kept c.note_if-in-Return.new.kept
     c.returned.ensures
-    (c.note_if-in-Return.ensures ∙ ap (λ (b : Bool). least c.returned.new.kept (marked broken.ReturnPlace (only_if (not b) c.args.s.now.span))) (both_said c.args.end c.args.last c.if-end.note_if c.if-end.note_if-false c.if-end.note_if-true))
+    (c.note_if-in-Return.ensures ∙ ap (λ (b : Bool). least c.returned.new.kept (marked broken.ReturnPlace (only_if (not b) c.args.s.now.span))) said)
     ∙ ap (λ (n : StmtNode). least c.args.kept.now (faults_at c.args.schema.now (read_by c.args.schema.now) (option_map spelled c.args.result_type.now) (step c.args.scope.now (around c.args.walked.now c.args.in_loop c.args.end) c.args.last (node_statement n c.args.s.now.span)))) (sym c.in-Return.is)
 
 pub returns-after-in_loop : goal.returns-after-in_loop
 returns-after-in_loop c =
+    let said : c.if-in_loop.note_if ≡ c.args.in_loop && c.args.last = search rules in
     c.note_if-in-Break.ensures
-    ∙ ap (λ (b : Bool). least c.args.kept.now (marked broken.BreakPlace (only_if (not b) c.args.s.now.span))) (both_said c.args.in_loop c.args.last c.if-in_loop.note_if c.if-in_loop.note_if-false c.if-in_loop.note_if-true)
+    ∙ ap (λ (b : Bool). least c.args.kept.now (marked broken.BreakPlace (only_if (not b) c.args.s.now.span))) said
     ∙ ap (λ (n : StmtNode). least c.args.kept.now (faults_at c.args.schema.now (read_by c.args.schema.now) (option_map spelled c.args.result_type.now) (step c.args.scope.now (around c.args.walked.now c.args.in_loop c.args.end) c.args.last (node_statement n c.args.s.now.span)))) (sym c.in-Break.is)
