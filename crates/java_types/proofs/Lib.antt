@@ -1,10 +1,12 @@
 pub mod Checked
 pub mod Columns
+pub mod Copied
 pub mod Cut
 pub mod First
 pub mod Found
 pub mod Kept
 pub mod Lent
 pub mod Nodes
+pub mod Noted
 pub mod Passed
 pub mod Scoped
