@@ -1,13 +1,10 @@
 -- Operands of a chain are no deeper than it.
-use Rattle.std.proofs.Common.{◌≡◌, ℕ, ◌≤◌, ◌<◌, ◌+◌, ◌*◌, Bool, List, Option, Some, None, arith}
+use Rattle.std.proofs.Common.{◌≡◌, ℕ, ◌≤◌, ◌+◌, ◌*◌, Option, Some, None, arith}
 use denote.Hole.Rolled.{depth_falls}
 use Rattle.std.specs.Global.{Box}
-use Rattle.sql_parse.specs.declared.raw.RawCol.{RawCol}
 use Rattle.sql_parse.specs.declared.raw.RawCond.{RawCond, size-RawCond}
 use Rattle.sql_parse.specs.declared.raw.RawCond.TheViews as views
 use Rattle.sql_parse.specs.declared.raw.RawCond.TheBlock as block
-use Rattle.sql_parse.specs.declared.raw.RawOpnd.{RawOpnd}
-use Rattle.sql_parse.specs.declared.raw.RawPart.{RawPart}
 
 first_of_both : (a b : Box RawCond) → size-RawCond a.value ≤ size-RawCond (views.Both a b)
 unfolding block.the_depth denote.Hole.Carrier.out
@@ -35,19 +32,3 @@ inside_not rest x a m e g h = let step : size-RawCond x ≤ size-RawCond rest = 
 abbrev pub filter_depth : Option (Box RawCond) → ℕ
 filter_depth None = 0
 filter_depth (Some a) = size-RawCond a.value * 4 + 6
-
-filter_of_exists : (parts : List RawPart) (a : Box RawCond) → size-RawCond a.value < size-RawCond (views.Exists parts (Some a))
-unfolding block.the_depth denote.Hole.Carrier.out
-filter_of_exists parts a = let h = depth_falls block.the_members block.the_sigs block.the_carrier block.member-RawCond (views.Exists parts (Some a)) (size-RawCond (views.Exists parts (Some a))) (omega arith) in omega (arith, h.0)
-
-filter_of_within : (opnd : RawOpnd) (negated : Bool) (col : RawCol) (parts : List RawPart) (a : Box RawCond) → size-RawCond a.value < size-RawCond (views.Within opnd negated col parts (Some a))
-unfolding block.the_depth denote.Hole.Carrier.out
-filter_of_within opnd negated col parts a = let h = depth_falls block.the_members block.the_sigs block.the_carrier block.member-RawCond (views.Within opnd negated col parts (Some a)) (size-RawCond (views.Within opnd negated col parts (Some a))) (omega arith) in omega (arith, h.0)
-
-pub inside_exists : (cond : RawCond) (parts : List RawPart) (f : Option (Box RawCond)) → cond ≡ views.Exists parts f → filter_depth f + 1 < size-RawCond cond * 4 + 4
-inside_exists cond parts None e = omega arith
-inside_exists cond parts (Some a) e = let step : size-RawCond a.value < size-RawCond cond = rw e (filter_of_exists parts a) in omega (arith, step)
-
-pub inside_within : (cond : RawCond) (opnd : RawOpnd) (negated : Bool) (col : RawCol) (parts : List RawPart) (f : Option (Box RawCond)) → cond ≡ views.Within opnd negated col parts f → filter_depth f + 1 < size-RawCond cond * 4 + 4
-inside_within cond opnd negated col parts None e = omega arith
-inside_within cond opnd negated col parts (Some a) e = let step : size-RawCond a.value < size-RawCond cond = rw e (filter_of_within opnd negated col parts a) in omega (arith, step)

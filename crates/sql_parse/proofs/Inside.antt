@@ -1,7 +1,7 @@
 -- SELECTs inside a condition, with their names looked up.
 use Rattle.std.proofs.Common.{◌≡◌, ℕ, Bool, List, ◌++◌, length, drop, Option, Some, None, refl, sym, ap, ◌∙◌}
 use Rattle.std.proofs.Math.Seq.{take-append_seam, drop-append_seam}
-use Rattle.std.proofs.lemmas.List.{map-append, length-map, take-append-drop}
+use Rattle.std.proofs.lemmas.List.{length-map, take-append-drop}
 use Rattle.std.specs.Global.{Box}
 use Rattle.qbs_base.specs.Values.{Schema}
 use Rattle.sql_ast.specs.declared.tree.FromItem.{FromItem}
@@ -20,135 +20,112 @@ use Rattle.sql_parse.specs.declared.raw.RawCond.{RawCond}
 use Rattle.sql_parse.specs.declared.raw.RawCond.TheViews as views
 use Rattle.sql_parse.specs.declared.raw.RawOpnd.{RawOpnd}
 use Rattle.sql_parse.specs.declared.raw.RawPart.{RawPart}
-use Rattle.sql_parse.specs.Inner.{scope_with, exists_in, column_in}
+use Rattle.sql_parse.specs.Inner.{entered_in, membership_in}
 use Rattle.sql_parse.specs.Said.{col_of, opnd_of, parts_of, filter_of, condition_of}
 use Rattle.sql_parse.specs.Scopes.{known_of, knowns_of, scope_of}
 use Rattle.sql_parse.specs.Seen.{Fails}
 use Rattle.sql_parse.proofs.RawViews.{exists_is, within_is}
 
--- what is in sight inside
-pub entered : (inner : ℕ) (ks us all : List Known) → all ≡ ks ++ us → inner ≡ length ks → scope_of inner (knowns_of all) ≡ scope_with (knowns_of ks) (knowns_of us)
-entered inner ks us all e len =
-    let place : inner ≡ length (knowns_of ks) = len ∙ sym (length-map ks known_of) in
-    let sight : knowns_of all ≡ knowns_of ks ++ knowns_of us = ap knowns_of e ∙ map-append known_of ks us in
-    ap (λ (n : ℕ). scope_of n (knowns_of all)) place
-    ∙ ap (scope_of (length (knowns_of ks))) sight
-    ∙ ap (λ (outer : List names.Known). scope_with outer (drop (length (knowns_of ks)) (knowns_of ks ++ knowns_of us))) (take-append_seam (knowns_of ks) (knowns_of us))
-    ∙ ap (scope_with (knowns_of ks)) (drop-append_seam (knowns_of ks) (knowns_of us))
+-- the items of a SELECT, behind those of the SELECTs around
+abbrev scope_with : List names.Known → List names.Known → Scope
+scope_with outer own = record { outer = outer; own = own }
+
+entered_scope : (ks us : List names.Known) → scope_with ks us ≡ scope_of (length ks) (ks ++ us)
+entered_scope ks us =
+    sym (ap (λ (outer : List names.Known). scope_with outer (drop (length ks) (ks ++ us))) (take-append_seam ks us) ∙ ap (scope_with ks) (drop-append_seam ks us))
+
+abbrev entered_from : List names.Known → Option (List names.Known) → Option (List FromItem × List names.Known)
+entered_from outer o = o >>= λ own. Some (froms_of own, outer ++ own)
 
 -- ---- EXISTS
 
-pub exists_named : (schema : Schema) (around : ℕ) (ks : List names.Known) (cond : RawCond) (parts : List RawPart) (f : Option (Box RawCond)) → cond ≡ views.Exists parts f
-    → named_condition schema (scope_of around ks) (condition_of cond) ≡ exists_in schema ks (parts_of parts) (filter_of f)
-exists_named schema around ks cond parts f e =
-    ap (named_condition schema (scope_of around ks)) (exists_is cond parts f e)
-    ∙ ap (λ (outer : List names.Known). exists_in schema outer (parts_of parts) (filter_of f)) (take-append-drop around ks)
+abbrev exists_behind : Schema → ℕ → WrittenFilter → List FromItem × List names.Known → Option Condition
+exists_behind schema inner f e = named_filter schema (scope_of inner e.1) f >>= λ g. Some (plain.Exists e.0 g)
 
-module _ (schema : Schema) (outer : List names.Known) (parts : List WrittenPart) (f : WrittenFilter) where
-  pub exists_parts : (s : Stop) → Fails s (known_parts schema parts) → Fails s (exists_in schema outer parts f)
-  exists_parts stops.NoMemory h = tt
-  exists_parts stops.Broken h = ap (λ r. r >>= λ own. named_filter schema (scope_with outer own) f >>= λ g. Some (plain.Exists (froms_of own) g)) h
+exists_parts : (schema : Schema) (outer : List names.Known) (f : WrittenFilter) (o : Option (List names.Known))
+    → (o >>= λ own. named_filter schema (scope_with outer own) f >>= λ g. Some (plain.Exists (froms_of own) g))
+    ≡ (entered_from outer o >>= exists_behind schema (length outer) f)
+exists_parts schema outer f None = refl
+exists_parts schema outer f (Some own) = ap (λ (s : Scope). named_filter schema s f >>= λ g. Some (plain.Exists (froms_of own) g)) (entered_scope outer own)
 
-  exists_known : (own : List names.Known) (within : Scope) → known_parts schema parts ≡ Some own → within ≡ scope_with outer own → exists_in schema outer parts f ≡ (named_filter schema within f >>= λ g. Some (plain.Exists (froms_of own) g))
-  exists_known own within h e =
-      ap (λ r. r >>= λ us. named_filter schema (scope_with outer us) f >>= λ g. Some (plain.Exists (froms_of us) g)) h
-      ∙ ap (λ (s : Scope). named_filter schema s f >>= λ g. Some (plain.Exists (froms_of own) g)) (sym e)
+module _ (schema : Schema) (around inner : ℕ) (sight : List Known) (cond : RawCond) (parts : List RawPart) (f : Option (Box RawCond)) (is : cond ≡ views.Exists parts f) (len : inner ≡ length sight) where
+  exists_named : named_condition schema (scope_of around (knowns_of sight)) (condition_of cond) ≡ (entered_in schema (knowns_of sight) (parts_of parts) >>= exists_behind schema inner (filter_of f))
+  exists_named =
+      ap (named_condition schema (scope_of around (knowns_of sight))) (exists_is cond parts f is)
+      ∙ ap (λ (outer : List names.Known). known_parts schema (parts_of parts) >>= λ own. named_filter schema (scope_with outer own) (filter_of f) >>= λ g. Some (plain.Exists (froms_of own) g)) (take-append-drop around (knowns_of sight))
+      ∙ exists_parts schema (knowns_of sight) (filter_of f) (known_parts schema (parts_of parts))
+      ∙ ap (λ (n : ℕ). entered_in schema (knowns_of sight) (parts_of parts) >>= exists_behind schema n (filter_of f)) (length-map sight known_of ∙ sym len)
 
-  pub exists_gives : (own : List names.Known) (within : Scope) (g : Filter) (froms : List FromItem) (whole : Condition) → known_parts schema parts ≡ Some own → within ≡ scope_with outer own → named_filter schema within f ≡ Some g → froms ≡ froms_of own → whole ≡ plain.Exists froms g → exists_in schema outer parts f ≡ Some whole
-  exists_gives own within g froms whole h e k kept w =
-      exists_known own within h e
-      ∙ ap (λ r. r >>= λ d. Some (plain.Exists (froms_of own) d)) k
-      ∙ ap (λ (v : List FromItem). Some (plain.Exists v g)) (sym kept)
+  pub exists_fails : (s : Stop) → Fails s (entered_in schema (knowns_of sight) (parts_of parts)) → Fails s (named_condition schema (scope_of around (knowns_of sight)) (condition_of cond))
+  exists_fails stops.NoMemory h = tt
+  exists_fails stops.Broken h = exists_named ∙ ap (λ r. r >>= exists_behind schema inner (filter_of f)) h
+
+  pub exists_stops : (froms : List FromItem) (now : List names.Known) (s : Stop) → entered_in schema (knowns_of sight) (parts_of parts) ≡ Some (froms, now) → Fails s (named_filter schema (scope_of inner now) (filter_of f)) → Fails s (named_condition schema (scope_of around (knowns_of sight)) (condition_of cond))
+  exists_stops froms now stops.NoMemory h k = tt
+  exists_stops froms now stops.Broken h k = exists_named ∙ ap (λ r. r >>= exists_behind schema inner (filter_of f)) h ∙ ap (λ r. r >>= λ g. Some (plain.Exists froms g)) k
+
+  pub exists_gives : (froms : List FromItem) (now : List names.Known) (g : Filter) (whole : Condition) → entered_in schema (knowns_of sight) (parts_of parts) ≡ Some (froms, now) → named_filter schema (scope_of inner now) (filter_of f) ≡ Some g → whole ≡ plain.Exists froms g → named_condition schema (scope_of around (knowns_of sight)) (condition_of cond) ≡ Some whole
+  exists_gives froms now g whole h k w =
+      exists_named
+      ∙ ap (λ r. r >>= exists_behind schema inner (filter_of f)) h
+      ∙ ap (λ r. r >>= λ d. Some (plain.Exists froms d)) k
       ∙ ap (λ (v : Condition). Some v) (sym w)
-
-  pub exists_stops : (own : List names.Known) (within : Scope) (s : Stop) → known_parts schema parts ≡ Some own → within ≡ scope_with outer own → Fails s (named_filter schema within f) → Fails s (exists_in schema outer parts f)
-  exists_stops own within stops.NoMemory h e k = tt
-  exists_stops own within stops.Broken h e k = exists_known own within h e ∙ ap (λ r. r >>= λ g. Some (plain.Exists (froms_of own) g)) k
 
 -- ---- IN
 
-abbrev within_of : SqlOpnd → Bool → SqlCol × List FromItem × Filter → Option Condition
-within_of x negated y = Some (plain.Within x negated y.0 y.1 y.2)
+abbrev within_behind : Schema → ℕ → Bool → WrittenFilter → SqlOpnd × SqlCol × List FromItem × List names.Known → Option Condition
+within_behind schema inner negated f m = named_filter schema (scope_of inner m.3) f >>= λ g. Some (plain.Within m.0 negated m.1 m.2 g)
 
-abbrev filtered : SqlCol → List FromItem → Option Filter → Option (SqlCol × List FromItem × Filter)
-filtered c froms o = o >>= λ g. Some (c, froms, g)
+abbrev membership_behind : ℕ → WrittenCol → SqlOpnd → List FromItem × List names.Known → Option (SqlOpnd × SqlCol × List FromItem × List names.Known)
+membership_behind inner col x e = named_col (scope_of inner e.1) col >>= λ c. Some (x, c, e.0, e.1)
 
-abbrev filtered_col : Schema → Scope → WrittenFilter → List FromItem → Option SqlCol → Option (SqlCol × List FromItem × Filter)
-filtered_col schema within f froms o = o >>= λ c. filtered c froms (named_filter schema within f)
+abbrev within_own : Schema → Scope → WrittenCol → WrittenFilter → Bool → SqlOpnd → List FromItem → Option Condition
+within_own schema s col f negated x froms = named_col s col >>= λ c. named_filter schema s f >>= λ g. Some (plain.Within x negated c froms g)
 
-by_filter : (x : SqlOpnd) (negated : Bool) (c : SqlCol) (froms : List FromItem) (o : Option Filter) → (o >>= λ g. Some (plain.Within x negated c froms g)) ≡ (filtered c froms o >>= within_of x negated)
-by_filter x negated c froms None = refl
-by_filter x negated c froms (Some g) = refl
+within_col : (schema : Schema) (inner : ℕ) (now : List names.Known) (f : WrittenFilter) (negated : Bool) (x : SqlOpnd) (froms : List FromItem) (o : Option SqlCol)
+    → (o >>= λ c. named_filter schema (scope_of inner now) f >>= λ g. Some (plain.Within x negated c froms g)) ≡ ((o >>= λ c. Some (x, c, froms, now)) >>= within_behind schema inner negated f)
+within_col schema inner now f negated x froms None = refl
+within_col schema inner now f negated x froms (Some c) = refl
 
-by_col : (schema : Schema) (within : Scope) (f : WrittenFilter) (x : SqlOpnd) (negated : Bool) (froms : List FromItem) (o : Option SqlCol)
-    → (o >>= λ c. named_filter schema within f >>= λ g. Some (plain.Within x negated c froms g)) ≡ (filtered_col schema within f froms o >>= within_of x negated)
-by_col schema within f x negated froms None = refl
-by_col schema within f x negated froms (Some c) = by_filter x negated c froms (named_filter schema within f)
+within_parts : (schema : Schema) (outer : List names.Known) (col : WrittenCol) (f : WrittenFilter) (negated : Bool) (x : SqlOpnd) (o : Option (List names.Known))
+    → (o >>= λ own. within_own schema (scope_with outer own) col f negated x (froms_of own))
+    ≡ (entered_from outer o >>= membership_behind (length outer) col x >>= within_behind schema (length outer) negated f)
+within_parts schema outer col f negated x None = refl
+within_parts schema outer col f negated x (Some own) =
+    ap (λ (s : Scope). within_own schema s col f negated x (froms_of own)) (entered_scope outer own)
+    ∙ within_col schema (length outer) (outer ++ own) f negated x (froms_of own) (named_col (scope_of (length outer) (outer ++ own)) col)
 
-by_parts : (schema : Schema) (outer : List names.Known) (col : WrittenCol) (f : WrittenFilter) (x : SqlOpnd) (negated : Bool) (o : Option (List names.Known))
-    → (o >>= λ own. named_col (scope_with outer own) col >>= λ c. named_filter schema (scope_with outer own) f >>= λ g. Some (plain.Within x negated c (froms_of own) g))
-    ≡ ((o >>= λ own. filtered_col schema (scope_with outer own) f (froms_of own) (named_col (scope_with outer own) col)) >>= within_of x negated)
-by_parts schema outer col f x negated None = refl
-by_parts schema outer col f x negated (Some own) = by_col schema (scope_with outer own) f x negated (froms_of own) (named_col (scope_with outer own) col)
+abbrev within_from : Schema → List names.Known → WrittenCol → List WrittenPart → WrittenFilter → Bool → SqlOpnd → Option Condition
+within_from schema outer col parts f negated x = known_parts schema parts >>= λ own. within_own schema (scope_with outer own) col f negated x (froms_of own)
 
-abbrev within_behind : Schema → WrittenCol → List WrittenPart → WrittenFilter → Bool → List names.Known → SqlOpnd → Option Condition
-within_behind schema col parts f negated outer x =
-    known_parts schema parts
-    >>= λ own. named_col (scope_with outer own) col
-    >>= λ c. named_filter schema (scope_with outer own) f
-    >>= λ g. Some (plain.Within x negated c (froms_of own) g)
+within_opnd : (schema : Schema) (outer : List names.Known) (col : WrittenCol) (parts : List WrittenPart) (f : WrittenFilter) (negated : Bool) (o : Option SqlOpnd)
+    → (o >>= within_from schema outer col parts f negated)
+    ≡ ((o >>= λ x. entered_in schema outer parts >>= membership_behind (length outer) col x) >>= within_behind schema (length outer) negated f)
+within_opnd schema outer col parts f negated None = refl
+within_opnd schema outer col parts f negated (Some x) = within_parts schema outer col f negated x (known_parts schema parts)
 
-module _ (schema : Schema) (around : ℕ) (ks : List names.Known) (cond : RawCond) (opnd : RawOpnd) (negated : Bool) (col : RawCol) (parts : List RawPart) (f : Option (Box RawCond)) (is : cond ≡ views.Within opnd negated col parts f) where
-  within_named : named_condition schema (scope_of around ks) (condition_of cond) ≡ (named_opnd (scope_of around ks) (opnd_of opnd) >>= within_behind schema (col_of col) (parts_of parts) (filter_of f) negated ks)
+module _ (schema : Schema) (around inner : ℕ) (sight : List Known) (cond : RawCond) (opnd : RawOpnd) (negated : Bool) (col : RawCol) (parts : List RawPart) (f : Option (Box RawCond)) (is : cond ≡ views.Within opnd negated col parts f) (len : inner ≡ length sight) where
+  abbrev before : Option (SqlOpnd × SqlCol × List FromItem × List names.Known)
+  before = membership_in schema (scope_of around (knowns_of sight)) (knowns_of sight) (opnd_of opnd) (col_of col) (parts_of parts)
+
+  within_named : named_condition schema (scope_of around (knowns_of sight)) (condition_of cond) ≡ (before >>= within_behind schema inner negated (filter_of f))
   within_named =
-      ap (named_condition schema (scope_of around ks)) (within_is cond opnd negated col parts f is)
-      ∙ ap (λ (outer : List names.Known). named_opnd (scope_of around ks) (opnd_of opnd) >>= within_behind schema (col_of col) (parts_of parts) (filter_of f) negated outer) (take-append-drop around ks)
+      ap (named_condition schema (scope_of around (knowns_of sight))) (within_is cond opnd negated col parts f is)
+      ∙ ap (λ (outer : List names.Known). named_opnd (scope_of around (knowns_of sight)) (opnd_of opnd) >>= within_from schema outer (col_of col) (parts_of parts) (filter_of f) negated) (take-append-drop around (knowns_of sight))
+      ∙ within_opnd schema (knowns_of sight) (col_of col) (parts_of parts) (filter_of f) negated (named_opnd (scope_of around (knowns_of sight)) (opnd_of opnd))
+      ∙ ap (λ (n : ℕ). before >>= within_behind schema n negated (filter_of f)) (length-map sight known_of ∙ sym len)
 
-  pub within_opnd : (s : Stop) → Fails s (named_opnd (scope_of around ks) (opnd_of opnd)) → Fails s (named_condition schema (scope_of around ks) (condition_of cond))
-  within_opnd stops.NoMemory h = tt
-  within_opnd stops.Broken h = within_named ∙ ap (λ r. r >>= within_behind schema (col_of col) (parts_of parts) (filter_of f) negated ks) h
+  pub within_fails : (s : Stop) → Fails s before → Fails s (named_condition schema (scope_of around (knowns_of sight)) (condition_of cond))
+  within_fails stops.NoMemory h = tt
+  within_fails stops.Broken h = within_named ∙ ap (λ r. r >>= within_behind schema inner negated (filter_of f)) h
 
-  within_known : (x : SqlOpnd) → named_opnd (scope_of around ks) (opnd_of opnd) ≡ Some x
-      → named_condition schema (scope_of around ks) (condition_of cond) ≡ (column_in schema ks (col_of col) (parts_of parts) (filter_of f) >>= within_of x negated)
-  within_known x h =
+  pub within_stops : (x : SqlOpnd) (c : SqlCol) (froms : List FromItem) (now : List names.Known) (s : Stop) → before ≡ Some (x, c, froms, now) → Fails s (named_filter schema (scope_of inner now) (filter_of f)) → Fails s (named_condition schema (scope_of around (knowns_of sight)) (condition_of cond))
+  within_stops x c froms now stops.NoMemory h k = tt
+  within_stops x c froms now stops.Broken h k = within_named ∙ ap (λ r. r >>= within_behind schema inner negated (filter_of f)) h ∙ ap (λ r. r >>= λ g. Some (plain.Within x negated c froms g)) k
+
+  pub within_gives : (x : SqlOpnd) (c : SqlCol) (froms : List FromItem) (now : List names.Known) (g : Filter) (whole : Condition) → before ≡ Some (x, c, froms, now) → named_filter schema (scope_of inner now) (filter_of f) ≡ Some g → whole ≡ plain.Within x negated c froms g → named_condition schema (scope_of around (knowns_of sight)) (condition_of cond) ≡ Some whole
+  within_gives x c froms now g whole h k w =
       within_named
-      ∙ ap (λ r. r >>= within_behind schema (col_of col) (parts_of parts) (filter_of f) negated ks) h
-      ∙ by_parts schema ks (col_of col) (filter_of f) x negated (known_parts schema (parts_of parts))
-
-  pub within_gives : (x : SqlOpnd) (c : SqlCol) (froms : List FromItem) (g : Filter) (whole : Condition) → named_opnd (scope_of around ks) (opnd_of opnd) ≡ Some x
-      → column_in schema ks (col_of col) (parts_of parts) (filter_of f) ≡ Some (c, froms, g) → whole ≡ plain.Within x negated c froms g
-      → named_condition schema (scope_of around ks) (condition_of cond) ≡ Some whole
-  within_gives x c froms g whole h k w = within_known x h ∙ ap (λ r. r >>= within_of x negated) k ∙ ap (λ (v : Condition). Some v) (sym w)
-
-  pub within_stops : (x : SqlOpnd) (s : Stop) → named_opnd (scope_of around ks) (opnd_of opnd) ≡ Some x → Fails s (column_in schema ks (col_of col) (parts_of parts) (filter_of f))
-      → Fails s (named_condition schema (scope_of around ks) (condition_of cond))
-  within_stops x stops.NoMemory h k = tt
-  within_stops x stops.Broken h k = within_known x h ∙ ap (λ r. r >>= within_of x negated) k
-
-abbrev column_behind : Schema → WrittenFilter → List names.Known → Scope → SqlCol → Option (SqlCol × List FromItem × Filter)
-column_behind schema f own within c = named_filter schema within f >>= λ g. Some (c, froms_of own, g)
-
-abbrev parts_behind : Schema → WrittenCol → WrittenFilter → List names.Known → Scope → Option (SqlCol × List FromItem × Filter)
-parts_behind schema col f own within = named_col within col >>= column_behind schema f own within
-
-pub column_parts : (schema : Schema) (outer : List names.Known) (col : WrittenCol) (parts : List WrittenPart) (f : WrittenFilter) (s : Stop) → Fails s (known_parts schema parts) → Fails s (column_in schema outer col parts f)
-column_parts schema outer col parts f stops.NoMemory h = tt
-column_parts schema outer col parts f stops.Broken h = ap (λ r. r >>= λ own. parts_behind schema col f own (scope_with outer own)) h
-
-module _ (schema : Schema) (outer : List names.Known) (col : WrittenCol) (parts : List WrittenPart) (f : WrittenFilter) (own : List names.Known) (within : Scope) (known : known_parts schema parts ≡ Some own) (sight : within ≡ scope_with outer own) where
-  parts_known : column_in schema outer col parts f ≡ parts_behind schema col f own within
-  parts_known = ap (λ r. r >>= λ us. parts_behind schema col f us (scope_with outer us)) known ∙ ap (parts_behind schema col f own) (sym sight)
-
-  pub column_fails : (s : Stop) → Fails s (named_col within col) → Fails s (column_in schema outer col parts f)
-  column_fails stops.NoMemory h = tt
-  column_fails stops.Broken h = parts_known ∙ ap (λ r. r >>= column_behind schema f own within) h
-
-  column_known : (c : SqlCol) → named_col within col ≡ Some c → column_in schema outer col parts f ≡ column_behind schema f own within c
-  column_known c h = parts_known ∙ ap (λ r. r >>= column_behind schema f own within) h
-
-  pub column_stops : (c : SqlCol) (s : Stop) → named_col within col ≡ Some c → Fails s (named_filter schema within f) → Fails s (column_in schema outer col parts f)
-  column_stops c stops.NoMemory h k = tt
-  column_stops c stops.Broken h k = column_known c h ∙ ap (λ r. r >>= λ g. Some (c, froms_of own, g)) k
-
-  pub column_gives : (c : SqlCol) (froms : List FromItem) (g : Filter) → named_col within col ≡ Some c → named_filter schema within f ≡ Some g → froms ≡ froms_of own → column_in schema outer col parts f ≡ Some (c, froms, g)
-  column_gives c froms g h k kept = column_known c h ∙ ap (λ r. r >>= λ d. Some (c, froms_of own, d)) k ∙ ap (λ (v : List FromItem). Some (c, v, g)) (sym kept)
+      ∙ ap (λ r. r >>= within_behind schema inner negated (filter_of f)) h
+      ∙ ap (λ r. r >>= λ d. Some (plain.Within x negated c froms d)) k
+      ∙ ap (λ (v : Condition). Some v) (sym w)

@@ -1,5 +1,5 @@
 // The query that a text says, with its names looked up in a schema.
-ghost use Rattle.std.specs.Prelude.{◌≡◌, ◌≤◌, [], true, length, IfOk, OnOk, option_map};
+ghost use Rattle.std.specs.Prelude.{◌≡◌, ◌≤◌, true, length, take, IfOk, OnOk, option_map};
 ghost use Rattle.std.specs.declared.option.Option.TheVariants.{Some};
 ghost use Rattle.sql_ast.specs.Names.{each_of, named_condition, named_filter, named_item as named_item_of, named_group as named_group_of, named_key as named_key_of, named_kind as named_kind_of, named_listing, named_number, named_truth, named_query as named_query_of};
 ghost use Rattle.sql_ast.specs.Reading.{condition as plain_condition, filter_of as plain_filter, inner_filter, listing as plain_listing, number as plain_number, truth as plain_truth, query as plain_query};
@@ -7,13 +7,12 @@ ghost use Rattle.sql_ast.specs.Tree.{Both, Either, Not, Exists, Within};
 ghost use Rattle.sql_parse.specs.InSight.{in_sight};
 ghost use Rattle.sql_parse.specs.Said.{col_of, condition_of, filter_of, item_of, key_of, keys_of, kind_of, listing_of, number_of, opnd_of, parts_of, truth_of, query_of};
 ghost use Rattle.sql_parse.specs.Chains.{is_part};
-ghost use Rattle.sql_parse.specs.Inner.{column_in, compared_in, exists_in};
+ghost use Rattle.sql_parse.specs.Inner.{compared_in, entered_in, membership_in};
 ghost use Rattle.sql_parse.specs.Scopes.{knowns_of, scope_of};
 ghost use Rattle.sql_parse.specs.Steps.{stepped, climbed};
 ghost use Rattle.sql_parse.specs.Seen.{Gives};
 
 use crate::fault::Stop;
-use crate::known::Known;
 use crate::raw::{
     RawCol, RawCond, RawItem, RawKey, RawKind, RawListing, RawNumber, RawOpnd, RawParts, RawQuery,
     RawTruth,
@@ -47,28 +46,38 @@ fn not(alloc: Global, a: Box<Cond>) -> Result<Box<Cond>, NoMemory>
     Ok(Box::new(alloc, Cond::Not(a))?)
 }
 
-fn exists(from: FromItems, filter: Option<Box<Cond>>) -> Cond
-    ensures { plain_condition result ≡ Exists from (inner_filter filter) }
+fn exists(alloc: Global, from: FromItems, filter: Option<Box<Cond>>) -> Result<Box<Cond>, NoMemory>
+    ensures { IfOk result (λ c. plain_condition c.value ≡ Exists from (inner_filter filter)) }
 {
-    Cond::Exists { from, filter }
+    Ok(Box::new(alloc, Cond::Exists { from, filter })?)
+}
+
+/// What stands before the WHERE of a SELECT behind IN: the operand before IN, and the SELECT's
+/// column and FROM items.
+#[derive(Drop)]
+struct Membership {
+    opnd: SqlOpnd,
+    col: SqlCol,
+    from: FromItems,
 }
 
 fn within(
-    opnd: SqlOpnd,
+    alloc: Global,
+    membership: Box<Membership>,
     negated: bool,
-    col: SqlCol,
-    from: FromItems,
     filter: Option<Box<Cond>>,
-) -> Cond
-    ensures { plain_condition result ≡ Within opnd negated col from (inner_filter filter) }
+) -> Result<Box<Cond>, NoMemory>
+    ensures { IfOk result (λ c. plain_condition c.value ≡ Within membership.value.opnd negated membership.value.col membership.value.from (inner_filter filter)) }
 {
-    Cond::Within {
+    let Membership { opnd, col, from } = Box::into_inner(membership);
+    let cond = Cond::Within {
         opnd,
         negated,
         col,
         from,
         filter,
-    }
+    };
+    Ok(Box::new(alloc, cond)?)
 }
 
 fn unboxed(filter: Option<Box<Cond>>) -> Option<Cond>
@@ -126,6 +135,50 @@ fn compared(
     let a = named_opnd(known, around, a)?;
     let b = named_opnd(known, around, b)?;
     Ok(Box::new(alloc, Cond::Compare(cmp, a, b))?)
+}
+
+// ---- what stands before the WHERE of a SELECT
+
+/// The FROM items of a SELECT, which come in sight behind those of the SELECTs around. Where it
+/// fails, some of them may be in sight.
+fn entered<'a>(
+    alloc: Global,
+    schema: &'a [Table],
+    known: &mut Sight<'a>,
+    parts: &'a RawParts,
+) -> Result<FromItems, Stop>
+    ensures value { Gives (λ from. (from, knowns_of (in_sight known.new))) result (entered_in schema.now (knowns_of (in_sight known.old)) (parts_of parts.now)) }
+    ensures more { OnOk result (length (in_sight known.old) ≤ length (in_sight known.new)) }
+    ensures kept { OnOk result (take (length (in_sight known.old)) (in_sight known.new) ≡ in_sight known.old) }
+{
+    let own = known_parts(alloc, schema, parts.as_slice())?;
+    let from = from_items(alloc, &own)?;
+    known.enter(own)?;
+    Ok(from)
+}
+
+/// IN before its WHERE, where the first `around` items in sight are of the SELECTs around. Those of
+/// its SELECT come in sight, also where it fails.
+fn named_membership<'a>(
+    alloc: Global,
+    schema: &'a [Table],
+    known: &mut Sight<'a>,
+    around: usize,
+    opnd: &'a RawOpnd,
+    col: &'a RawCol,
+    parts: &'a RawParts,
+) -> Result<Box<Membership>, Stop>
+    requires { around ≤ length (in_sight known.old) }
+    ensures value { Gives (λ m. (m.value.opnd, m.value.col, m.value.from, knowns_of (in_sight known.new))) result (
+        membership_in schema.now (scope_of around (knowns_of (in_sight known.old))) (knowns_of (in_sight known.old)) (opnd_of opnd.now) (col_of col.now) (parts_of parts.now)) }
+    ensures more { OnOk result (length (in_sight known.old) ≤ length (in_sight known.new)) }
+    ensures kept { OnOk result (take (length (in_sight known.old)) (in_sight known.new) ≡ in_sight known.old) }
+{
+    let opnd = named_opnd(known, around, opnd)?;
+    let inner = known.len();
+    let from = entered(alloc, schema, known, parts)?;
+    let col = named_col(known, inner, col)?;
+    Ok(Box::new(alloc, Membership { opnd, col, from })?)
 }
 
 // ---- conditions, where the first `around` items in sight are of the SELECTs around
@@ -194,7 +247,12 @@ fn part<'a>(
             let col = named_col(known, around, col)?;
             Ok(Box::new(alloc, Cond::Bare(col))?)
         }
-        RawCond::Exists { parts, filter } => exists_inside(alloc, schema, known, parts, filter),
+        RawCond::Exists { parts, filter } => {
+            let inner = known.len();
+            let from = entered(alloc, schema, known, parts)?;
+            let filter = inside(alloc, schema, known, inner, filter)?;
+            Ok(exists(alloc, from, filter)?)
+        }
         RawCond::Within {
             opnd,
             negated,
@@ -202,86 +260,56 @@ fn part<'a>(
             parts,
             filter,
         } => {
-            let opnd = named_opnd(known, around, opnd)?;
-            let (col, from, filter) = column_inside(alloc, schema, known, col, parts, filter)?;
-            Ok(Box::new(alloc, within(opnd, *negated, col, from, filter))?)
+            let inner = known.len();
+            let membership = named_membership(alloc, schema, known, around, opnd, col, parts)?;
+            let filter = inside(alloc, schema, known, inner, filter)?;
+            Ok(within(alloc, membership, *negated, filter)?)
         }
     }
 }
 
-/// EXISTS, where all items in sight are of the SELECTs around.
+/// The WHERE of an inner SELECT, or none, whose items then go out of sight.
 #[cycle(condition)]
-fn exists_inside<'a>(
+fn inside<'a>(
     alloc: Global,
     schema: &'a [Table],
     known: &mut Sight<'a>,
-    parts: &'a RawParts,
-    raw: &'a Option<Box<RawCond>>,
-) -> Result<Box<Cond>, Stop>
-    ensures value { Gives (λ c. plain_condition c.value) result (exists_in schema.now (knowns_of (in_sight known.old)) (parts_of parts.now) (filter_of raw.now)) }
-    ensures same { OnOk result (in_sight known.new ≡ in_sight known.old) }
-{
-    let own = known_parts(alloc, schema, parts.as_slice())?;
-    let from = from_items(alloc, &own)?;
-    let inner = known.len();
-    known.enter(own)?;
-    let filter = filter(alloc, schema, known, inner, raw)?;
-    known.leave(inner)?;
-    Ok(Box::new(alloc, exists(from, filter))?)
-}
-
-/// The SELECT of a column that stands behind IN, where all items in sight are of the SELECTs around.
-#[cycle(condition)]
-fn column_inside<'a>(
-    alloc: Global,
-    schema: &'a [Table],
-    known: &mut Sight<'a>,
-    col: &'a RawCol,
-    parts: &'a RawParts,
-    raw: &'a Option<Box<RawCond>>,
-) -> Result<(SqlCol, FromItems, Option<Box<Cond>>), Stop>
-    ensures value { Gives (λ x. (x.0, x.1, inner_filter x.2)) result (
-        column_in schema.now (knowns_of (in_sight known.old)) (col_of col.now) (parts_of parts.now) (filter_of raw.now)) }
-    ensures same { OnOk result (in_sight known.new ≡ in_sight known.old) }
-{
-    let own = known_parts(alloc, schema, parts.as_slice())?;
-    let from = from_items(alloc, &own)?;
-    let inner = known.len();
-    known.enter(own)?;
-    let col = named_col(known, inner, col)?;
-    let filter = filter(alloc, schema, known, inner, raw)?;
-    known.leave(inner)?;
-    Ok((col, from, filter))
-}
-
-/// WHERE, or none.
-#[cycle(condition)]
-fn filter<'a>(
-    alloc: Global,
-    schema: &'a [Table],
-    known: &mut Sight<'a>,
-    around: usize,
+    inner: usize,
     raw: &'a Option<Box<RawCond>>,
 ) -> Result<Option<Box<Cond>>, Stop>
-    requires { around ≤ length (in_sight known.old) }
-    ensures value { Gives inner_filter result (named_filter schema.now (scope_of around (knowns_of (in_sight known.old))) (filter_of raw.now)) }
-    ensures same { OnOk result (in_sight known.new ≡ in_sight known.old) }
+    requires { inner ≤ length (in_sight known.old) }
+    ensures value { Gives inner_filter result (named_filter schema.now (scope_of inner (knowns_of (in_sight known.old))) (filter_of raw.now)) }
+    ensures left { OnOk result (in_sight known.new ≡ take inner (in_sight known.old)) }
 {
     match raw {
-        None => Ok(None),
-        Some(a) => Ok(Some(condition(alloc, schema, known, around, a)?)),
+        None => {
+            known.leave(inner)?;
+            Ok(None)
+        }
+        Some(a) => {
+            let cond = condition(alloc, schema, known, inner, a)?;
+            known.leave(inner)?;
+            Ok(Some(cond))
+        }
     }
 }
 
 // ---- queries, whose own items are all that are in sight
 
-/// The items of a SELECT that has none around it are all that is in sight.
-fn outermost<'a>(alloc: Global, own: Vec<Known<'a>>) -> Result<Sight<'a>, NoMemory>
-    ensures { IfOk result (λ s. in_sight s ≡ own.entry.items) }
+/// WHERE, or none.
+fn filter<'a>(
+    alloc: Global,
+    schema: &'a [Table],
+    known: &mut Sight<'a>,
+    raw: &'a Option<Box<RawCond>>,
+) -> Result<Option<Box<Cond>>, Stop>
+    ensures value { Gives inner_filter result (named_filter schema.now (scope_of 0 (knowns_of (in_sight known.old))) (filter_of raw.now)) }
+    ensures same { OnOk result (in_sight known.new ≡ in_sight known.old) }
 {
-    let mut known = Sight::new(alloc);
-    known.enter(own)?;
-    Ok(known)
+    match raw {
+        None => Ok(None),
+        Some(a) => Ok(Some(condition(alloc, schema, known, 0, a)?)),
+    }
 }
 
 fn item(known: &Sight<'_>, raw: &RawItem) -> Result<SqlItem, Stop>
@@ -342,11 +370,10 @@ fn kind(known: &Sight<'_>, raw: &RawKind) -> Result<NumberKind, Stop>
 fn listing(alloc: Global, schema: &[Table], raw: &RawListing) -> Result<ListQuery, Stop>
     ensures { Gives plain_listing result (named_listing schema.now (listing_of raw.now)) }
 {
-    let own = known_parts(alloc, schema, raw.source.parts.as_slice())?;
-    let from = from_items(alloc, &own)?;
-    let mut known = outermost(alloc, own)?;
+    let mut known = Sight::new(alloc);
+    let from = entered(alloc, schema, &mut known, &raw.source.parts)?;
     let item = item(&known, &raw.item)?;
-    let filter = filter(alloc, schema, &mut known, 0, &raw.source.filter)?;
+    let filter = filter(alloc, schema, &mut known, &raw.source.filter)?;
     let group = group(&known, &raw.group)?;
     let keys = keys(alloc, &known, raw.keys.as_slice())?;
     Ok(ListQuery {
@@ -363,11 +390,10 @@ fn listing(alloc: Global, schema: &[Table], raw: &RawListing) -> Result<ListQuer
 fn number(alloc: Global, schema: &[Table], raw: &RawNumber) -> Result<NumberQuery, Stop>
     ensures { Gives plain_number result (named_number schema.now (number_of raw.now)) }
 {
-    let own = known_parts(alloc, schema, raw.source.parts.as_slice())?;
-    let from = from_items(alloc, &own)?;
-    let mut known = outermost(alloc, own)?;
+    let mut known = Sight::new(alloc);
+    let from = entered(alloc, schema, &mut known, &raw.source.parts)?;
     let kind = kind(&known, &raw.kind)?;
-    let filter = filter(alloc, schema, &mut known, 0, &raw.source.filter)?;
+    let filter = filter(alloc, schema, &mut known, &raw.source.filter)?;
     Ok(NumberQuery {
         kind,
         from,
@@ -379,10 +405,9 @@ fn number(alloc: Global, schema: &[Table], raw: &RawNumber) -> Result<NumberQuer
 fn truth(alloc: Global, schema: &[Table], raw: &RawTruth) -> Result<TruthQuery, Stop>
     ensures { Gives plain_truth result (named_truth schema.now (truth_of raw.now)) }
 {
-    let own = known_parts(alloc, schema, raw.source.parts.as_slice())?;
-    let from = from_items(alloc, &own)?;
-    let mut known = outermost(alloc, own)?;
-    let filter = filter(alloc, schema, &mut known, 0, &raw.source.filter)?;
+    let mut known = Sight::new(alloc);
+    let from = entered(alloc, schema, &mut known, &raw.source.parts)?;
+    let filter = filter(alloc, schema, &mut known, &raw.source.filter)?;
     Ok(TruthQuery {
         negated: raw.negated,
         from,

@@ -8,14 +8,37 @@ use Rattle.sql_parse.specs.Scopes.{knowns_of}
 use Rattle.sql_parse.proofs.Climbing.{over, nothing_over}
 use Rattle.sql_parse.specs.declared.raw.RawCond.{size-RawCond}
 use Rattle.sql_parse.proofs.Depths.{inside_both, inside_either, inside_not}
-use Rattle.sql_parse.proofs.Inside.{within_gives}
+use Rattle.sql_parse.proofs.Inside.{exists_fails, exists_stops, exists_gives, within_fails, within_stops, within_gives}
 use Rattle.sql_parse.proofs.Descents.{named, both_next, either_next, both_stops, either_stops, not_next}
 use Rattle.sql_parse.proofs.naming.+condition.Goals as goal
 
-pub part-returns-in_ok-new-in-Within-clause-value : goal.part-returns-in_ok-new-in-Within-clause-value
-part-returns-in_ok-new-in-Within-clause-value t c =
-    within_gives c.args.schema.now c.args.around (knowns_of (in_sight c.args.known.now)) c.args.raw.now c.in-Within.opnd c.in-Within.negated c.in-Within.col c.in-Within.parts c.in-Within.filter c.in-Within.is c.in_ok-opnd-in-Within.opnd c.in_ok-col-in-Within.col c.in_ok-col-in-Within.from (inner_filter c.in_ok-col-in-Within.filter) (condition c.in_ok-new-in-Within.field-0.value)
-    c.in_ok-opnd-in-Within.ensures c.in_ok-col-in-Within.ensures.value (ap condition c.in_ok-new-in-Within.ensures.ok ∙ c.within.ensures)
+pub part-returns-in_err-from-in-Exists-clause-value : goal.part-returns-in_err-from-in-Exists-clause-value
+part-returns-in_err-from-in-Exists-clause-value t c =
+    let p = err_from_is_err_and c.from_residual-in_err-from-in-Exists.result c.from_residual-in_err-from-in-Exists.ensures.1 in
+    rw (p.1, p.2) (exists_fails c.args.schema.now c.args.around c.len-inner.result (in_sight c.args.known.now) c.args.raw.now c.in-Exists.parts c.in-Exists.filter c.in-Exists.is c.len-inner.ensures c.in_err-from-in-Exists.field-0.0 c.in_err-from-in-Exists.ensures.value)
+
+pub part-returns-in_err-filter-in-Exists-clause-value : goal.part-returns-in_err-filter-in-Exists-clause-value
+part-returns-in_err-filter-in-Exists-clause-value t c =
+    let p = err_from_is_err_and c.from_residual-in_err-filter-in-Exists.result c.from_residual-in_err-filter-in-Exists.ensures.1 in
+    rw (p.1, p.2) (exists_stops c.args.schema.now c.args.around c.len-inner.result (in_sight c.args.known.now) c.args.raw.now c.in-Exists.parts c.in-Exists.filter c.in-Exists.is c.len-inner.ensures c.in_ok-from-in-Exists.from (knowns_of (in_sight c.entered.new.known)) c.in_err-filter-in-Exists.field-0.0 c.in_ok-from-in-Exists.ensures.value c.in_err-filter-in-Exists.ensures.value)
+
+pub part-returns-in_ok-exists-in-Exists-clause-value : goal.part-returns-in_ok-exists-in-Exists-clause-value
+part-returns-in_ok-exists-in-Exists-clause-value t c =
+    exists_gives c.args.schema.now c.args.around c.len-inner.result (in_sight c.args.known.now) c.args.raw.now c.in-Exists.parts c.in-Exists.filter c.in-Exists.is c.len-inner.ensures c.in_ok-from-in-Exists.from (knowns_of (in_sight c.entered.new.known)) (inner_filter c.in_ok-filter-in-Exists.filter) (condition c.in_ok-exists-in-Exists.field-0.value) c.in_ok-from-in-Exists.ensures.value c.in_ok-filter-in-Exists.ensures.value c.in_ok-exists-in-Exists.ensures
+
+pub part-returns-in_err-membership-in-Within-clause-value : goal.part-returns-in_err-membership-in-Within-clause-value
+part-returns-in_err-membership-in-Within-clause-value t c =
+    let p = err_from_is_err_and c.from_residual-in_err-membership-in-Within.result c.from_residual-in_err-membership-in-Within.ensures.1 in
+    rw (p.1, p.2) (within_fails c.args.schema.now c.args.around c.len-inner-in-Within.result (in_sight c.args.known.now) c.args.raw.now c.in-Within.opnd c.in-Within.negated c.in-Within.col c.in-Within.parts c.in-Within.filter c.in-Within.is c.len-inner-in-Within.ensures c.in_err-membership-in-Within.field-0.0 c.in_err-membership-in-Within.ensures.value)
+
+pub part-returns-in_err-filter-in-Within-clause-value : goal.part-returns-in_err-filter-in-Within-clause-value
+part-returns-in_err-filter-in-Within-clause-value t c =
+    let p = err_from_is_err_and c.from_residual-in_err-filter-in-Within.result c.from_residual-in_err-filter-in-Within.ensures.1 in
+    rw (p.1, p.2) (within_stops c.args.schema.now c.args.around c.len-inner-in-Within.result (in_sight c.args.known.now) c.args.raw.now c.in-Within.opnd c.in-Within.negated c.in-Within.col c.in-Within.parts c.in-Within.filter c.in-Within.is c.len-inner-in-Within.ensures c.in_ok-membership-in-Within.membership.value.opnd c.in_ok-membership-in-Within.membership.value.col c.in_ok-membership-in-Within.membership.value.from (knowns_of (in_sight c.named_membership.new.known)) c.in_err-filter-in-Within.field-0.0 c.in_ok-membership-in-Within.ensures.value c.in_err-filter-in-Within.ensures.value)
+
+pub part-returns-in_ok-within-in-Within-clause-value : goal.part-returns-in_ok-within-in-Within-clause-value
+part-returns-in_ok-within-in-Within-clause-value t c =
+    within_gives c.args.schema.now c.args.around c.len-inner-in-Within.result (in_sight c.args.known.now) c.args.raw.now c.in-Within.opnd c.in-Within.negated c.in-Within.col c.in-Within.parts c.in-Within.filter c.in-Within.is c.len-inner-in-Within.ensures c.in_ok-membership-in-Within.membership.value.opnd c.in_ok-membership-in-Within.membership.value.col c.in_ok-membership-in-Within.membership.value.from (knowns_of (in_sight c.named_membership.new.known)) (inner_filter c.in_ok-filter-in-Within.filter) (condition c.in_ok-within-in-Within.field-0.value) c.in_ok-membership-in-Within.ensures.value c.in_ok-filter-in-Within.ensures.value c.in_ok-within-in-Within.ensures
 
 pub condition-loop-rest-init : goal.condition-loop-rest-init
 condition-loop-rest-init t c = record {

@@ -14,14 +14,8 @@ decreases-condition l = size-RawCond l.raw.now * 4 + 5
 abbrev pub decreases-part : goal.decreases-part
 decreases-part l = size-RawCond l.raw.now * 4 + 4
 
-abbrev pub decreases-exists_inside : goal.decreases-exists_inside
-decreases-exists_inside l = filter_depth l.raw.now + 1
-
-abbrev pub decreases-column_inside : goal.decreases-column_inside
-decreases-column_inside l = filter_depth l.raw.now + 1
-
-abbrev pub decreases-filter : goal.decreases-filter
-decreases-filter l = filter_depth l.raw.now
+abbrev pub decreases-inside : goal.decreases-inside
+decreases-inside l = filter_depth l.raw.now
 
 abbrev pub invariant-condition-loop-rest : goal.invariant-condition-loop-rest
 invariant-condition-loop-rest l = record {
