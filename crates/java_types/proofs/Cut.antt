@@ -3,17 +3,18 @@ use Rattle.std.proofs.Common.{◌≡◌, ℕ, List, [], ◌∷◌, ◌++◌, Boo
 use Rattle.std.specs.Prelude.{if◌then◌else◌}
 use Rattle.qbs_base.specs.Values.{Schema}
 use Rattle.java_mean.specs.declared.types.JavaType.{JavaType}
+use Rattle.java_mean.specs.Places.{walking}
 use Rattle.java_mean.specs.Visible.{Visible, is_visible, declared_in, after}
 use Rattle.java_ast.specs.Tree as plain
-use Rattle.java_ast.specs.Tree.{Statement}
+use Rattle.java_ast.specs.Tree.{Expression, Statement}
 
-take_all : (vs : Visible) → take (length vs) vs ≡ vs
+take_all : {A : Type 0} (vs : List A) → take (length vs) vs ≡ vs
 take_all [] = refl
-take_all (v ∷ vs) = ap (λ (l : Visible). v ∷ l) (take_all vs)
+take_all {A} (v ∷ vs) = ap (λ (l : List A). v ∷ l) (take_all vs)
 
-take_front : (vs ws : Visible) → take (length vs) (vs ++ ws) ≡ vs
+take_front : {A : Type 0} (vs ws : List A) → take (length vs) (vs ++ ws) ≡ vs
 take_front [] ws = refl
-take_front (v ∷ vs) ws = ap (λ (l : Visible). v ∷ l) (take_front vs ws)
+take_front {A} (v ∷ vs) ws = ap (λ (l : List A). v ∷ l) (take_front vs ws)
 
 take_more : (ws vs us : Visible) → take (length ws) vs ≡ ws → take (length ws) (vs ++ us) ≡ ws
 take_more [] vs us h = refl
@@ -48,5 +49,24 @@ take-after schema ws vs (plain.Break at) h = h
 
 pub cut_all : (vs : Visible) → take (length vs) vs ≡ vs
 cut_all vs = take_all vs
+
+-- what a loop leaves walked
+pub walked_cut : (ws : List (List ℕ)) (e : Expression) → take (length ws) (walking e ws) ≡ ws
+walked_cut ws (plain.Lit at x) = take_all ws
+walked_cut ws (plain.Var at x) = take_front ws (x ∷ [])
+walked_cut ws (plain.Field at e f) = take_all ws
+walked_cut ws (plain.Binary at op a b) = take_all ws
+walked_cut ws (plain.Not at e) = take_all ws
+walked_cut ws (plain.Equals at a b) = take_all ws
+walked_cut ws (plain.Size at x) = take_all ws
+walked_cut ws (plain.Get at x e) = take_all ws
+walked_cut ws (plain.Contains at x e) = take_all ws
+walked_cut ws (plain.Fetch at x) = take_all ws
+walked_cut ws (plain.Query at ty text es) = take_all ws
+walked_cut ws (plain.QueryLong at text es) = take_all ws
+walked_cut ws (plain.QueryBoolean at text es) = take_all ws
+walked_cut ws (plain.NewList at) = take_all ws
+walked_cut ws (plain.NewSet at) = take_all ws
+walked_cut ws (plain.NewSetOf at e) = take_all ws
 
 pub ruleset cuts = (cut_declared, take-after, cut_all)

@@ -1,16 +1,22 @@
 -- What is kept after the parts of a statement, of a block and of other lists.
 use Rattle.std.proofs.Common.{◌≡◌, ℕ, zero, suc, ◌+◌, ◌<◌, ◌≤◌, List, [], ◌∷◌, ◌++◌, Bool, true, false, ◌||◌, refl, sym, ap, ◌∙◌, Option, Some, None, length, drop, map, nat_eq, arith, get_or, drop-cons, add-one, ◌⊎◌, inl, inr}
 use Rattle.std.proofs.lemmas.Bool.Decides.{nat_tests}
-use Rattle.std.specs.Prelude.{not, is_some}
+use Rattle.std.specs.Prelude.{not, is_some, Vec, Box}
+use Rattle.std.specs.declared.alloc.Global.{Global}
 use Rattle.std.specs.Option.{option_map}
 use Rattle.qbs_base.specs.declared.span.Span.{Span}
 use Rattle.qbs_base.specs.Values.{Schema}
 use Rattle.sql_ast.specs.Tree.{PlainQuery}
-use Rattle.java_ast.specs.declared.tree.Expr.{Expr}
+use Rattle.java_ast.specs.declared.tree.JTy.{JTy}
+use Rattle.java_ast.specs.declared.tree.Op.{Op}
+use Rattle.java_ast.specs.declared.tree.Expr.{Expr, out-Expr}
+use Rattle.java_ast.specs.declared.tree.ExprNode.{ExprNode, Lit, Var, Field, Binary, Not, Equals, Size, Get, Contains, Fetch, Query, QueryLong, QueryBoolean, NewList}
 use Rattle.java_ast.specs.declared.tree.Stmt.{Stmt}
+use Rattle.java_ast.specs.declared.tree.StmtNode.{StmtNode, Assign, Add, Print}
 use Rattle.java_ast.specs.declared.tree.Param.{Param}
 use Rattle.java_ast.specs.declared.tree.Method.{Method}
-use Rattle.java_ast.specs.Reading.{expression, expressions, statement, statements, spelled, param as plain_param, method as plain_method}
+use Rattle.java_ast.proofs.Nodes.{query_is, query_long_is, query_boolean_is}
+use Rattle.java_ast.specs.Reading.{expression, expressions, node_expression, node_statement, statement, statements, spelled, param as plain_param, method as plain_method}
 use Rattle.java_ast.specs.Tree as plain
 use Rattle.java_ast.specs.Tree.{Spelled, Expression, Expressions, Statement, Statements}
 use Rattle.java_mean.specs.declared.rule.TypeFault.{TypeFault}
@@ -21,6 +27,7 @@ use Rattle.java_mean.specs.declared.types.JavaType.{JavaType}
 use Rattle.java_mean.specs.declared.types.JavaType.TheVariants.{Of}
 use Rattle.java_mean.specs.declared.types.Kindred.{Kindred}
 use Rattle.java_mean.specs.declared.types.Kindred.TheVariants.{Only}
+use Rattle.qbs_base.specs.declared.scalar.Scalar.{Scalar}
 use Rattle.qbs_base.specs.declared.scalar.Ty.{Ty}
 use Rattle.java_mean.specs.Types.{single_spelled, type_spelled}
 use Rattle.java_mean.specs.Rules.{type_of, at_of, only_if, is_none, unless, unless_single, unless_passes, unless_element, scalars_of, set_of_rows, is_many_kindred, walked_element, taken, params_of, lists, has_order, fits_query, arguments, unknown_column, unknown_keys, returns, returns_in}
@@ -79,6 +86,40 @@ return_found s rest all p h = ap (λ (l : List Stmt). returns (statements l)) p 
 
 pub return_passed : (s : Stmt) (rest all : List Stmt) → all ≡ s ∷ rest → returns_in (statement s) ≡ false → returns (statements rest) ≡ returns (statements all)
 return_passed s rest all p h = sym (ap (λ (l : List Stmt). returns (statements l)) p ∙ ap (λ (b : Bool). b || returns (statements rest)) h)
+
+-- the parts of an expression by its node, where arms of one shape are one
+pub one_part : (vs : Visible) (n : ExprNode) (b : Box Expr Global) (at : Span) → ((x : List ℕ) × (n ≡ Field b x)) ⊎ ((n ≡ Not b) ⊎ (((x : List ℕ) × (n ≡ Get x b)) ⊎ ((x : List ℕ) × (n ≡ Contains x b)))) → in_operands vs (node_expression n at) ≡ in_expression vs (expression b.value)
+one_part vs n b at (inl p) = ap (λ (m : ExprNode). in_operands vs (node_expression m at)) p.1
+one_part vs n b at (inr (inl p)) = ap (λ (m : ExprNode). in_operands vs (node_expression m at)) p
+one_part vs n b at (inr (inr (inl p))) = ap (λ (m : ExprNode). in_operands vs (node_expression m at)) p.1
+one_part vs n b at (inr (inr (inr p))) = ap (λ (m : ExprNode). in_operands vs (node_expression m at)) p.1
+
+pub two_parts : (vs : Visible) (n : ExprNode) (a b : Box Expr Global) (at : Span) → ((op : Op) × (n ≡ Binary op a b)) ⊎ (n ≡ Equals a b) → in_operands vs (node_expression n at) ≡ in_expression vs (expression a.value) ++ in_expression vs (expression b.value)
+two_parts vs n a b at (inl p) = ap (λ (m : ExprNode). in_operands vs (node_expression m at)) p.1
+two_parts vs n a b at (inr p) = ap (λ (m : ExprNode). in_operands vs (node_expression m at)) p
+
+pub all_parts : (vs : Visible) (e : Expr) (v : Vec Expr Global) → ((ty : JTy) × (text : List ℕ) × ((out-Expr e).node ≡ Query ty text v)) ⊎ (((text : List ℕ) × ((out-Expr e).node ≡ QueryLong text v)) ⊎ ((text : List ℕ) × ((out-Expr e).node ≡ QueryBoolean text v))) → in_operands vs (expression e) ≡ in_expressions vs (expressions v.items)
+all_parts vs e v (inl p) = ap (in_operands vs) (query_is e p.0 p.1 v p.2)
+all_parts vs e v (inr (inl p)) = ap (in_operands vs) (query_long_is e p.0 v p.1)
+all_parts vs e v (inr (inr p)) = ap (in_operands vs) (query_boolean_is e p.0 v p.1)
+
+pub no_parts : (vs : Visible) (n : ExprNode) (at : Span) → ((x : Scalar) × (n ≡ Lit x)) ⊎ (((x : List ℕ) × (n ≡ Var x)) ⊎ (((x : List ℕ) × (n ≡ Size x)) ⊎ (((x : List ℕ) × (n ≡ Fetch x)) ⊎ (n ≡ NewList)))) → in_operands vs (node_expression n at) ≡ []
+no_parts vs n at (inl p) = ap (λ (m : ExprNode). in_operands vs (node_expression m at)) p.1
+no_parts vs n at (inr (inl p)) = ap (λ (m : ExprNode). in_operands vs (node_expression m at)) p.1
+no_parts vs n at (inr (inr (inl p))) = ap (λ (m : ExprNode). in_operands vs (node_expression m at)) p.1
+no_parts vs n at (inr (inr (inr (inl p)))) = ap (λ (m : ExprNode). in_operands vs (node_expression m at)) p.1
+no_parts vs n at (inr (inr (inr (inr p)))) = ap (λ (m : ExprNode). in_operands vs (node_expression m at)) p
+
+-- the part of a statement that has an expression alone, and what is visible after it
+pub value_part : (schema : Schema) (vs : Visible) (w : Around) (n : StmtNode) (e : Expr) (at : Span) → ((x : List ℕ) × (n ≡ Assign x e)) ⊎ (((x : List ℕ) × (n ≡ Add x e)) ⊎ (n ≡ Print e)) → in_parts schema vs w (node_statement n at) ≡ in_expression vs (expression e)
+value_part schema vs w n e at (inl p) = ap (λ (m : StmtNode). in_parts schema vs w (node_statement m at)) p.1
+value_part schema vs w n e at (inr (inl p)) = ap (λ (m : StmtNode). in_parts schema vs w (node_statement m at)) p.1
+value_part schema vs w n e at (inr (inr p)) = ap (λ (m : StmtNode). in_parts schema vs w (node_statement m at)) p
+
+pub none_declared : (schema : Schema) (vs : Visible) (n : StmtNode) (e : Expr) (at : Span) → ((x : List ℕ) × (n ≡ Assign x e)) ⊎ (((x : List ℕ) × (n ≡ Add x e)) ⊎ (n ≡ Print e)) → vs ≡ after schema vs (node_statement n at)
+none_declared schema vs n e at (inl p) = sym (ap (λ (m : StmtNode). after schema vs (node_statement m at)) p.1)
+none_declared schema vs n e at (inr (inl p)) = sym (ap (λ (m : StmtNode). after schema vs (node_statement m at)) p.1)
+none_declared schema vs n e at (inr (inr p)) = sym (ap (λ (m : StmtNode). after schema vs (node_statement m at)) p)
 
 module _ (schema : Schema) where
   pub key_noted : (a : Single) (key : List ℕ) (rest all : List (List ℕ)) (at : Span) (k0 k1 : Option TypeFault) → all ≡ key ∷ rest → k1 ≡ least k0 (marked broken.Unknown (unknown_column schema (Some (Only (Of a))) key at)) → least k1 (marked broken.Unknown (unknown_keys schema (Some a) rest at)) ≡ least k0 (marked broken.Unknown (unknown_keys schema (Some a) all at))
@@ -151,6 +192,22 @@ module _ (schema : Schema) where
           two k0 k1 k2 (faults_at schema read r (value vs e)) (faults_in schema read r ps) h1 h2
           ∙ ap (λ (l : List Place). least k0 (faults_at schema read r (value vs e) ++ faults_in schema read r l)) (sym p)
 
+      pub none_walked : (vs : Visible) (e : Expression) (k0 k1 : Option TypeFault) → in_operands vs e ≡ [] → k1 ≡ least k0 (faults_at schema read r (value vs e)) → k1 ≡ least k0 (faults_in schema read r (in_expression vs e))
+      none_walked vs e k0 k1 p h = operands_walked vs e [] k0 k1 k1 p h refl
+
+      -- of an expression with one part, or with two, each lent
+      pub one_walked : (vs : Visible) (e : Expression) (a b : Expr) (k0 k1 k2 : Option TypeFault) → in_operands vs e ≡ in_expression vs (expression b) → a ≡ b → k1 ≡ least k0 (faults_at schema read r (value vs e)) → k2 ≡ least k1 (faults_in schema read r (in_expression vs (expression a))) → k2 ≡ least k0 (faults_in schema read r (in_expression vs e))
+      one_walked vs e a b k0 k1 k2 p q h1 h2 =
+          operands_walked vs e (in_expression vs (expression b)) k0 k1 k2 p h1 (h2 ∙ ap (λ (d : Expr). least k1 (faults_in schema read r (in_expression vs (expression d)))) q)
+
+      pub both_walked : (vs : Visible) (e : Expression) (a b c d : Expr) (k0 k1 k2 k3 : Option TypeFault) → in_operands vs e ≡ in_expression vs (expression b) ++ in_expression vs (expression d) → a ≡ b → c ≡ d → k1 ≡ least k0 (faults_at schema read r (value vs e)) → k2 ≡ least k1 (faults_in schema read r (in_expression vs (expression a))) → k3 ≡ least k2 (faults_in schema read r (in_expression vs (expression c))) → k3 ≡ least k0 (faults_in schema read r (in_expression vs e))
+      both_walked vs e a b c d k0 k1 k2 k3 p q o h1 h2 h3 =
+          operands_walked vs e (in_expression vs (expression b) ++ in_expression vs (expression d)) k0 k1 k3 p h1
+          (two k1 k2 k3 (faults_in schema read r (in_expression vs (expression b))) (faults_in schema read r (in_expression vs (expression d)))
+          (h2 ∙ ap (λ (x : Expr). least k1 (faults_in schema read r (in_expression vs (expression x)))) q)
+          (h3 ∙ ap (λ (x : Expr). least k2 (faults_in schema read r (in_expression vs (expression x)))) o)
+          ∙ ap (λ (l : List TypeFault). least k1 l) (sym (faults_in-append schema read r (in_expression vs (expression b)) (in_expression vs (expression d)))))
+
       pub expression_walked : (vs : Visible) (e : Expr) (rest all : List Expr) (k0 k1 : Option TypeFault) → all ≡ e ∷ rest → k1 ≡ least k0 (faults_in schema read r (in_expression vs (expression e))) → least k1 (faults_in schema read r (in_expressions vs (expressions rest))) ≡ least k0 (faults_in schema read r (in_expressions vs (expressions all)))
       expression_walked vs e rest all k0 k1 p h =
           two k0 k1 (least k1 (faults_in schema read r (in_expressions vs (expressions rest)))) (faults_in schema read r (in_expression vs (expression e))) (faults_in schema read r (in_expressions vs (expressions rest))) h refl
@@ -162,6 +219,17 @@ module _ (schema : Schema) where
           two k0 k1 (least k1 (faults_in schema read r (in_params schema us at (map plain_param rest)))) (faults_at schema read r (param vs at (plain_param p))) (faults_in schema read r (in_params schema us at (map plain_param rest))) h refl
           ∙ ap (λ (l : Visible). least k0 (faults_at schema read r (param vs at (plain_param p)) ++ faults_in schema read r (in_params schema l at (map plain_param rest)))) u
           ∙ ap (λ (l : List Param). least k0 (faults_in schema read r (in_params schema vs at (map plain_param l)))) (sym e)
+
+      -- of a statement with an expression alone, and with no parts
+      pub value_walked : (vs : Visible) (w : Around) (last : Bool) (a : Statement) (e : Expression) (k0 k1 k2 : Option TypeFault) → in_parts schema vs w a ≡ in_expression vs e → k1 ≡ least k0 (faults_at schema read r (step vs w last a)) → k2 ≡ least k1 (faults_in schema read r (in_expression vs e)) → k2 ≡ least k0 (faults_in schema read r (in_statement schema vs w last a))
+      value_walked vs w last a e k0 k1 k2 p h1 h2 =
+          two k0 k1 k2 (faults_at schema read r (step vs w last a)) (faults_in schema read r (in_expression vs e)) h1 h2
+          ∙ ap (λ (l : List Place). least k0 (faults_at schema read r (step vs w last a) ++ faults_in schema read r l)) (sym p)
+
+      pub step_walked : (vs : Visible) (w : Around) (last : Bool) (a : Statement) (k0 k1 : Option TypeFault) → in_parts schema vs w a ≡ [] → k1 ≡ least k0 (faults_at schema read r (step vs w last a)) → k1 ≡ least k0 (faults_in schema read r (in_statement schema vs w last a))
+      step_walked vs w last a k0 k1 p h =
+          two k0 k1 k1 (faults_at schema read r (step vs w last a)) [] h refl
+          ∙ ap (λ (l : List Place). least k0 (faults_at schema read r (step vs w last a) ++ faults_in schema read r l)) (sym p)
 
       -- of a statement whose parts are these two
       parts_walked : (vs : Visible) (w : Around) (last : Bool) (a : Statement) (A B : List TypeFault) (k0 k1 k2 k3 : Option TypeFault) → faults_in schema read r (in_parts schema vs w a) ≡ A ++ B → k1 ≡ least k0 (faults_at schema read r (step vs w last a)) → k2 ≡ least k1 A → k3 ≡ least k2 B → k3 ≡ least k0 (faults_in schema read r (in_statement schema vs w last a))

@@ -18,6 +18,6 @@ pub mod worked;
 pub use checking::{Typed, check};
 pub use java_mean::{TypeFault, TypeRule};
 pub use numbers::read_literals;
-pub use queries::read_query;
+pub use queries::{query_of, read_query};
 pub use scope::Scope;
 pub use types::type_spelled;

@@ -39,30 +39,30 @@ pub fn walk_expr(
 {
     at_value(alloc, e, schema, result_type, scope, kept)?;
     match &e.node {
-        ExprNode::Lit(_) => {}
-        ExprNode::Var(_) => {}
-        ExprNode::Field(a, _) => walk_expr(a, alloc, schema, result_type, scope, kept)?,
-        ExprNode::Binary(_, a, b) => {
+        ExprNode::Field(a, _) | ExprNode::Not(a) | ExprNode::Get(_, a) | ExprNode::Contains(_, a) =>
+            walk_expr(a, alloc, schema, result_type, scope, kept),
+        ExprNode::Binary(_, a, b) | ExprNode::Equals(a, b) => {
             walk_expr(a, alloc, schema, result_type, scope, kept)?;
-            walk_expr(b, alloc, schema, result_type, scope, kept)?;
+            walk_expr(b, alloc, schema, result_type, scope, kept)
         }
-        ExprNode::Not(a) => walk_expr(a, alloc, schema, result_type, scope, kept)?,
-        ExprNode::Equals(a, b) => {
-            walk_expr(a, alloc, schema, result_type, scope, kept)?;
-            walk_expr(b, alloc, schema, result_type, scope, kept)?;
-        }
-        ExprNode::Size(_) => {}
-        ExprNode::Get(_, a) => walk_expr(a, alloc, schema, result_type, scope, kept)?,
-        ExprNode::Contains(_, a) => walk_expr(a, alloc, schema, result_type, scope, kept)?,
-        ExprNode::Fetch(_) => {}
-        ExprNode::Query(_, _, args) => walk_all(args, alloc, schema, result_type, scope, kept)?,
-        ExprNode::QueryLong(_, args) => walk_all(args, alloc, schema, result_type, scope, kept)?,
-        ExprNode::QueryBoolean(_, args) => walk_all(args, alloc, schema, result_type, scope, kept)?,
-        ExprNode::NewList => {}
-        ExprNode::NewSet(None) => {}
-        ExprNode::NewSet(Some(a)) => walk_expr(a, alloc, schema, result_type, scope, kept)?,
+        ExprNode::Query(_, _, args)
+        | ExprNode::QueryLong(_, args)
+        | ExprNode::QueryBoolean(_, args) => walk_all(
+            args,
+            alloc,
+            schema,
+            result_type,
+            scope,
+            kept,
+        ),
+        ExprNode::Lit(_)
+        | ExprNode::Var(_)
+        | ExprNode::Size(_)
+        | ExprNode::Fetch(_)
+        | ExprNode::NewList => Ok(()),
+        ExprNode::NewSet(None) => Ok(()),
+        ExprNode::NewSet(Some(a)) => walk_expr(a, alloc, schema, result_type, scope, kept),
     }
-    Ok(())
 }
 
 // The faults of expressions and of their parts.
@@ -163,17 +163,11 @@ fn walk_stmt<'a>(
     match &s.node {
         StmtNode::Declare { ty, name, value } => {
             walk_expr(value, alloc, schema, result_type, scope, kept)?;
-            scope.declare(name, type_spelled(schema, ty))?;
-            Ok(())
+            scope.declare(name, type_spelled(schema, ty))
         }
-        StmtNode::Assign { name: _, value } => {
-            walk_expr(value, alloc, schema, result_type, scope, kept)?;
-            Ok(())
-        }
-        StmtNode::Add { name: _, value } => {
-            walk_expr(value, alloc, schema, result_type, scope, kept)?;
-            Ok(())
-        }
+        StmtNode::Assign { name: _, value }
+        | StmtNode::Add { name: _, value }
+        | StmtNode::Print { value } => walk_expr(value, alloc, schema, result_type, scope, kept),
         StmtNode::Sort {
             name: _,
             keys: _,
@@ -193,7 +187,7 @@ fn walk_stmt<'a>(
                 kept,
             )?;
             match other {
-                None => {}
+                None => Ok(()),
                 Some(other) => walk_block(
                     other,
                     alloc,
@@ -204,9 +198,8 @@ fn walk_stmt<'a>(
                     in_loop,
                     false,
                     kept,
-                )?,
+                ),
             }
-            Ok(())
         }
         StmtNode::ForEach {
             ty,
@@ -246,12 +239,7 @@ fn walk_stmt<'a>(
                 true,
                 false,
                 kept,
-            )?;
-            Ok(())
-        }
-        StmtNode::Print { value } => {
-            walk_expr(value, alloc, schema, result_type, scope, kept)?;
-            Ok(())
+            )
         }
         StmtNode::Return { value } => {
             if let Some(value) = value {
@@ -346,7 +334,6 @@ pub fn walk_method(
 {
     at_method(m, double, returns(m.body.as_slice()), schema, kept);
     let mut scope = Scope::new(alloc);
-    let mut walked = Walked::new(alloc);
     walk_params(
         m.params.as_slice(),
         m.span,
@@ -355,6 +342,7 @@ pub fn walk_method(
         &mut scope,
         kept,
     )?;
+    let mut walked = Walked::new(alloc);
     walk_block(
         m.body.as_slice(),
         alloc,
