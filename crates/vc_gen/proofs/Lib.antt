@@ -22,6 +22,7 @@ pub mod Listed
 pub mod Ended
 pub mod Few
 pub mod Accepted
+pub mod Added
 pub mod Refused
 pub mod Short
 pub mod Joined

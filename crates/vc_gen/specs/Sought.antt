@@ -21,5 +21,5 @@ or_among cs (Here c) = Here c
 or_among cs (Left n) = sought cs n
 
 abbrev pub sought_seen : List Atom → SoughtCode → Sought
-sought_seen atoms (codes.Here c) = Here (claim_over atoms c)
+sought_seen atoms (codes.Here c) = Here (claim_over atoms c.value)
 sought_seen atoms (codes.Left n) = Left n

@@ -1,7 +1,8 @@
 // The conditions of a fragment and a candidate.
-ghost use Rattle.std.specs.Prelude.{◌≡◌, ◌+◌, ◌<◌, ◌≤◌, ◌^◌, ◌++◌, length, map, nat_eq, IfOk};
+ghost use Rattle.std.specs.Prelude.{◌≡◌, ◌+◌, ◌<◌, ◌≤◌, ◌^◌, ◌++◌, ◌∷◌, [], length, map, nat_eq, IfOk};
 ghost use Rattle.std.specs.List.{list_any};
 ghost use Rattle.tor_terms.specs.Plain.{forms_of};
+ghost use Rattle.tor_axioms.specs.Accepts.{claim_over};
 ghost use Rattle.kernel_lang.specs.Plain.{accumulator};
 ghost use Rattle.kernel_lang.specs.Pools as pools;
 ghost use Rattle.kernel_lang.specs.Validity.{count_conditions};
@@ -12,10 +13,11 @@ ghost use Rattle.vc_gen.specs.Short.{AllShort};
 ghost use Rattle.vc_gen.specs.Soundness.{AllValid, AllValidAnywhere, EndsAsClaimed, EndsAnywhere};
 
 use crate::own::{Conditions, add_own};
+use crate::terms::boxed;
 use kernel_lang::{Acc, Candidate, KFragment};
 use qbs_base::{Items, NoMemory};
 use std::alloc::Global;
-use tor_axioms::{Vc, Vcs};
+use tor_axioms::{Condition, Vc, Vcs};
 use tor_terms::{Atoms, Formula, Formulas, copy_atoms, copy_formula};
 
 /// Whether a number stands in a candidate.
@@ -105,19 +107,32 @@ pub fn conditions_over(
     Ok(all)
 }
 
+fn add_with_atoms(
+    alloc: Global,
+    atoms: &Atoms,
+    condition: Box<Condition>,
+    all: &mut Vcs,
+) -> Result<(), NoMemory>
+    ensures { IfOk result (λ _. spec.claims_of all.new ≡ spec.claims_of all.old ++ claim_over atoms.now condition.value ∷ []) }
+{
+    let atoms = copy_atoms(alloc, atoms.as_slice())?;
+    let Condition { facts, left, right } = Box::into_inner(condition);
+    all.push(Vc {
+        atoms,
+        facts,
+        left,
+        right,
+    })
+}
+
 /// Conditions with the atoms that they are over, a copy in each.
 fn with_atoms(alloc: Global, atoms: &Atoms, conditions: Conditions) -> Result<Vcs, NoMemory>
     ensures { IfOk result (λ vcs. spec.claims_of vcs ≡ claims_over atoms.now conditions) }
 {
     let mut all = Items::new(alloc);
     for condition in conditions.into_vec() {
-        let own = copy_atoms(alloc, atoms.as_slice())?;
-        all.push(Vc {
-            atoms: own,
-            facts: condition.facts,
-            left: condition.left,
-            right: condition.right,
-        })?;
+        let condition = boxed(alloc, condition)?;
+        add_with_atoms(alloc, atoms, condition, &mut all)?;
     }
     Ok(all)
 }

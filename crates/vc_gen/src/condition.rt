@@ -8,12 +8,12 @@ ghost use Rattle.vc_gen.specs.Conditions as spec;
 ghost use Rattle.vc_gen.specs.Levels.{layer_seen, layers_seen};
 
 use crate::level::Level;
-use crate::terms::{part, whole, whole_level};
+use crate::terms::{boxed, part, whole, whole_level};
 use kernel_lang::Update;
 use qbs_base::{Items, NoMemory};
 use std::alloc::Global;
 use tor_axioms::{Condition, Literal, Literals};
-use tor_terms::{Atoms, Formula, Index, Loops, Term, copy_term};
+use tor_terms::{Atoms, Formula, Index, Loops, Term, copy_boxed_term};
 
 /// The update of an accumulator and its chosen formulas, over these atoms.
 #[derive(Clone, Copy)]
@@ -27,7 +27,7 @@ pub struct Chosen<'a> {
 #[derive(Drop)]
 pub struct Place {
     pub outer: Loops,
-    pub entry: Term,
+    pub entry: Box<Term>,
 }
 
 /// The facts of a path.
@@ -53,6 +53,21 @@ pub fn with_loop(alloc: Global, outer: &[u32], over: u32) -> Result<Loops, NoMem
     Ok(inside)
 }
 
+// The condition that two terms have one value by a path.
+fn by_path(
+    alloc: Global,
+    path: &[(u32, bool)],
+    left: Box<Term>,
+    right: Box<Term>,
+) -> Result<Box<Condition>, NoMemory>
+    ensures { IfOk result (λ c. c.value ≡ record { facts = spec.facts_of path.now; left = left.value; right = right.value }) }
+{
+    let facts = literals(alloc, path)?;
+    let left = Box::into_inner(left);
+    let right = Box::into_inner(right);
+    boxed(alloc, Condition { facts, left, right })
+}
+
 /// What is so after some turns of a level's loop.
 pub fn turns(
     alloc: Global,
@@ -61,10 +76,10 @@ pub fn turns(
     y: &Level,
     ys: &[Level],
     index: Index,
-) -> Result<Term, NoMemory>
+) -> Result<Box<Term>, NoMemory>
     ensures { IfOk result (λ t.
-        tree_of t
-        ≡ post.part chosen.now.update (forms_of chosen.now.formulas.now) place.now.outer (tree_of place.now.entry) (layer_seen y.now) (layers_seen ys.now) index) }
+        tree_of t.value
+        ≡ post.part chosen.now.update (forms_of chosen.now.formulas.now) place.now.outer (tree_of place.now.entry.value) (layer_seen y.now) (layers_seen ys.now) index) }
 {
     let fs = chosen.formulas;
     let outer = place.outer.as_slice();
@@ -79,15 +94,14 @@ pub fn at_entry(
     y: &Level,
     ys: &[Level],
     way: &[(u32, bool)],
-) -> Result<Condition, NoMemory>
+) -> Result<Box<Condition>, NoMemory>
     ensures { IfOk result (λ c.
-        claim_over chosen.now.atoms.now c
-        ≡ spec.entry chosen.now.atoms.now chosen.now.update (forms_of chosen.now.formulas.now) place.now.outer (tree_of place.now.entry) (layer_seen y.now) (layers_seen ys.now) way.now) }
+        claim_over chosen.now.atoms.now c.value
+        ≡ spec.entry chosen.now.atoms.now chosen.now.update (forms_of chosen.now.formulas.now) place.now.outer (tree_of place.now.entry.value) (layer_seen y.now) (layers_seen ys.now) way.now) }
 {
-    let facts = literals(alloc, way)?;
     let left = turns(alloc, chosen, place, y, ys, Index::Zero)?;
-    let right = copy_term(alloc, &place.entry)?;
-    Ok(Condition { facts, left, right })
+    let right = copy_boxed_term(alloc, &place.entry)?;
+    by_path(alloc, way, left, right)
 }
 
 /// What a turn does in which the guard holds, by a way to the level and one of the guard's paths.
@@ -98,15 +112,14 @@ pub fn true_step(
     y: &Level,
     ys: &[Level],
     path: &[(u32, bool)],
-) -> Result<Condition, NoMemory>
+) -> Result<Box<Condition>, NoMemory>
     ensures { IfOk result (λ c.
-        claim_over chosen.now.atoms.now c
+        claim_over chosen.now.atoms.now c.value
         ≡ spec.claim chosen.now.atoms.now path.now (
-        post.part chosen.now.update (forms_of chosen.now.formulas.now) place.now.outer (tree_of place.now.entry) (layer_seen y.now) (layers_seen ys.now) (indexes.Next y.now.over)) (
+        post.part chosen.now.update (forms_of chosen.now.formulas.now) place.now.outer (tree_of place.now.entry.value) (layer_seen y.now) (layers_seen ys.now) (indexes.Next y.now.over)) (
         post.whole chosen.now.update (forms_of chosen.now.formulas.now) (place.now.outer ++ y.now.over ∷ []) (
-        post.part chosen.now.update (forms_of chosen.now.formulas.now) place.now.outer (tree_of place.now.entry) (layer_seen y.now) (layers_seen ys.now) (indexes.At y.now.over)) (layers_seen ys.now))) }
+        post.part chosen.now.update (forms_of chosen.now.formulas.now) place.now.outer (tree_of place.now.entry.value) (layer_seen y.now) (layers_seen ys.now) (indexes.At y.now.over)) (layers_seen ys.now))) }
 {
-    let facts = literals(alloc, path)?;
     let advanced = turns(alloc, chosen, place, y, ys, Index::Next(y.over))?;
     let inside = with_loop(alloc, place.outer.as_slice(), y.over)?;
     let before = turns(alloc, chosen, place, y, ys, Index::At(y.over))?;
@@ -118,11 +131,7 @@ pub fn true_step(
         before,
         ys,
     )?;
-    Ok(Condition {
-        facts,
-        left: advanced,
-        right,
-    })
+    by_path(alloc, path, advanced, right)
 }
 
 /// What a turn does in which the guard fails, by a way to the level and one of the guard's paths.
@@ -133,17 +142,16 @@ pub fn false_step(
     y: &Level,
     ys: &[Level],
     path: &[(u32, bool)],
-) -> Result<Condition, NoMemory>
+) -> Result<Box<Condition>, NoMemory>
     ensures { IfOk result (λ c.
-        claim_over chosen.now.atoms.now c
+        claim_over chosen.now.atoms.now c.value
         ≡ spec.claim chosen.now.atoms.now path.now (
-        post.part chosen.now.update (forms_of chosen.now.formulas.now) place.now.outer (tree_of place.now.entry) (layer_seen y.now) (layers_seen ys.now) (indexes.Next y.now.over)) (
-        post.part chosen.now.update (forms_of chosen.now.formulas.now) place.now.outer (tree_of place.now.entry) (layer_seen y.now) (layers_seen ys.now) (indexes.At y.now.over))) }
+        post.part chosen.now.update (forms_of chosen.now.formulas.now) place.now.outer (tree_of place.now.entry.value) (layer_seen y.now) (layers_seen ys.now) (indexes.Next y.now.over)) (
+        post.part chosen.now.update (forms_of chosen.now.formulas.now) place.now.outer (tree_of place.now.entry.value) (layer_seen y.now) (layers_seen ys.now) (indexes.At y.now.over))) }
 {
-    let facts = literals(alloc, path)?;
     let left = turns(alloc, chosen, place, y, ys, Index::Next(y.over))?;
     let right = turns(alloc, chosen, place, y, ys, Index::At(y.over))?;
-    Ok(Condition { facts, left, right })
+    by_path(alloc, path, left, right)
 }
 
 /// What is so after a level's last turn, by a way to the level.
@@ -154,15 +162,14 @@ pub fn at_exit(
     y: &Level,
     ys: &[Level],
     way: &[(u32, bool)],
-) -> Result<Condition, NoMemory>
+) -> Result<Box<Condition>, NoMemory>
     ensures { IfOk result (λ c.
-        claim_over chosen.now.atoms.now c
-        ≡ spec.exit chosen.now.atoms.now chosen.now.update (forms_of chosen.now.formulas.now) place.now.outer (tree_of place.now.entry) (layer_seen y.now) (layers_seen ys.now) way.now) }
+        claim_over chosen.now.atoms.now c.value
+        ≡ spec.exit chosen.now.atoms.now chosen.now.update (forms_of chosen.now.formulas.now) place.now.outer (tree_of place.now.entry.value) (layer_seen y.now) (layers_seen ys.now) way.now) }
 {
-    let facts = literals(alloc, way)?;
     let left = turns(alloc, chosen, place, y, ys, Index::Len(y.over))?;
-    let start = copy_term(alloc, &place.entry)?;
+    let start = copy_boxed_term(alloc, &place.entry)?;
     let outer = place.outer.as_slice();
     let right = whole_level(alloc, chosen.update, chosen.formulas, outer, start, y, ys)?;
-    Ok(Condition { facts, left, right })
+    by_path(alloc, way, left, right)
 }

@@ -22,7 +22,7 @@ use tor_terms::{Atoms, Formula};
 /// The condition that is looked for, or how many of those that come later are to be passed over.
 #[derive(Drop)]
 pub enum Sought {
-    Here(Condition),
+    Here(Box<Condition>),
     Left(usize),
 }
 
@@ -37,7 +37,7 @@ fn entry(
 ) -> Result<Sought, NoMemory>
     ensures { IfOk result (λ s.
         sought_seen chosen.now.atoms.now s
-        ≡ sought (spec.entry chosen.now.atoms.now chosen.now.update (forms_of chosen.now.formulas.now) place.now.outer (tree_of place.now.entry) (layer_seen y.now) (layers_seen ys.now) way.now ∷ []) n) }
+        ≡ sought (spec.entry chosen.now.atoms.now chosen.now.update (forms_of chosen.now.formulas.now) place.now.outer (tree_of place.now.entry.value) (layer_seen y.now) (layers_seen ys.now) way.now ∷ []) n) }
 {
     if n > 0 {
         return Ok(Sought::Left(n - 1));
@@ -57,7 +57,7 @@ fn true_steps(
 ) -> Result<Sought, NoMemory>
     ensures { IfOk result (λ s.
         sought_seen chosen.now.atoms.now s
-        ≡ sought (spec.true_steps chosen.now.atoms.now chosen.now.update (forms_of chosen.now.formulas.now) place.now.outer (tree_of place.now.entry) (layer_seen y.now) (layers_seen ys.now) way.now) n) }
+        ≡ sought (spec.true_steps chosen.now.atoms.now chosen.now.update (forms_of chosen.now.formulas.now) place.now.outer (tree_of place.now.entry.value) (layer_seen y.now) (layers_seen ys.now) way.now) n) }
 {
     let passes = guard_paths(alloc, &y.guard, true)?;
     match passes.as_slice().get(n) {
@@ -81,7 +81,7 @@ fn false_steps(
 ) -> Result<Sought, NoMemory>
     ensures { IfOk result (λ s.
         sought_seen chosen.now.atoms.now s
-        ≡ sought (spec.false_steps chosen.now.atoms.now chosen.now.update (forms_of chosen.now.formulas.now) place.now.outer (tree_of place.now.entry) (layer_seen y.now) (layers_seen ys.now) way.now) n) }
+        ≡ sought (spec.false_steps chosen.now.atoms.now chosen.now.update (forms_of chosen.now.formulas.now) place.now.outer (tree_of place.now.entry.value) (layer_seen y.now) (layers_seen ys.now) way.now) n) }
 {
     let fails = guard_paths(alloc, &y.guard, false)?;
     match fails.as_slice().get(n) {
@@ -105,7 +105,7 @@ fn exit(
 ) -> Result<Sought, NoMemory>
     ensures { IfOk result (λ s.
         sought_seen chosen.now.atoms.now s
-        ≡ sought (spec.exit chosen.now.atoms.now chosen.now.update (forms_of chosen.now.formulas.now) place.now.outer (tree_of place.now.entry) (layer_seen y.now) (layers_seen ys.now) way.now ∷ []) n) }
+        ≡ sought (spec.exit chosen.now.atoms.now chosen.now.update (forms_of chosen.now.formulas.now) place.now.outer (tree_of place.now.entry.value) (layer_seen y.now) (layers_seen ys.now) way.now ∷ []) n) }
 {
     if n > 0 {
         return Ok(Sought::Left(n - 1));
@@ -125,7 +125,7 @@ fn at_level(
 ) -> Result<Sought, NoMemory>
     ensures { IfOk result (λ s.
         sought_seen chosen.now.atoms.now s
-        ≡ sought (spec.at_level chosen.now.atoms.now chosen.now.update (forms_of chosen.now.formulas.now) place.now.outer (tree_of place.now.entry) (layer_seen y.now) (layers_seen ys.now) way.now) n) }
+        ≡ sought (spec.at_level chosen.now.atoms.now chosen.now.update (forms_of chosen.now.formulas.now) place.now.outer (tree_of place.now.entry.value) (layer_seen y.now) (layers_seen ys.now) way.now) n) }
 {
     match entry(alloc, chosen, place, y, ys, way, n)? {
         Sought::Here(c) => Ok(Sought::Here(c)),
@@ -150,7 +150,7 @@ fn in_level(
 ) -> Result<Sought, NoMemory>
     ensures { IfOk result (λ s.
         sought_seen chosen.now.atoms.now s
-        ≡ sought (spec.level chosen.now.atoms.now chosen.now.update (forms_of chosen.now.formulas.now) place.now.outer ways.now (tree_of place.now.entry) (layer_seen y.now) (layers_seen ys.now)) n) }
+        ≡ sought (spec.level chosen.now.atoms.now chosen.now.update (forms_of chosen.now.formulas.now) place.now.outer ways.now (tree_of place.now.entry.value) (layer_seen y.now) (layers_seen ys.now)) n) }
 {
     let mut left = n;
     for way in ways {
@@ -173,7 +173,7 @@ fn inside(
     requires { length place.now.outer + length ys.now ≤ 3 }
     ensures { IfOk result (λ s.
         sought_seen chosen.now.atoms.now s
-        ≡ sought (spec.conditions_in chosen.now.atoms.now chosen.now.update (forms_of chosen.now.formulas.now) place.now.outer ways.now (tree_of place.now.entry) (layers_seen ys.now)) n) }
+        ≡ sought (spec.conditions_in chosen.now.atoms.now chosen.now.update (forms_of chosen.now.formulas.now) place.now.outer ways.now (tree_of place.now.entry.value) (layers_seen ys.now)) n) }
 {
     match ys.split_first() {
         None => Ok(Sought::Left(n)),
@@ -243,7 +243,7 @@ pub fn own_condition(
     ensures { IfOk result (λ o. option_map (claim_over atoms.now) o ≡ slice_get (spec.own_conditions atoms.now (accumulator a.now, forms_of choice.now)) n) }
 {
     match own_sought(alloc, atoms, a, choice, n)? {
-        Sought::Here(c) => Ok(Some(c)),
+        Sought::Here(c) => Ok(Some(Box::into_inner(c))),
         Sought::Left(_) => Ok(None),
     }
 }

@@ -13,7 +13,7 @@ ghost use Rattle.vc_gen.specs.Levels.{layer_seen, layers_seen};
 use crate::condition::{Chosen, Place, at_entry, at_exit, false_step, true_step, with_loop};
 use crate::level::{Level, first_levels, last_levels, levels, loops};
 use crate::paths::{Path, Paths, each_with, empty_path, guard_paths, joined};
-use crate::terms::start_term;
+use crate::terms::{boxed, start_term};
 use kernel_lang::Acc;
 use qbs_base::{Items, NoMemory, Scalar};
 use std::alloc::Global;
@@ -35,10 +35,10 @@ fn add_entry(
     ensures { IfOk result (λ _.
         claims_over chosen.now.atoms.now all.new
         ≡ claims_over chosen.now.atoms.now all.old
-        ++ spec.entry chosen.now.atoms.now chosen.now.update (forms_of chosen.now.formulas.now) place.now.outer (tree_of place.now.entry) (layer_seen y.now) (layers_seen ys.now) way.now ∷ []) }
+        ++ spec.entry chosen.now.atoms.now chosen.now.update (forms_of chosen.now.formulas.now) place.now.outer (tree_of place.now.entry.value) (layer_seen y.now) (layers_seen ys.now) way.now ∷ []) }
 {
     let condition = at_entry(alloc, chosen, place, y, ys, way)?;
-    all.push(condition)
+    all.push(Box::into_inner(condition))
 }
 
 fn add_passes(
@@ -55,13 +55,13 @@ fn add_passes(
         claims_over chosen.now.atoms.now all.new
         ≡ claims_over chosen.now.atoms.now all.old
         ++ spec.by_paths chosen.now.atoms.now way.now (
-        post.part chosen.now.update (forms_of chosen.now.formulas.now) place.now.outer (tree_of place.now.entry) (layer_seen y.now) (layers_seen ys.now) (indexes.Next y.now.over)) (
-        post.whole chosen.now.update (forms_of chosen.now.formulas.now) (place.now.outer ++ y.now.over ∷ []) (post.part chosen.now.update (forms_of chosen.now.formulas.now) place.now.outer (tree_of place.now.entry) (layer_seen y.now) (layers_seen ys.now) (indexes.At y.now.over)) (layers_seen ys.now)) passes.now) }
+        post.part chosen.now.update (forms_of chosen.now.formulas.now) place.now.outer (tree_of place.now.entry.value) (layer_seen y.now) (layers_seen ys.now) (indexes.Next y.now.over)) (
+        post.whole chosen.now.update (forms_of chosen.now.formulas.now) (place.now.outer ++ y.now.over ∷ []) (post.part chosen.now.update (forms_of chosen.now.formulas.now) place.now.outer (tree_of place.now.entry.value) (layer_seen y.now) (layers_seen ys.now) (indexes.At y.now.over)) (layers_seen ys.now)) passes.now) }
 {
     for path in passes {
         let tests = joined(alloc, way, path.as_slice())?;
         let condition = true_step(alloc, chosen, place, y, ys, tests.as_slice())?;
-        all.push(condition)?;
+        all.push(Box::into_inner(condition))?;
     }
     Ok(())
 }
@@ -78,7 +78,7 @@ fn add_true_steps(
     ensures { IfOk result (λ _.
         claims_over chosen.now.atoms.now all.new
         ≡ claims_over chosen.now.atoms.now all.old
-        ++ spec.true_steps chosen.now.atoms.now chosen.now.update (forms_of chosen.now.formulas.now) place.now.outer (tree_of place.now.entry) (layer_seen y.now) (layers_seen ys.now) way.now) }
+        ++ spec.true_steps chosen.now.atoms.now chosen.now.update (forms_of chosen.now.formulas.now) place.now.outer (tree_of place.now.entry.value) (layer_seen y.now) (layers_seen ys.now) way.now) }
 {
     let passes = guard_paths(alloc, &y.guard, true)?;
     add_passes(alloc, chosen, place, y, ys, way, passes.as_slice(), all)
@@ -98,13 +98,13 @@ fn add_fails(
         claims_over chosen.now.atoms.now all.new
         ≡ claims_over chosen.now.atoms.now all.old
         ++ spec.by_paths chosen.now.atoms.now way.now (
-        post.part chosen.now.update (forms_of chosen.now.formulas.now) place.now.outer (tree_of place.now.entry) (layer_seen y.now) (layers_seen ys.now) (indexes.Next y.now.over)) (
-        post.part chosen.now.update (forms_of chosen.now.formulas.now) place.now.outer (tree_of place.now.entry) (layer_seen y.now) (layers_seen ys.now) (indexes.At y.now.over)) fails.now) }
+        post.part chosen.now.update (forms_of chosen.now.formulas.now) place.now.outer (tree_of place.now.entry.value) (layer_seen y.now) (layers_seen ys.now) (indexes.Next y.now.over)) (
+        post.part chosen.now.update (forms_of chosen.now.formulas.now) place.now.outer (tree_of place.now.entry.value) (layer_seen y.now) (layers_seen ys.now) (indexes.At y.now.over)) fails.now) }
 {
     for path in fails {
         let tests = joined(alloc, way, path.as_slice())?;
         let condition = false_step(alloc, chosen, place, y, ys, tests.as_slice())?;
-        all.push(condition)?;
+        all.push(Box::into_inner(condition))?;
     }
     Ok(())
 }
@@ -121,7 +121,7 @@ fn add_false_steps(
     ensures { IfOk result (λ _.
         claims_over chosen.now.atoms.now all.new
         ≡ claims_over chosen.now.atoms.now all.old
-        ++ spec.false_steps chosen.now.atoms.now chosen.now.update (forms_of chosen.now.formulas.now) place.now.outer (tree_of place.now.entry) (layer_seen y.now) (layers_seen ys.now) way.now) }
+        ++ spec.false_steps chosen.now.atoms.now chosen.now.update (forms_of chosen.now.formulas.now) place.now.outer (tree_of place.now.entry.value) (layer_seen y.now) (layers_seen ys.now) way.now) }
 {
     let fails = guard_paths(alloc, &y.guard, false)?;
     add_fails(alloc, chosen, place, y, ys, way, fails.as_slice(), all)
@@ -139,10 +139,10 @@ fn add_exit(
     ensures { IfOk result (λ _.
         claims_over chosen.now.atoms.now all.new
         ≡ claims_over chosen.now.atoms.now all.old
-        ++ spec.exit chosen.now.atoms.now chosen.now.update (forms_of chosen.now.formulas.now) place.now.outer (tree_of place.now.entry) (layer_seen y.now) (layers_seen ys.now) way.now ∷ []) }
+        ++ spec.exit chosen.now.atoms.now chosen.now.update (forms_of chosen.now.formulas.now) place.now.outer (tree_of place.now.entry.value) (layer_seen y.now) (layers_seen ys.now) way.now ∷ []) }
 {
     let condition = at_exit(alloc, chosen, place, y, ys, way)?;
-    all.push(condition)
+    all.push(Box::into_inner(condition))
 }
 
 fn add_at_level(
@@ -157,7 +157,7 @@ fn add_at_level(
     ensures { IfOk result (λ _.
         claims_over chosen.now.atoms.now all.new
         ≡ claims_over chosen.now.atoms.now all.old
-        ++ spec.at_level chosen.now.atoms.now chosen.now.update (forms_of chosen.now.formulas.now) place.now.outer (tree_of place.now.entry) (layer_seen y.now) (layers_seen ys.now) way.now) }
+        ++ spec.at_level chosen.now.atoms.now chosen.now.update (forms_of chosen.now.formulas.now) place.now.outer (tree_of place.now.entry.value) (layer_seen y.now) (layers_seen ys.now) way.now) }
 {
     add_entry(alloc, chosen, place, y, ys, way, all)?;
     add_true_steps(alloc, chosen, place, y, ys, way, all)?;
@@ -177,7 +177,7 @@ fn add_level(
     ensures { IfOk result (λ _.
         claims_over chosen.now.atoms.now all.new
         ≡ claims_over chosen.now.atoms.now all.old
-        ++ spec.level chosen.now.atoms.now chosen.now.update (forms_of chosen.now.formulas.now) place.now.outer ways.now (tree_of place.now.entry) (layer_seen y.now) (layers_seen ys.now)) }
+        ++ spec.level chosen.now.atoms.now chosen.now.update (forms_of chosen.now.formulas.now) place.now.outer ways.now (tree_of place.now.entry.value) (layer_seen y.now) (layers_seen ys.now)) }
 {
     for way in ways {
         add_at_level(alloc, chosen, place, y, ys, way.as_slice(), all)?;
@@ -189,10 +189,10 @@ fn add_level(
 pub fn place_inside(alloc: Global, place: &Place, over: u32) -> Result<Place, NoMemory>
     requires { length place.now.outer ≤ 3 }
     ensures outer { IfOk result (λ inner. inner.outer ≡ place.now.outer ++ over ∷ []) }
-    ensures entry { IfOk result (λ inner. tree_of inner.entry ≡ plain.Hold (length place.now.outer + 2)) }
+    ensures entry { IfOk result (λ inner. tree_of inner.entry.value ≡ plain.Hold (length place.now.outer + 2)) }
 {
     let outer = with_loop(alloc, place.outer.as_slice(), over)?;
-    let entry = Term::Hold(place.outer.len() as u32 + 2);
+    let entry = boxed(alloc, Term::Hold(place.outer.len() as u32 + 2))?;
     Ok(Place { outer, entry })
 }
 
@@ -203,11 +203,11 @@ pub fn first_place(
     outside: &[Level],
 ) -> Result<Place, NoMemory>
     ensures outer { IfOk result (λ place. place.outer ≡ loops_of (layers_seen outside.now)) }
-    ensures entry { IfOk result (λ place. tree_of place.entry ≡ post.start_term start.now) }
+    ensures entry { IfOk result (λ place. tree_of place.entry.value ≡ post.start_term start.now) }
     ensures length { IfOk result (λ place. length place.outer ≡ length outside.now) }
 {
     let outer = loops(alloc, outside)?;
-    let entry = start_term(start)?;
+    let entry = start_term(alloc, start)?;
     Ok(Place { outer, entry })
 }
 
@@ -223,7 +223,7 @@ fn add_inside(
     ensures { IfOk result (λ _.
         claims_over chosen.now.atoms.now all.new
         ≡ claims_over chosen.now.atoms.now all.old
-        ++ spec.conditions_in chosen.now.atoms.now chosen.now.update (forms_of chosen.now.formulas.now) place.now.outer ways.now (tree_of place.now.entry) (layers_seen ys.now)) }
+        ++ spec.conditions_in chosen.now.atoms.now chosen.now.update (forms_of chosen.now.formulas.now) place.now.outer ways.now (tree_of place.now.entry.value) (layers_seen ys.now)) }
 {
     match ys.split_first() {
         None => Ok(()),

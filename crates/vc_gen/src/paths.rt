@@ -50,6 +50,13 @@ pub fn each_with(alloc: Global, ps: &[Path], qs: &[Path]) -> Result<Paths, NoMem
     Ok(all)
 }
 
+// Each of `ps` followed by each of `qs`, which aren't kept.
+fn combined(alloc: Global, ps: Paths, qs: Paths) -> Result<Paths, NoMemory>
+    ensures { IfOk result (λ r. r ≡ spec.each_with ps qs) }
+{
+    each_with(alloc, ps.as_slice(), qs.as_slice())
+}
+
 fn followed(ps: Paths, qs: Paths) -> Result<Paths, NoMemory>
     ensures { IfOk result (λ r. r ≡ ps ++ qs) }
 {
@@ -57,6 +64,14 @@ fn followed(ps: Paths, qs: Paths) -> Result<Paths, NoMemory>
     let mut more = qs.into_vec();
     all.append(&mut more)?;
     Ok(Items::from_vec(all))
+}
+
+// These paths, and then each of `first` followed by each of `second`.
+fn and_combined(alloc: Global, alone: Paths, first: Paths, second: Paths) -> Result<Paths, NoMemory>
+    ensures { IfOk result (λ r. r ≡ alone ++ spec.each_with first second) }
+{
+    let both = combined(alloc, first, second)?;
+    followed(alone, both)
 }
 
 fn one_path(alloc: Global, atom: u32, holds: bool) -> Result<Paths, NoMemory>
@@ -88,15 +103,12 @@ pub fn paths(alloc: Global, f: &Formula, want: bool) -> Result<Paths, NoMemory>
             if want {
                 let first = paths(alloc, g, true)?;
                 let second = paths(alloc, h, true)?;
-                each_with(alloc, first.as_slice(), second.as_slice())
+                combined(alloc, first, second)
             } else {
                 let fails = paths(alloc, g, false)?;
                 let first = paths(alloc, g, true)?;
                 let others = paths(alloc, h, false)?;
-                followed(
-                    fails,
-                    each_with(alloc, first.as_slice(), others.as_slice())?,
-                )
+                and_combined(alloc, fails, first, others)
             }
         }
         Formula::Either(g, h) => {
@@ -104,14 +116,11 @@ pub fn paths(alloc: Global, f: &Formula, want: bool) -> Result<Paths, NoMemory>
                 let holds = paths(alloc, g, true)?;
                 let first = paths(alloc, g, false)?;
                 let second = paths(alloc, h, true)?;
-                followed(
-                    holds,
-                    each_with(alloc, first.as_slice(), second.as_slice())?,
-                )
+                and_combined(alloc, holds, first, second)
             } else {
                 let first = paths(alloc, g, false)?;
                 let second = paths(alloc, h, false)?;
-                each_with(alloc, first.as_slice(), second.as_slice())
+                combined(alloc, first, second)
             }
         }
     }

@@ -9,145 +9,148 @@ use crate::level::Level;
 use kernel_lang::Update;
 use qbs_base::{Items, NoMemory, Scalar};
 use std::alloc::Global;
-use tor_terms::{Elem, Formula, Index, Term, Way, copy_formulas, copy_term};
+use tor_terms::{Elem, Formula, Index, Term, Way, copy_boxed_term, copy_formulas};
 
-fn join(alloc: Global, first: Term, second: Term) -> Result<Term, NoMemory>
-    ensures { IfOk result (λ t. tree_of t ≡ plain.Join (tree_of first) (tree_of second)) }
+/// A value in a box.
+pub fn boxed<T: Drop>(alloc: Global, value: T) -> Result<Box<T>, NoMemory>
+    ensures { IfOk result (λ b. b.value ≡ value) }
 {
-    Ok(Term::Join(Box::new(alloc, first)?, Box::new(alloc, second)?))
+    Ok(Box::new(alloc, value)?)
 }
 
-fn nest_walks(alloc: Global, x: Term, inner: &[Level]) -> Result<Term, NoMemory>
-    ensures { IfOk result (λ t. tree_of t ≡ spec.nest_walks (tree_of x) (spec.loops_of (layers_seen inner.now))) }
+fn nest_walks(alloc: Global, x: Box<Term>, inner: &[Level]) -> Result<Box<Term>, NoMemory>
+    ensures { IfOk result (λ t. tree_of t.value ≡ spec.nest_walks (tree_of x.value) (spec.loops_of (layers_seen inner.now))) }
 {
     match inner.split_first() {
         None => Ok(x),
         Some((y, rest)) => {
-            let more = nest_walks(alloc, Term::Walk(y.over), rest)?;
-            join(alloc, x, more)
+            let next = boxed(alloc, Term::Walk(y.over))?;
+            let more = nest_walks(alloc, next, rest)?;
+            boxed(alloc, Term::Join(x, more))
         }
     }
 }
 
-fn nest_ones(alloc: Global, outer: &[u32], x: Term) -> Result<Term, NoMemory>
-    ensures { IfOk result (λ t. tree_of t ≡ spec.nest_ones outer.now (tree_of x)) }
+fn one(alloc: Global, over: u32) -> Result<Box<Term>, NoMemory>
+    ensures { IfOk result (λ t. tree_of t.value ≡ plain.One (over ∷ [])) }
+{
+    let mut loops = Items::new(alloc);
+    loops.push(over)?;
+    boxed(alloc, Term::One(loops))
+}
+
+fn nest_ones(alloc: Global, outer: &[u32], x: Box<Term>) -> Result<Box<Term>, NoMemory>
+    ensures { IfOk result (λ t. tree_of t.value ≡ spec.nest_ones outer.now (tree_of x.value)) }
 {
     match outer.split_first() {
         None => Ok(x),
         Some((j, rest)) => {
-            let mut one = Items::new(alloc);
-            one.push(*j)?;
+            let first = one(alloc, *j)?;
             let more = nest_ones(alloc, rest, x)?;
-            join(alloc, Term::One(one), more)
+            boxed(alloc, Term::Join(first, more))
         }
     }
+}
+
+fn selected(alloc: Global, fs: &[Formula], tuples: Box<Term>) -> Result<Box<Term>, NoMemory>
+    ensures { IfOk result (λ t. tree_of t.value ≡ plain.Sel (forms_of fs.now) (tree_of tuples.value)) }
+{
+    let tests = copy_formulas(alloc, fs)?;
+    boxed(alloc, Term::Sel(tests, tuples))
 }
 
 fn body(
     alloc: Global,
     fs: &[Formula],
     outer: &[u32],
-    x: Term,
+    x: Box<Term>,
     inner: &[Level],
-) -> Result<Term, NoMemory>
-    ensures { IfOk result (λ t. tree_of t ≡ spec.body (forms_of fs.now) outer.now (tree_of x) (spec.loops_of (layers_seen inner.now))) }
+) -> Result<Box<Term>, NoMemory>
+    ensures { IfOk result (λ t. tree_of t.value ≡ spec.body (forms_of fs.now) outer.now (tree_of x.value) (spec.loops_of (layers_seen inner.now))) }
 {
-    let tests = copy_formulas(alloc, fs)?;
     let walks = nest_walks(alloc, x, inner)?;
     let nest = nest_ones(alloc, outer, walks)?;
-    Ok(Term::Sel(tests, Box::new(alloc, nest)?))
+    selected(alloc, fs, nest)
 }
 
-fn elements(alloc: Global, e: Elem, tuples: Term) -> Result<Term, NoMemory>
-    ensures { IfOk result (λ t. tree_of t ≡ plain.Proj e (tree_of tuples)) }
+fn count(alloc: Global, w: Box<Term>, tuples: Box<Term>) -> Result<Box<Term>, NoMemory>
+    ensures { IfOk result (λ t. tree_of t.value ≡ plain.Add (tree_of w.value) (plain.Count (tree_of tuples.value))) }
 {
-    Ok(Term::Proj(e, Box::new(alloc, tuples)?))
+    let number = boxed(alloc, Term::Count(tuples))?;
+    boxed(alloc, Term::Add(w, number))
 }
 
-fn cat(alloc: Global, first: Term, second: Term) -> Result<Term, NoMemory>
-    ensures { IfOk result (λ t. tree_of t ≡ plain.Cat (tree_of first) (tree_of second)) }
+fn sum(alloc: Global, w: Box<Term>, items: Box<Term>) -> Result<Box<Term>, NoMemory>
+    ensures { IfOk result (λ t. tree_of t.value ≡ plain.Add (tree_of w.value) (plain.Sum (tree_of items.value))) }
 {
-    Ok(Term::Cat(Box::new(alloc, first)?, Box::new(alloc, second)?))
+    let total = boxed(alloc, Term::Sum(items))?;
+    boxed(alloc, Term::Add(w, total))
 }
 
-fn add(alloc: Global, first: Term, second: Term) -> Result<Term, NoMemory>
-    ensures { IfOk result (λ t. tree_of t ≡ plain.Add (tree_of first) (tree_of second)) }
+fn any(alloc: Global, w: Box<Term>, tuples: Box<Term>) -> Result<Box<Term>, NoMemory>
+    ensures { IfOk result (λ t. tree_of t.value ≡ plain.Or (tree_of w.value) (plain.Any (tree_of tuples.value))) }
 {
-    Ok(Term::Add(Box::new(alloc, first)?, Box::new(alloc, second)?))
+    let some = boxed(alloc, Term::Any(tuples))?;
+    boxed(alloc, Term::Or(w, some))
 }
 
-fn count(alloc: Global, w: Term, tuples: Term) -> Result<Term, NoMemory>
-    ensures { IfOk result (λ t. tree_of t ≡ plain.Add (tree_of w) (plain.Count (tree_of tuples))) }
-{
-    add(alloc, w, Term::Count(Box::new(alloc, tuples)?))
-}
-
-fn sum(alloc: Global, e: Elem, w: Term, tuples: Term) -> Result<Term, NoMemory>
-    ensures { IfOk result (λ t. tree_of t ≡ plain.Add (tree_of w) (plain.Sum (plain.Proj e (tree_of tuples)))) }
-{
-    let items = elements(alloc, e, tuples)?;
-    add(alloc, w, Term::Sum(Box::new(alloc, items)?))
-}
-
-fn best(alloc: Global, way: Way, e: Elem, w: Term, tuples: Term) -> Result<Term, NoMemory>
-    ensures { IfOk result (λ t. tree_of t ≡ plain.Best way (tree_of w) (plain.Proj e (tree_of tuples))) }
-{
-    let items = elements(alloc, e, tuples)?;
-    Ok(Term::Best(way, Box::new(alloc, w)?, Box::new(alloc, items)?))
-}
-
-fn any(alloc: Global, w: Term, tuples: Term) -> Result<Term, NoMemory>
-    ensures { IfOk result (λ t. tree_of t ≡ plain.Or (tree_of w) (plain.Any (tree_of tuples))) }
-{
-    let some = Term::Any(Box::new(alloc, tuples)?);
-    Ok(Term::Or(Box::new(alloc, w)?, Box::new(alloc, some)?))
-}
-
-fn val(alloc: Global, u: Update, w: Term, tuples: Term) -> Result<Term, NoMemory>
-    ensures { IfOk result (λ t. tree_of t ≡ spec.val u (tree_of w) (tree_of tuples)) }
+fn val(alloc: Global, u: Update, w: Box<Term>, tuples: Box<Term>) -> Result<Box<Term>, NoMemory>
+    ensures { IfOk result (λ t. tree_of t.value ≡ spec.val u (tree_of w.value) (tree_of tuples.value)) }
 {
     match u {
         Update::Push(e) => {
-            let items = elements(alloc, e, tuples)?;
-            cat(alloc, w, items)
+            let items = boxed(alloc, Term::Proj(e, tuples))?;
+            boxed(alloc, Term::Cat(w, items))
         }
         Update::PushNew(e) => {
-            let items = elements(alloc, e, tuples)?;
-            Ok(Term::Uniq(Box::new(alloc, items)?))
+            let items = boxed(alloc, Term::Proj(e, tuples))?;
+            boxed(alloc, Term::Uniq(items))
         }
         Update::Tick => count(alloc, w, tuples),
-        Update::Plus(e) => sum(alloc, e, w, tuples),
-        Update::Best(way, e) => best(alloc, way, e, w, tuples),
+        Update::Plus(e) => {
+            let items = boxed(alloc, Term::Proj(e, tuples))?;
+            sum(alloc, w, items)
+        }
+        Update::Best(way, e) => {
+            let items = boxed(alloc, Term::Proj(e, tuples))?;
+            boxed(alloc, Term::Best(way, w, items))
+        }
         Update::Mark => any(alloc, w, tuples),
     }
 }
 
-fn pick(alloc: Global, way: Way, e: Elem, w: Term) -> Result<Term, NoMemory>
-    ensures { IfOk result (λ t. tree_of t ≡ plain.Pick way (tree_of w) (plain.Item e)) }
-{
-    Ok(Term::Pick(way, Box::new(alloc, w)?, Box::new(alloc, Term::Item(e))?))
-}
-
-fn effect(alloc: Global, u: Update, w: Term) -> Result<Term, NoMemory>
-    ensures { IfOk result (λ t. tree_of t ≡ spec.effect u (tree_of w)) }
+fn effect(alloc: Global, u: Update, w: Box<Term>) -> Result<Box<Term>, NoMemory>
+    ensures { IfOk result (λ t. tree_of t.value ≡ spec.effect u (tree_of w.value)) }
 {
     match u {
-        Update::Push(e) => cat(alloc, w, Term::Unit(e)),
-        Update::PushNew(e) => Ok(Term::Insert(Box::new(alloc, w)?, e)),
-        Update::Tick => add(alloc, w, Term::Lit(Scalar::Long(1))),
-        Update::Plus(e) => add(alloc, w, Term::Item(e)),
-        Update::Best(way, e) => pick(alloc, way, e, w),
-        Update::Mark => Ok(Term::Lit(Scalar::Bool(true))),
+        Update::Push(e) => {
+            let one = boxed(alloc, Term::Unit(e))?;
+            boxed(alloc, Term::Cat(w, one))
+        }
+        Update::PushNew(e) => boxed(alloc, Term::Insert(w, e)),
+        Update::Tick => {
+            let one = boxed(alloc, Term::Lit(Scalar::Long(1)))?;
+            boxed(alloc, Term::Add(w, one))
+        }
+        Update::Plus(e) => {
+            let item = boxed(alloc, Term::Item(e))?;
+            boxed(alloc, Term::Add(w, item))
+        }
+        Update::Best(way, e) => {
+            let item = boxed(alloc, Term::Item(e))?;
+            boxed(alloc, Term::Pick(way, w, item))
+        }
+        Update::Mark => boxed(alloc, Term::Lit(Scalar::Bool(true))),
     }
 }
 
 /// What an accumulator starts with.
-pub fn start_term(start: &Option<Scalar>) -> Result<Term, NoMemory>
-    ensures { IfOk result (λ t. tree_of t ≡ spec.start_term start.now) }
+pub fn start_term(alloc: Global, start: &Option<Scalar>) -> Result<Box<Term>, NoMemory>
+    ensures { IfOk result (λ t. tree_of t.value ≡ spec.start_term start.now) }
 {
     match start {
-        None => Ok(Term::Nil),
-        Some(x) => Ok(Term::Lit(x.clone()?)),
+        None => boxed(alloc, Term::Nil),
+        Some(x) => boxed(alloc, Term::Lit(x.clone()?)),
     }
 }
 
@@ -157,13 +160,14 @@ pub fn whole_level(
     u: Update,
     fs: &[Formula],
     outer: &[u32],
-    w: Term,
+    w: Box<Term>,
     y: &Level,
     ys: &[Level],
-) -> Result<Term, NoMemory>
-    ensures { IfOk result (λ t. tree_of t ≡ spec.whole u (forms_of fs.now) outer.now (tree_of w) (layer_seen y.now ∷ layers_seen ys.now)) }
+) -> Result<Box<Term>, NoMemory>
+    ensures { IfOk result (λ t. tree_of t.value ≡ spec.whole u (forms_of fs.now) outer.now (tree_of w.value) (layer_seen y.now ∷ layers_seen ys.now)) }
 {
-    let tuples = body(alloc, fs, outer, Term::Walk(y.over), ys)?;
+    let all = boxed(alloc, Term::Walk(y.over))?;
+    let tuples = body(alloc, fs, outer, all, ys)?;
     val(alloc, u, w, tuples)
 }
 
@@ -173,10 +177,10 @@ pub fn whole(
     u: Update,
     fs: &[Formula],
     outer: &[u32],
-    w: Term,
+    w: Box<Term>,
     ys: &[Level],
-) -> Result<Term, NoMemory>
-    ensures { IfOk result (λ t. tree_of t ≡ spec.whole u (forms_of fs.now) outer.now (tree_of w) (layers_seen ys.now)) }
+) -> Result<Box<Term>, NoMemory>
+    ensures { IfOk result (λ t. tree_of t.value ≡ spec.whole u (forms_of fs.now) outer.now (tree_of w.value) (layers_seen ys.now)) }
 {
     match ys.split_first() {
         None => effect(alloc, u, w),
@@ -194,11 +198,12 @@ pub fn part(
     y: &Level,
     ys: &[Level],
     index: Index,
-) -> Result<Term, NoMemory>
-    ensures { IfOk result (λ t. tree_of t ≡ spec.part u (forms_of fs.now) outer.now (tree_of w.now) (layer_seen y.now) (layers_seen ys.now) index) }
+) -> Result<Box<Term>, NoMemory>
+    ensures { IfOk result (λ t. tree_of t.value ≡ spec.part u (forms_of fs.now) outer.now (tree_of w.now) (layer_seen y.now) (layers_seen ys.now) index) }
 {
-    let turns = Term::Top(index, Box::new(alloc, Term::Walk(y.over))?);
+    let all = boxed(alloc, Term::Walk(y.over))?;
+    let turns = boxed(alloc, Term::Top(index, all))?;
     let tuples = body(alloc, fs, outer, turns, ys)?;
-    let entry = copy_term(alloc, w)?;
+    let entry = copy_boxed_term(alloc, w)?;
     val(alloc, u, entry, tuples)
 }

@@ -13,7 +13,7 @@ returns-in-Here t c =
     let place = c.args.place.now in
     let y = layer_seen c.in-Some.y.now in
     let ys = layers_seen c.in-Some.rest.now in
-    let own = level chosen.atoms.now chosen.update (forms_of chosen.formulas.now) place.outer c.args.ways.now (tree_of place.entry) y ys in
+    let own = level chosen.atoms.now chosen.update (forms_of chosen.formulas.now) place.outer c.args.ways.now (tree_of place.entry.value) y ys in
     let further = conditions_in chosen.atoms.now chosen.update (forms_of chosen.formulas.now) (place.outer ++ y.over ∷ []) (each_with c.args.ways.now (guard_paths y.guard true)) (Hold (length place.outer + 2)) ys in
     rw c.in-Some.ensures.cases.0 (here_first own further c.args.n _ (sym (ap (sought_seen chosen.atoms.now) c.in-Here.is) ∙ c.in_ok-c-in-Some.ensures))
 
@@ -23,10 +23,10 @@ returns-in_ok-inner-in-Left t c =
     let place = c.args.place.now in
     let y = layer_seen c.in-Some.y.now in
     let ys = layers_seen c.in-Some.rest.now in
-    let own = level chosen.atoms.now chosen.update (forms_of chosen.formulas.now) place.outer c.args.ways.now (tree_of place.entry) y ys in
+    let own = level chosen.atoms.now chosen.update (forms_of chosen.formulas.now) place.outer c.args.ways.now (tree_of place.entry.value) y ys in
     let further = conditions_in chosen.atoms.now chosen.update (forms_of chosen.formulas.now) (place.outer ++ y.over ∷ []) (each_with c.args.ways.now (guard_paths y.guard true)) (Hold (length place.outer + 2)) ys in
     let h = sym (ap (sought_seen chosen.atoms.now) c.in-Left.is) ∙ c.in_ok-c-in-Some.ensures in
     let more = c.as_slice-in-Left.ensures ∙ c.in_ok-more-in-Left.ensures ∙ ap (λ qs. each_with c.args.ways.now qs) (c.as_slice.ensures ∙ c.in_ok-holds-in-Left.ensures) in
-    let same = inside_level chosen.atoms.now chosen.update (forms_of chosen.formulas.now) place.outer c.in_ok-inner-in-Left.inner.outer c.args.ways.now c.as_slice-in-Left.result.now (tree_of c.in_ok-inner-in-Left.inner.entry) y ys c.in_ok-inner-in-Left.ensures.outer more c.in_ok-inner-in-Left.ensures.entry in
+    let same = inside_level chosen.atoms.now chosen.update (forms_of chosen.formulas.now) place.outer c.in_ok-inner-in-Left.inner.outer c.args.ways.now c.as_slice-in-Left.result.now (tree_of c.in_ok-inner-in-Left.inner.entry.value) y ys c.in_ok-inner-in-Left.ensures.outer more c.in_ok-inner-in-Left.ensures.entry in
     let q = ap (λ cs. sought cs c.in-Left.n) same ∙ left_then own further c.args.n c.in-Left.n h in
     rw c.in-Some.ensures.cases.0 (subst (λ x. IfOk c.inside.result (λ s. sought_seen chosen.atoms.now s ≡ x)) q c.inside.ensures)

@@ -8,29 +8,29 @@ use Rattle.vc_gen.proofs.nth.at_level.Goals as goal
 
 pub returns-in-Here-2 : goal.returns-in-Here-2
 returns-in-Here-2 c =
-    let e = entry c.args.chosen.now.atoms.now c.args.chosen.now.update (forms_of c.args.chosen.now.formulas.now) c.args.place.now.outer (tree_of c.args.place.now.entry) (layer_seen c.args.y.now) (layers_seen c.args.ys.now) c.args.way.now in
-    let x = exit c.args.chosen.now.atoms.now c.args.chosen.now.update (forms_of c.args.chosen.now.formulas.now) c.args.place.now.outer (tree_of c.args.place.now.entry) (layer_seen c.args.y.now) (layers_seen c.args.ys.now) c.args.way.now in
-    let ts = true_steps c.args.chosen.now.atoms.now c.args.chosen.now.update (forms_of c.args.chosen.now.formulas.now) c.args.place.now.outer (tree_of c.args.place.now.entry) (layer_seen c.args.y.now) (layers_seen c.args.ys.now) c.args.way.now in
-    let fs = false_steps c.args.chosen.now.atoms.now c.args.chosen.now.update (forms_of c.args.chosen.now.formulas.now) c.args.place.now.outer (tree_of c.args.place.now.entry) (layer_seen c.args.y.now) (layers_seen c.args.ys.now) c.args.way.now in
+    let e = entry c.args.chosen.now.atoms.now c.args.chosen.now.update (forms_of c.args.chosen.now.formulas.now) c.args.place.now.outer (tree_of c.args.place.now.entry.value) (layer_seen c.args.y.now) (layers_seen c.args.ys.now) c.args.way.now in
+    let x = exit c.args.chosen.now.atoms.now c.args.chosen.now.update (forms_of c.args.chosen.now.formulas.now) c.args.place.now.outer (tree_of c.args.place.now.entry.value) (layer_seen c.args.y.now) (layers_seen c.args.ys.now) c.args.way.now in
+    let ts = true_steps c.args.chosen.now.atoms.now c.args.chosen.now.update (forms_of c.args.chosen.now.formulas.now) c.args.place.now.outer (tree_of c.args.place.now.entry.value) (layer_seen c.args.y.now) (layers_seen c.args.ys.now) c.args.way.now in
+    let fs = false_steps c.args.chosen.now.atoms.now c.args.chosen.now.update (forms_of c.args.chosen.now.formulas.now) c.args.place.now.outer (tree_of c.args.place.now.entry.value) (layer_seen c.args.y.now) (layers_seen c.args.ys.now) c.args.way.now in
     let start = sym (ap (sought_seen c.args.chosen.now.atoms.now) c.in-Left.is) ∙ c.in_ok-c.ensures in
     here_true e x ts fs c.args.n c.in-Left.n start _ (sym (ap (sought_seen c.args.chosen.now.atoms.now) c.in-Here-2.is) ∙ c.in_ok-c-in-Left.ensures)
 
 pub returns-in-Here-3 : goal.returns-in-Here-3
 returns-in-Here-3 c =
-    let e = entry c.args.chosen.now.atoms.now c.args.chosen.now.update (forms_of c.args.chosen.now.formulas.now) c.args.place.now.outer (tree_of c.args.place.now.entry) (layer_seen c.args.y.now) (layers_seen c.args.ys.now) c.args.way.now in
-    let x = exit c.args.chosen.now.atoms.now c.args.chosen.now.update (forms_of c.args.chosen.now.formulas.now) c.args.place.now.outer (tree_of c.args.place.now.entry) (layer_seen c.args.y.now) (layers_seen c.args.ys.now) c.args.way.now in
-    let ts = true_steps c.args.chosen.now.atoms.now c.args.chosen.now.update (forms_of c.args.chosen.now.formulas.now) c.args.place.now.outer (tree_of c.args.place.now.entry) (layer_seen c.args.y.now) (layers_seen c.args.ys.now) c.args.way.now in
-    let fs = false_steps c.args.chosen.now.atoms.now c.args.chosen.now.update (forms_of c.args.chosen.now.formulas.now) c.args.place.now.outer (tree_of c.args.place.now.entry) (layer_seen c.args.y.now) (layers_seen c.args.ys.now) c.args.way.now in
+    let e = entry c.args.chosen.now.atoms.now c.args.chosen.now.update (forms_of c.args.chosen.now.formulas.now) c.args.place.now.outer (tree_of c.args.place.now.entry.value) (layer_seen c.args.y.now) (layers_seen c.args.ys.now) c.args.way.now in
+    let x = exit c.args.chosen.now.atoms.now c.args.chosen.now.update (forms_of c.args.chosen.now.formulas.now) c.args.place.now.outer (tree_of c.args.place.now.entry.value) (layer_seen c.args.y.now) (layers_seen c.args.ys.now) c.args.way.now in
+    let ts = true_steps c.args.chosen.now.atoms.now c.args.chosen.now.update (forms_of c.args.chosen.now.formulas.now) c.args.place.now.outer (tree_of c.args.place.now.entry.value) (layer_seen c.args.y.now) (layers_seen c.args.ys.now) c.args.way.now in
+    let fs = false_steps c.args.chosen.now.atoms.now c.args.chosen.now.update (forms_of c.args.chosen.now.formulas.now) c.args.place.now.outer (tree_of c.args.place.now.entry.value) (layer_seen c.args.y.now) (layers_seen c.args.ys.now) c.args.way.now in
     let start = sym (ap (sought_seen c.args.chosen.now.atoms.now) c.in-Left.is) ∙ c.in_ok-c.ensures in
     let passed = sym (ap (sought_seen c.args.chosen.now.atoms.now) c.in-Left-2.is) ∙ c.in_ok-c-in-Left.ensures in
     here_false e x ts fs c.args.n c.in-Left.n start c.in-Left-2.n _ passed (sym (ap (sought_seen c.args.chosen.now.atoms.now) c.in-Here-3.is) ∙ c.in_ok-c-in-Left-2.ensures)
 
 pub returns-in-Left-3 : goal.returns-in-Left-3
 returns-in-Left-3 c =
-    let e = entry c.args.chosen.now.atoms.now c.args.chosen.now.update (forms_of c.args.chosen.now.formulas.now) c.args.place.now.outer (tree_of c.args.place.now.entry) (layer_seen c.args.y.now) (layers_seen c.args.ys.now) c.args.way.now in
-    let x = exit c.args.chosen.now.atoms.now c.args.chosen.now.update (forms_of c.args.chosen.now.formulas.now) c.args.place.now.outer (tree_of c.args.place.now.entry) (layer_seen c.args.y.now) (layers_seen c.args.ys.now) c.args.way.now in
-    let ts = true_steps c.args.chosen.now.atoms.now c.args.chosen.now.update (forms_of c.args.chosen.now.formulas.now) c.args.place.now.outer (tree_of c.args.place.now.entry) (layer_seen c.args.y.now) (layers_seen c.args.ys.now) c.args.way.now in
-    let fs = false_steps c.args.chosen.now.atoms.now c.args.chosen.now.update (forms_of c.args.chosen.now.formulas.now) c.args.place.now.outer (tree_of c.args.place.now.entry) (layer_seen c.args.y.now) (layers_seen c.args.ys.now) c.args.way.now in
+    let e = entry c.args.chosen.now.atoms.now c.args.chosen.now.update (forms_of c.args.chosen.now.formulas.now) c.args.place.now.outer (tree_of c.args.place.now.entry.value) (layer_seen c.args.y.now) (layers_seen c.args.ys.now) c.args.way.now in
+    let x = exit c.args.chosen.now.atoms.now c.args.chosen.now.update (forms_of c.args.chosen.now.formulas.now) c.args.place.now.outer (tree_of c.args.place.now.entry.value) (layer_seen c.args.y.now) (layers_seen c.args.ys.now) c.args.way.now in
+    let ts = true_steps c.args.chosen.now.atoms.now c.args.chosen.now.update (forms_of c.args.chosen.now.formulas.now) c.args.place.now.outer (tree_of c.args.place.now.entry.value) (layer_seen c.args.y.now) (layers_seen c.args.ys.now) c.args.way.now in
+    let fs = false_steps c.args.chosen.now.atoms.now c.args.chosen.now.update (forms_of c.args.chosen.now.formulas.now) c.args.place.now.outer (tree_of c.args.place.now.entry.value) (layer_seen c.args.y.now) (layers_seen c.args.ys.now) c.args.way.now in
     let start = sym (ap (sought_seen c.args.chosen.now.atoms.now) c.in-Left.is) ∙ c.in_ok-c.ensures in
     let passed = sym (ap (sought_seen c.args.chosen.now.atoms.now) c.in-Left-2.is) ∙ c.in_ok-c-in-Left.ensures in
     let failed = sym (ap (sought_seen c.args.chosen.now.atoms.now) c.in-Left-3.is) ∙ c.in_ok-c-in-Left-2.ensures in

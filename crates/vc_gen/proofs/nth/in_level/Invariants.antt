@@ -7,5 +7,5 @@ use Rattle.vc_gen.proofs.nth.in_level.Given as goal
 
 -- the conditions by the ways that are left, with the number that is left
 abbrev pub invariant-loop-way : goal.invariant-loop-way
-invariant-loop-way l = sought (level l.chosen.atoms.now l.chosen.update (forms_of l.chosen.formulas.now) l.place.outer l.ways (tree_of l.place.entry) (layer_seen l.y) (layers_seen l.ys)) l.n
-    ≡ sought (level l.chosen.atoms.now l.chosen.update (forms_of l.chosen.formulas.now) l.place.outer (drop l.way-index l.ways) (tree_of l.place.entry) (layer_seen l.y) (layers_seen l.ys)) l.left
+invariant-loop-way l = sought (level l.chosen.atoms.now l.chosen.update (forms_of l.chosen.formulas.now) l.place.outer l.ways (tree_of l.place.entry.value) (layer_seen l.y) (layers_seen l.ys)) l.n
+    ≡ sought (level l.chosen.atoms.now l.chosen.update (forms_of l.chosen.formulas.now) l.place.outer (drop l.way-index l.ways) (tree_of l.place.entry.value) (layer_seen l.y) (layers_seen l.ys)) l.left

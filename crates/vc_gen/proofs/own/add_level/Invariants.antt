@@ -6,5 +6,5 @@ use Rattle.vc_gen.specs.Levels.{layer_seen, layers_seen}
 use Rattle.vc_gen.proofs.own.add_level.Given as goal
 
 abbrev pub invariant-loop-way : goal.invariant-loop-way
-invariant-loop-way l = claims_over l.chosen.atoms.now l.all ++ level l.chosen.atoms.now l.chosen.update (forms_of l.chosen.formulas.now) l.place.outer (drop l.way-index l.ways) (tree_of l.place.entry) (layer_seen l.y) (layers_seen l.ys)
-    ≡ claims_over l.chosen.atoms.now l.initial.all ++ level l.chosen.atoms.now l.chosen.update (forms_of l.chosen.formulas.now) l.place.outer l.ways (tree_of l.place.entry) (layer_seen l.y) (layers_seen l.ys)
+invariant-loop-way l = claims_over l.chosen.atoms.now l.all ++ level l.chosen.atoms.now l.chosen.update (forms_of l.chosen.formulas.now) l.place.outer (drop l.way-index l.ways) (tree_of l.place.entry.value) (layer_seen l.y) (layers_seen l.ys)
+    ≡ claims_over l.chosen.atoms.now l.initial.all ++ level l.chosen.atoms.now l.chosen.update (forms_of l.chosen.formulas.now) l.place.outer l.ways (tree_of l.place.entry.value) (layer_seen l.y) (layers_seen l.ys)
