@@ -1,3 +1,4 @@
+pub mod Classes
 pub mod Rows
 pub mod Schema
 pub mod Typed

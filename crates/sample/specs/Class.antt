@@ -5,7 +5,7 @@ use Rattle.qbs_base.specs.declared.scalar.Scalar.TheVariants as scalars
 use Rattle.qbs_base.specs.declared.span.Span.{Span}
 use Rattle.java_ast.specs.declared.tree.Access.TheVariants as access
 use Rattle.java_ast.specs.declared.tree.Op.TheVariants as ops
-use Rattle.java_ast.specs.Tree.{Spelled, Long, String, Table, ListOf, SetOf, Expression, Lit, Var, Field, Binary, Fetch, NewList, NewSet, Statement, Declare, Assign, Add, If, ForEach, Return, Nothing, Then, PlainMethod, PlainProgram}
+use Rattle.java_ast.specs.Tree.{Spelled, Long, String, Table, ListOf, SetOf, Expression, Lit, Var, Field, Binary, Fetch, NewList, NewSet, Statement, Declare, Assign, Add, If, ForEach, Return, Statements, Nothing, Then, PlainMethod, PlainProgram}
 use Rattle.sample.specs.Tables.{User, Role}
 
 abbrev pub nowhere : Span
@@ -26,16 +26,20 @@ field row column = Field nowhere (variable row) column
 abbrev pub adding : List ℕ → Expression → Statement
 adding name value = Add nowhere name value
 
+-- a block of one statement
+abbrev pub one : Statement → Statements
+one s = Then s Nothing
+
 -- if (cond) { body }
-abbrev pub where_so : Expression → Statement → Statement
-where_so cond body = If nowhere cond (Then body Nothing)
+abbrev pub where_so : Expression → Statements → Statement
+where_so cond body = If nowhere cond body
 
 -- for (Table row : db.fetch(Table.class)) { body }
-abbrev pub over_rows : List ℕ → List ℕ → Statement → Statement
-over_rows table row body = ForEach nowhere (Table table) row (Fetch nowhere table) (Then body Nothing)
+abbrev pub over_rows : List ℕ → List ℕ → Statements → Statement
+over_rows table row body = ForEach nowhere (Table table) row (Fetch nowhere table) body
 
 -- ty name() { ty x = start; for (User u : db.fetch(User.class)) { body } return x; }
-abbrev pub over_users : Spelled → List ℕ → List ℕ → Expression → Statement → PlainMethod
+abbrev pub over_users : Spelled → List ℕ → List ℕ → Expression → Statements → PlainMethod
 over_users ty name x start body =
     record {
       access = access.Plain;
@@ -43,7 +47,7 @@ over_users ty name x start body =
       result = Some ty;
       name = name;
       params = [];
-      body = Then (Declare nowhere ty x start) (Then (over_rows User (codes "u") body) (Then (Return nowhere (Some (variable x))) Nothing));
+      body = Then (Declare nowhere ty x start) (Then (over_rows User (codes "u") body) (one (Return nowhere (Some (variable x)))));
       span = nowhere;
     }
 
@@ -57,7 +61,7 @@ over_users ty name x start body =
 abbrev pub evens : PlainMethod
 evens =
     over_users (ListOf (Table User)) (codes "evens") (codes "out") (NewList nowhere)
-    (where_so (field (codes "u") (codes "active")) (adding (codes "out") (variable (codes "u"))))
+    (one (where_so (field (codes "u") (codes "active")) (one (adding (codes "out") (variable (codes "u"))))))
 
 -- List<String> pairs() {
 --     List<String> out = new ArrayList<>();
@@ -69,8 +73,8 @@ evens =
 abbrev pub pairs : PlainMethod
 pairs =
     over_users (ListOf String) (codes "pairs") (codes "out") (NewList nowhere)
-    (over_rows Role (codes "r")
-    (where_so (Binary nowhere ops.Eq (field (codes "u") (codes "roleId")) (field (codes "r") (codes "id"))) (adding (codes "out") (field (codes "r") (codes "label")))))
+    (one (over_rows Role (codes "r")
+    (one (where_so (Binary nowhere ops.Eq (field (codes "u") (codes "roleId")) (field (codes "r") (codes "id"))) (one (adding (codes "out") (field (codes "r") (codes "label"))))))))
 
 -- long total() {
 --     long sum = 0;
@@ -80,7 +84,7 @@ pairs =
 abbrev pub total : PlainMethod
 total =
     over_users Long (codes "total") (codes "sum") (Lit nowhere (scalars.Long (pos 0)))
-    (Assign nowhere (codes "sum") (Binary nowhere ops.Add (variable (codes "sum")) (field (codes "u") (codes "age"))))
+    (one (Assign nowhere (codes "sum") (Binary nowhere ops.Add (variable (codes "sum")) (field (codes "u") (codes "age")))))
 
 -- Set<String> names() {
 --     Set<String> out = new LinkedHashSet<>();
@@ -88,7 +92,7 @@ total =
 --     return out;
 -- }
 abbrev pub names : PlainMethod
-names = over_users (SetOf String) (codes "names") (codes "out") (NewSet nowhere) (adding (codes "out") (field (codes "u") (codes "name")))
+names = over_users (SetOf String) (codes "names") (codes "out") (NewSet nowhere) (one (adding (codes "out") (field (codes "u") (codes "name"))))
 
 -- class M
 unfoldable pub sample_program : PlainProgram

@@ -1,13 +1,14 @@
 // Parts of the class, which stand nowhere.
-ghost use Rattle.std.specs.Prelude.{◌≡◌, [], pos, false, IfOk};
+ghost use Rattle.std.specs.Prelude.{◌≡◌, [], ◌∷◌, ◌++◌, IfOk, OnOk, codes, map};
 ghost use Rattle.std.specs.declared.option.Option.TheVariants.{Some};
-ghost use Rattle.qbs_base.specs.declared.scalar.Scalar.TheVariants as scalars;
-ghost use Rattle.java_ast.specs.declared.tree.Access.TheVariants as access;
 ghost use Rattle.java_ast.specs.Reading.{spelled, expression, statement, statements, method as plain_method};
+ghost use Rattle.java_ast.specs.Path.{and_then};
 ghost use Rattle.java_ast.specs.Tree as plain;
 ghost use Rattle.sample.specs.Class as specs;
+ghost use Rattle.sample.specs.Given.{given_type, given_start};
+ghost use Rattle.sample.specs.Tables.{User};
 
-use java_ast::{Access, Expr, ExprNode, JTy, Method, Op, Params, Stmt, StmtNode, Stmts};
+use java_ast::{Access, Expr, ExprNode, JTy, Method, Methods, Op, Params, Stmt, StmtNode, Stmts};
 use qbs_base::{Name, NoMemory, Scalar, Span};
 use std::alloc::Global;
 
@@ -22,25 +23,42 @@ fn nowhere() -> Span
     }
 }
 
-// ---- Types
+// ---- What a method gives
 
-/// The type of a table's rows.
-pub fn row_of(alloc: Global, table: &str) -> Result<JTy, NoMemory>
-    ensures { IfOk result (λ ty. spelled ty ≡ plain.Table table.now) }
-{
-    Ok(JTy::Table(Name::from_str(alloc, table)?))
+/// What a method collects and gives.
+#[derive(Clone, Copy)]
+pub enum Given {
+    Users,
+    Texts,
+    DistinctTexts,
+    Sum,
 }
 
-pub fn list_of(alloc: Global, element: JTy) -> Result<JTy, NoMemory>
-    ensures { IfOk result (λ ty. spelled ty ≡ plain.ListOf (spelled element)) }
+fn type_of(alloc: Global, given: Given) -> Result<JTy, NoMemory>
+    ensures { IfOk result (λ ty. spelled ty ≡ given_type given) }
 {
-    Ok(JTy::List(Box::new(alloc, element)?))
+    match given {
+        Given::Users => {
+            let row = JTy::Table(Name::from_str(alloc, "User")?);
+            Ok(JTy::List(Box::new(alloc, row)?))
+        }
+        Given::Texts => Ok(JTy::List(Box::new(alloc, JTy::String)?)),
+        Given::DistinctTexts => Ok(JTy::Set(Box::new(alloc, JTy::String)?)),
+        Given::Sum => Ok(JTy::Long),
+    }
 }
 
-pub fn set_of(alloc: Global, element: JTy) -> Result<JTy, NoMemory>
-    ensures { IfOk result (λ ty. spelled ty ≡ plain.SetOf (spelled element)) }
+// What it starts from.
+fn start_of(given: Given) -> Expr
+    ensures { expression result ≡ given_start given }
 {
-    Ok(JTy::Set(Box::new(alloc, element)?))
+    let span = nowhere();
+    let node = match given {
+        Given::Users | Given::Texts => ExprNode::NewList,
+        Given::DistinctTexts => ExprNode::NewSet(None),
+        Given::Sum => ExprNode::Lit(Scalar::Long(0)),
+    };
+    Expr { span, node }
 }
 
 // ---- Expressions
@@ -78,156 +96,139 @@ pub fn binary(
     boxed(alloc, ExprNode::Binary(op, left, right))
 }
 
-pub fn zero(alloc: Global) -> Result<Box<Expr>, NoMemory>
-    ensures { IfOk result (λ e. expression e.value ≡ plain.Lit specs.nowhere (scalars.Long (pos 0))) }
-{
-    boxed(alloc, ExprNode::Lit(Scalar::Long(0)))
-}
-
-pub fn new_list(alloc: Global) -> Result<Box<Expr>, NoMemory>
-    ensures { IfOk result (λ e. expression e.value ≡ plain.NewList specs.nowhere) }
-{
-    boxed(alloc, ExprNode::NewList)
-}
-
-pub fn new_set(alloc: Global) -> Result<Box<Expr>, NoMemory>
-    ensures { IfOk result (λ e. expression e.value ≡ plain.NewSet specs.nowhere) }
-{
-    boxed(alloc, ExprNode::NewSet(None))
-}
-
-fn fetch(alloc: Global, table: &str) -> Result<Box<Expr>, NoMemory>
-    ensures { IfOk result (λ e. expression e.value ≡ plain.Fetch specs.nowhere table.now) }
-{
-    boxed(alloc, ExprNode::Fetch(Name::from_str(alloc, table)?))
-}
-
 // ---- Statements
 
-fn boxed_statement(alloc: Global, node: StmtNode) -> Result<Box<Stmt>, NoMemory>
-    ensures { IfOk result (λ s. statement s.value ≡ statement (record { span = specs.nowhere; node = node })) }
+// Appends a statement to a block.
+fn put(block: &mut Vec<Stmt>, node: StmtNode) -> Result<(), NoMemory>
+    ensures { OnOk result (statements block.new.items ≡ and_then (statements block.old.items) (specs.one (statement (record { span = specs.nowhere; node = node })))) }
 {
     let span = nowhere();
-    Ok(Box::new(alloc, Stmt { span, node })?)
+    block.push(Stmt { span, node })?;
+    Ok(())
 }
 
-fn declare(alloc: Global, ty: JTy, name: &str, value: Box<Expr>) -> Result<Box<Stmt>, NoMemory>
-    ensures { IfOk result (λ s. statement s.value ≡ plain.Declare specs.nowhere (spelled ty) name.now (expression value.value)) }
-{
-    let name = Name::from_str(alloc, name)?;
-    let value = Box::into_inner(value);
-    boxed_statement(alloc, StmtNode::Declare { ty, name, value })
-}
-
-pub fn assign(alloc: Global, name: &str, value: Box<Expr>) -> Result<Box<Stmt>, NoMemory>
-    ensures { IfOk result (λ s. statement s.value ≡ plain.Assign specs.nowhere name.now (expression value.value)) }
-{
-    let name = Name::from_str(alloc, name)?;
-    let value = Box::into_inner(value);
-    boxed_statement(alloc, StmtNode::Assign { name, value })
-}
-
-/// A value is added to a list or set.
-pub fn adding(alloc: Global, name: &str, value: Box<Expr>) -> Result<Box<Stmt>, NoMemory>
-    ensures { IfOk result (λ s. statement s.value ≡ specs.adding name.now (expression value.value)) }
-{
-    let name = Name::from_str(alloc, name)?;
-    let value = Box::into_inner(value);
-    boxed_statement(alloc, StmtNode::Add { name, value })
-}
-
-fn giving(alloc: Global, name: &str) -> Result<Box<Stmt>, NoMemory>
-    ensures { IfOk result (λ s. statement s.value ≡ plain.Return specs.nowhere (Some (specs.variable name.now))) }
-{
-    let value = Some(Box::into_inner(variable(alloc, name)?));
-    boxed_statement(alloc, StmtNode::Return { value })
-}
-
-fn one(alloc: Global, body: Box<Stmt>) -> Result<Vec<Stmt>, NoMemory>
-    ensures { IfOk result (λ ss. statements ss.items ≡ plain.Then (statement body.value) plain.Nothing) }
+// A block of one statement.
+fn one(alloc: Global, node: StmtNode) -> Result<Vec<Stmt>, NoMemory>
+    ensures { IfOk result (λ ss. statements ss.items ≡ specs.one (statement (record { span = specs.nowhere; node = node }))) }
 {
     let mut all = Vec::new(alloc);
-    all.push(Box::into_inner(body))?;
+    put(&mut all, node)?;
     Ok(all)
 }
 
-#[tactic(auto, using(java_ast::proofs::Rows::statements_hidden))]
-pub fn where_so(alloc: Global, cond: Box<Expr>, body: Box<Stmt>) -> Result<Box<Stmt>, NoMemory>
-    ensures { IfOk result (λ s. statement s.value ≡ specs.where_so (expression cond.value) (statement body.value)) }
+pub fn assign(alloc: Global, name: &str, value: Box<Expr>) -> Result<Vec<Stmt>, NoMemory>
+    ensures { IfOk result (λ ss. statements ss.items ≡ specs.one (plain.Assign specs.nowhere name.now (expression value.value))) }
 {
-    let yes = one(alloc, body)?;
-    let cond = Box::into_inner(cond);
-    let other = None;
-    boxed_statement(alloc, StmtNode::If { cond, yes, other })
+    let name = Name::from_str(alloc, name)?;
+    let value = Box::into_inner(value);
+    one(alloc, StmtNode::Assign { name, value })
 }
 
-/// A walk of all rows of a table.
+/// A value is added to a list or set.
+pub fn adding(alloc: Global, name: &str, value: Box<Expr>) -> Result<Vec<Stmt>, NoMemory>
+    ensures { IfOk result (λ ss. statements ss.items ≡ specs.one (specs.adding name.now (expression value.value))) }
+{
+    let name = Name::from_str(alloc, name)?;
+    let value = Box::into_inner(value);
+    one(alloc, StmtNode::Add { name, value })
+}
+
 #[tactic(auto, using(java_ast::proofs::Rows::statements_hidden))]
-pub fn over_rows(
+pub fn where_so(alloc: Global, cond: Box<Expr>, yes: Vec<Stmt>) -> Result<Vec<Stmt>, NoMemory>
+    ensures { IfOk result (λ ss. statements ss.items ≡ specs.one (specs.where_so (expression cond.value) (statements yes.items))) }
+{
+    let cond = Box::into_inner(cond);
+    let other = None;
+    one(alloc, StmtNode::If { cond, yes, other })
+}
+
+/// Appends a walk of all rows of a table to a block.
+#[tactic(auto, using(java_ast::proofs::Rows::statements_hidden))]
+pub fn put_walk(
+    block: &mut Vec<Stmt>,
     alloc: Global,
     table: &str,
     row: &str,
-    body: Box<Stmt>,
-) -> Result<Box<Stmt>, NoMemory>
-    ensures { IfOk result (λ s. statement s.value ≡ specs.over_rows table.now row.now (statement body.value)) }
+    body: Vec<Stmt>,
+) -> Result<(), NoMemory>
+    ensures { OnOk result (statements block.new.items ≡ and_then (statements block.old.items) (specs.one (specs.over_rows table.now row.now (statements body.items)))) }
 {
-    let ty = row_of(alloc, table)?;
     let name = Name::from_str(alloc, row)?;
-    let body = one(alloc, body)?;
-    let list = Box::into_inner(fetch(alloc, table)?);
+    let fetched = Name::from_str(alloc, table)?;
+    let ty = JTy::Table(Name::from_str(alloc, table)?);
+    let span = nowhere();
+    let list = Expr {
+        span,
+        node: ExprNode::Fetch(fetched),
+    };
     let node = StmtNode::ForEach {
         ty,
         name,
         list,
         body,
     };
-    boxed_statement(alloc, node)
+    put(block, node)
 }
 
 // ---- Methods
 
-// A variable with its start, a loop, and the variable is given back.
-fn collecting(
-    alloc: Global,
-    ty: JTy,
-    x: &str,
-    start: Box<Expr>,
-    walk: Box<Stmt>,
-) -> Result<Vec<Stmt>, NoMemory>
+// A variable with its start.
+fn declared(alloc: Global, given: Given, x: &str) -> Result<Vec<Stmt>, NoMemory>
+    ensures { IfOk result (λ ss. statements ss.items ≡ specs.one (plain.Declare specs.nowhere (given_type given) x.now (given_start given))) }
+{
+    let name = Name::from_str(alloc, x)?;
+    let ty = type_of(alloc, given)?;
+    let value = start_of(given);
+    one(alloc, StmtNode::Declare { ty, name, value })
+}
+
+// A variable is given back.
+fn put_return(block: &mut Vec<Stmt>, alloc: Global, x: &str) -> Result<(), NoMemory>
+    ensures { OnOk result (statements block.new.items ≡ and_then (statements block.old.items) (specs.one (plain.Return specs.nowhere (Some (specs.variable x.now))))) }
+{
+    let name = Name::from_str(alloc, x)?;
+    let span = nowhere();
+    let value = Some(Expr {
+        span,
+        node: ExprNode::Var(name),
+    });
+    put(block, StmtNode::Return { value })
+}
+
+// A variable with its start, a walk of the users, and the variable is given back.
+fn collecting(alloc: Global, given: Given, x: &str, body: Vec<Stmt>) -> Result<Vec<Stmt>, NoMemory>
     ensures { IfOk result (λ ss.
         statements ss.items
-        ≡ plain.Then (plain.Declare specs.nowhere (spelled ty) x.now (expression start.value))
-        (plain.Then (statement walk.value) (plain.Then (plain.Return specs.nowhere (Some (specs.variable x.now))) plain.Nothing))) }
+        ≡ plain.Then (plain.Declare specs.nowhere (given_type given) x.now (given_start given))
+        (plain.Then (specs.over_rows User (codes "u") (statements body.items)) (specs.one (plain.Return specs.nowhere (Some (specs.variable x.now)))))) }
 {
-    let start = declare(alloc, ty, x, start)?;
-    let end = giving(alloc, x)?;
-    let mut all = Vec::new(alloc);
-    all.push(Box::into_inner(start))?;
-    all.push(Box::into_inner(walk))?;
-    all.push(Box::into_inner(end))?;
+    let mut all = declared(alloc, given, x)?;
+    put_walk(&mut all, alloc, "User", "u", body)?;
+    put_return(&mut all, alloc, x)?;
     Ok(all)
 }
 
-/// A method that walks the users once for a variable, which is of the type of its result.
+/// Appends a method that walks the users once for a variable, which it gives.
 pub fn over_users(
+    methods: &mut Methods,
     alloc: Global,
-    given: JTy,
-    ty: JTy,
+    given: Given,
     name: &str,
     x: &str,
-    start: Box<Expr>,
-    body: Box<Stmt>,
-) -> Result<Method, NoMemory>
-    requires { spelled given ≡ spelled ty }
-    ensures { IfOk result (λ m. plain_method m ≡ specs.over_users (spelled ty) name.now x.now (expression start.value) (statement body.value)) }
+    body: Vec<Stmt>,
+) -> Result<(), NoMemory>
+    ensures { OnOk result (
+        map plain_method methods.new
+        ≡ map plain_method methods.old ++ specs.over_users (given_type given) name.now x.now (given_start given) (statements body.items) ∷ []) }
 {
-    let walk = over_rows(alloc, "User", "u", body)?;
-    let body = collecting(alloc, ty, x, start, walk)?;
-    Ok(Method {
+    let name = Name::from_str(alloc, name)?;
+    let body = collecting(alloc, given, x, body)?;
+    let result = Some(type_of(alloc, given)?);
+    methods.push(Method {
         access: Access::Plain,
         fixed: false,
-        result: Some(given),
-        name: Name::from_str(alloc, name)?,
+        result,
+        name,
         params: Params::new(alloc),
         body: Stmts::from_vec(body),
         span: nowhere(),

@@ -1,90 +1,77 @@
 // The class: four methods, each with one walk of the users.
-ghost use Rattle.std.specs.Prelude.{◌≡◌, [], ◌∷◌, IfOk, map};
+ghost use Rattle.std.specs.Prelude.{◌≡◌, [], ◌∷◌, ◌++◌, IfOk, OnOk, map};
 ghost use Rattle.java_ast.specs.Reading.{method as plain_method, program as plain_program};
 ghost use Rattle.sample.specs.Class as specs;
 
 use crate::build::{
-    adding, assign, binary, field, list_of, new_list, new_set, over_rows, over_users, row_of,
-    set_of, variable, where_so, zero,
+    Given, adding, assign, binary, field, over_users, put_walk, variable, where_so,
 };
-use java_ast::{JTy, Method, Methods, Op, Program};
+use java_ast::{Methods, Op, Program};
 use qbs_base::{Name, NoMemory, Texts};
 use std::alloc::Global;
 
 // The users that are active.
-fn evens(alloc: Global) -> Result<Method, NoMemory>
-    ensures { IfOk result (λ m. plain_method m ≡ specs.evens) }
+fn put_evens(methods: &mut Methods, alloc: Global) -> Result<(), NoMemory>
+    ensures { OnOk result (map plain_method methods.new ≡ map plain_method methods.old ++ specs.evens ∷ []) }
 {
-    let given = list_of(alloc, row_of(alloc, "User")?)?;
-    let ty = list_of(alloc, row_of(alloc, "User")?)?;
     let add = adding(alloc, "out", variable(alloc, "u")?)?;
     let body = where_so(alloc, field(alloc, "u", "active")?, add)?;
-    over_users(alloc, given, ty, "evens", "out", new_list(alloc)?, body)
+    over_users(methods, alloc, Given::Users, "evens", "out", body)
 }
 
 // The role's label is added where the user has that role.
-fn pairs(alloc: Global) -> Result<Method, NoMemory>
-    ensures { IfOk result (λ m. plain_method m ≡ specs.pairs) }
+fn put_pairs(methods: &mut Methods, alloc: Global) -> Result<(), NoMemory>
+    ensures { OnOk result (map plain_method methods.new ≡ map plain_method methods.old ++ specs.pairs ∷ []) }
 {
-    let given = list_of(alloc, JTy::String)?;
-    let ty = list_of(alloc, JTy::String)?;
     let user = field(alloc, "u", "roleId")?;
     let role = field(alloc, "r", "id")?;
     let cond = binary(alloc, Op::Eq, user, role)?;
     let add = adding(alloc, "out", field(alloc, "r", "label")?)?;
-    let body = over_rows(alloc, "Role", "r", where_so(alloc, cond, add)?)?;
-    over_users(alloc, given, ty, "pairs", "out", new_list(alloc)?, body)
+    let walked = where_so(alloc, cond, add)?;
+    let mut body = Vec::new(alloc);
+    put_walk(&mut body, alloc, "Role", "r", walked)?;
+    over_users(methods, alloc, Given::Texts, "pairs", "out", body)
 }
 
 // The sum of the ages.
-fn total(alloc: Global) -> Result<Method, NoMemory>
-    ensures { IfOk result (λ m. plain_method m ≡ specs.total) }
+fn put_total(methods: &mut Methods, alloc: Global) -> Result<(), NoMemory>
+    ensures { OnOk result (map plain_method methods.new ≡ map plain_method methods.old ++ specs.total ∷ []) }
 {
     let sum = variable(alloc, "sum")?;
     let age = field(alloc, "u", "age")?;
     let body = assign(alloc, "sum", binary(alloc, Op::Add, sum, age)?)?;
-    over_users(
-        alloc,
-        JTy::Long,
-        JTy::Long,
-        "total",
-        "sum",
-        zero(alloc)?,
-        body,
-    )
+    over_users(methods, alloc, Given::Sum, "total", "sum", body)
 }
 
 // The users' names, each once.
-fn names(alloc: Global) -> Result<Method, NoMemory>
-    ensures { IfOk result (λ m. plain_method m ≡ specs.names) }
+fn put_names(methods: &mut Methods, alloc: Global) -> Result<(), NoMemory>
+    ensures { OnOk result (map plain_method methods.new ≡ map plain_method methods.old ++ specs.names ∷ []) }
 {
-    let given = set_of(alloc, JTy::String)?;
-    let ty = set_of(alloc, JTy::String)?;
     let body = adding(alloc, "out", field(alloc, "u", "name")?)?;
-    over_users(alloc, given, ty, "names", "out", new_set(alloc)?, body)
+    over_users(methods, alloc, Given::DistinctTexts, "names", "out", body)
 }
 
-fn methods(alloc: Global) -> Result<Methods, NoMemory>
-    ensures { IfOk result (λ ms. map plain_method ms ≡ specs.evens ∷ specs.pairs ∷ specs.total ∷ specs.names ∷ []) }
+fn put_methods(methods: &mut Methods, alloc: Global) -> Result<(), NoMemory>
+    requires { methods.old ≡ [] }
+    ensures { OnOk result (map plain_method methods.new ≡ specs.evens ∷ specs.pairs ∷ specs.total ∷ specs.names ∷ []) }
 {
-    let mut all = Methods::new(alloc);
-    all.push(evens(alloc)?)?;
-    all.push(pairs(alloc)?)?;
-    all.push(total(alloc)?)?;
-    all.push(names(alloc)?)?;
-    Ok(all)
+    put_evens(methods, alloc)?;
+    put_pairs(methods, alloc)?;
+    put_total(methods, alloc)?;
+    put_names(methods, alloc)
 }
 
 /// The class. Only want of memory is an error.
-#[tactic(auto, unfolding(crate::specs::Class::sample_program))]
 pub fn sample_class(alloc: Global) -> Result<Program, NoMemory>
     ensures { IfOk result (λ p. plain_program p ≡ specs.sample_program) }
 {
-    let methods = methods(alloc)?;
     let name = Name::from_str(alloc, "M")?;
+    let mut methods = Methods::new(alloc);
+    put_methods(&mut methods, alloc)?;
+    let imports = Texts::new(alloc);
     Ok(Program {
         package: None,
-        imports: Texts::new(alloc),
+        imports,
         public: false,
         name,
         methods,

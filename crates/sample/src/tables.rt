@@ -1,5 +1,5 @@
 // The tables: users of any number, and five roles.
-ghost use Rattle.std.specs.Prelude.{◌≡◌, ◌<◌, ◌^◌, [], ◌∷◌, ◌++◌, IfOk, OnOk, codes, string_bytes};
+ghost use Rattle.std.specs.Prelude.{◌≡◌, ◌<◌, ◌^◌, [], ◌∷◌, ◌++◌, IfOk, OnOk, string_bytes};
 ghost use Rattle.std.specs.Fmt.{decimal};
 ghost use Rattle.qbs_base.specs.declared.scalar.Scalar.TheVariants as scalars;
 ghost use Rattle.qbs_base.specs.Tables.{NamedRows};
@@ -26,17 +26,11 @@ pub fn sample_schema(alloc: Global) -> Result<Schema, NoMemory>
 
 // ---- Rows
 
-fn user_name(alloc: Global, number: u64) -> Result<String, AllocError>
-    ensures { IfOk result (λ s. string_bytes s ≡ codes "n" ++ decimal number) }
+// A text with a number behind it.
+fn numbered(alloc: Global, prefix: &str, number: u64) -> Result<String, AllocError>
+    ensures { IfOk result (λ s. string_bytes s ≡ prefix.now ++ decimal number) }
 {
-    let text = format!(in alloc; "n{number}")?;
-    Ok(text)
-}
-
-fn role_label(alloc: Global, number: u64) -> Result<String, AllocError>
-    ensures { IfOk result (λ s. string_bytes s ≡ codes "r" ++ decimal number) }
-{
-    let text = format!(in alloc; "r{number}")?;
+    let text = format!(in alloc; "{prefix}{number}")?;
     Ok(text)
 }
 
@@ -45,7 +39,7 @@ fn user_row(alloc: Global, i: u64) -> Result<Row, NoMemory>
     requires { i < 2 ^ 63 }
     ensures { IfOk result (λ row. row ≡ specs.user_row i) }
 {
-    let name = Text::from_string(user_name(alloc, i % 7)?);
+    let name = Text::from_string(numbered(alloc, "n", i % 7)?);
     let cells = vec![in alloc;
         Scalar::Long(i as i64),
         Scalar::Text(name),
@@ -64,7 +58,7 @@ fn role_row(alloc: Global, j: u64) -> Result<Row, NoMemory>
     requires { j < 2 ^ 63 }
     ensures { IfOk result (λ row. row ≡ specs.role_row j) }
 {
-    let label = Text::from_string(role_label(alloc, j)?);
+    let label = Text::from_string(numbered(alloc, "r", j)?);
     let cells = vec![in alloc; Scalar::Long(j as i64), Scalar::Text(label)]?;
     Ok(Row {
         kind: Kind::Table(1),
@@ -74,12 +68,13 @@ fn role_row(alloc: Global, j: u64) -> Result<Row, NoMemory>
 
 // ---- Tables
 
-// Adds the users to the first table.
+// Adds the first table, with the users.
 fn put_users(alloc: Global, n: u64, db: &mut Db) -> Result<(), NoMemory>
     requires few { n < 2 ^ 63 }
-    requires one { db.old ≡ (specs.User, []) ∷ [] }
+    requires none { db.old ≡ [] }
     ensures { OnOk result (db.new ≡ (specs.User, specs.users n) ∷ []) }
 {
+    db.add_table(Name::from_str(alloc, "User")?)?;
     for i in 0..n {
         db.put_row(0, user_row(alloc, i)?)?;
     }
@@ -105,7 +100,6 @@ pub fn sample_tables(alloc: Global, n: u64) -> Result<Db, NoMemory>
     ensures database { IfOk result (λ db. IsDatabaseOf specs.sample_schema db) }
 {
     let mut db = Db::new(alloc);
-    db.add_table(Name::from_str(alloc, "User")?)?;
     put_users(alloc, n, &mut db)?;
     db.add_table(Name::from_str(alloc, "Role")?)?;
     put_roles(alloc, 5, &mut db)?;
