@@ -1,5 +1,5 @@
 -- Tables that are added one after the other.
-use Rattle.std.proofs.Common.{◌≡◌, ℕ, zero, suc, ◌+◌, ◌*◌, ◌%◌, ◌<◌, Bool, true, false, ◌||◌, List, [], ◌∷◌, ◌++◌, length, map, Option, Some, None, refl, sym, ap, ap₂, subst, ◌∙◌, arith, append_assoc, append-nil}
+use Rattle.std.proofs.Common.{◌≡◌, ℕ, Bool, true, false, ◌||◌, List, [], ◌∷◌, ◌++◌, length, map, Option, Some, None, refl, sym, ap, ap₂, subst, ◌∙◌, append_assoc, append-nil}
 use Rattle.std.specs.Prelude.{slice_get, slice_set}
 use Rattle.std.specs.List.{AllByRecursion, IsDistinct, list_any}
 use Rattle.std.specs.Str.{bytes_eq}
@@ -33,25 +33,6 @@ rows_put before name rows (row ∷ more) =
 pub table_added : (old first new : Database) (name own : List ℕ) (rows : List Row) (k : ℕ) → own ≡ name → k ≡ length old → first ≡ old ++ (own, []) ∷ [] → new ≡ with_rows first k rows → new ≡ old ++ (name, rows) ∷ []
 table_added old first new name own rows k named number added put =
     put ∙ ap (λ db. with_rows db k rows) added ∙ ap (λ j. with_rows (old ++ (own, []) ∷ []) j rows) number ∙ rows_put old own [] rows ∙ ap (λ called. old ++ (called, rows) ∷ []) named
-
-set_keeps : {A : Type 0} (xs : List A) (n : ℕ) (x : A) → length (slice_set xs n x) ≡ length xs
-set_keeps [] n x = refl
-set_keeps (y ∷ ys) zero x = refl
-set_keeps (y ∷ ys) (suc n) x = ap suc (set_keeps ys n x)
-
-row_keeps : (db : Database) (n : ℕ) (row : Row) → length (with_row db n row) ≡ length db
-row_keeps db n row = by (slice_get db n)
-  where
-    by : (o : Option NamedRows) → length {A = NamedRows} (elim o [ Some table ↦ slice_set db n (table.0, table.1 ++ row ∷ []) | None ↦ db ]) ≡ length db
-    by (Some table) = set_keeps db n (table.0, table.1 ++ row ∷ [])
-    by None = refl
-
--- rows that are left
-pub rows_on : (first db new : Database) (n : ℕ) (all left rest : List Row) (row : Row) → left ≡ row ∷ rest → new ≡ with_row db n row → (with_rows db n left ≡ with_rows first n all) × (n < length db) → (with_rows new n rest ≡ with_rows first n all) × (n < length new)
-rows_on first db new n all left rest row is put h = (
-  ap (λ x. with_rows x n rest) put ∙ ap (λ rs. with_rows db n rs) (sym is) ∙ h.0,
-  (let same : length new ≡ length db = ap (λ (x : Database). length x) put ∙ row_keeps db n row in omega (arith, same, h.1)),
-)
 
 -- a name that no table has
 pub not_held : (db : Database) (name : List ℕ) → list_any (λ own. bytes_eq own name) (names_in db) ≡ false → at_name db name ≡ None

@@ -2,3 +2,4 @@ pub mod Adding
 pub mod Later
 pub mod Fitted
 pub mod Entered
+pub mod Given

@@ -1,4 +1,3 @@
-pub mod Lent
 pub mod Held
 pub mod Literals
 pub mod Chosen

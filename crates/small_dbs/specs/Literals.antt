@@ -49,6 +49,12 @@ abbrev pub texts_of : Scalar → List Scalar
 texts_of (scalars.Text t) = scalars.Text t ∷ []
 texts_of _ = []
 
+-- the values of a type that a literal gives
+abbrev pub given_by : Ty → Scalar → List Scalar
+given_by tys.Long x = near x
+given_by tys.Bool x = []
+given_by tys.Text x = texts_of x
+
 -- a value at its place among others, where it isn't there
 abbrev pub put : Scalar → List Scalar → List Scalar
 put x [] = x ∷ []
@@ -57,6 +63,10 @@ put x (y ∷ ys) = if scalar_before x y then x ∷ y ∷ ys else (if scalar_same
 abbrev pub put_all : List Scalar → List Scalar → List Scalar
 put_all [] ys = ys
 put_all (x ∷ xs) ys = put_all xs (put x ys)
+
+-- others with those of a type that literals give
+abbrev pub put_given : Ty → List Scalar → List Scalar → List Scalar
+put_given ty literals ys = put_all (flat_map (given_by ty) literals) ys
 
 -- 0, 1 and what is near a literal; the empty text, `a` and the texts of the atoms; false and true
 abbrev pub candidates : Fragment → Ty → List Scalar

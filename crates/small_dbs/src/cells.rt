@@ -1,10 +1,10 @@
 // Rows whose cells stand at places in lists of values.
-ghost use Rattle.std.specs.Prelude.{◌≡◌, ◌++◌, ◌+◌, ◌*◌, ◌≤◌, IfOk, OnOk, length};
+ghost use Rattle.std.specs.Prelude.{◌≡◌, ◌++◌, ◌∷◌, ◌+◌, ◌≤◌, [], IfOk, OnOk, length};
 ghost use Rattle.small_dbs.specs.Chosen as spec;
 ghost use Rattle.small_dbs.specs.Held.{held};
 
 use crate::choice::Values;
-use qbs_base::{Cells, Column, Items, Kind, NoMemory, Row, Rows, Scalar, Ty, copy_scalar};
+use qbs_base::{Cells, Column, Items, Kind, NoMemory, Row, Scalar, Scalars, Ty, copy_scalar};
 use std::alloc::Global;
 
 /// The values of a type.
@@ -18,14 +18,26 @@ pub fn of_type(values: &Values, ty: Ty) -> &[Scalar]
     }
 }
 
-/// The value at a place, counted round the list.
-pub fn value_at(alloc: Global, values: &[Scalar], k: usize) -> Result<Scalar, NoMemory>
-    ensures { IfOk result (λ x. x ≡ spec.value_at values.now k) }
+/// Pushes a copy of a value.
+pub fn push_copy(alloc: Global, x: &Scalar, all: &mut Scalars) -> Result<(), NoMemory>
+    ensures { OnOk result (all.new ≡ all.old ++ x.now ∷ []) }
+{
+    all.push(copy_scalar(alloc, x)?)
+}
+
+/// Pushes the value at a place, counted round the list.
+pub fn push_value(
+    alloc: Global,
+    values: &[Scalar],
+    k: usize,
+    all: &mut Scalars,
+) -> Result<(), NoMemory>
+    ensures { OnOk result (all.new ≡ all.old ++ spec.value_at values.now k ∷ []) }
 {
     if values.is_empty() {
-        return Ok(Scalar::Bool(false));
+        return all.push(Scalar::Bool(false));
     }
-    copy_scalar(alloc, &values[k % values.len()])
+    push_copy(alloc, &values[k % values.len()], all)
 }
 
 fn push_cells(
@@ -41,13 +53,14 @@ fn push_cells(
     match columns.split_first() {
         None => Ok(()),
         Some((column, rest)) => {
-            all.push(value_at(alloc, of_type(values, column.ty), k)?)?;
+            push_value(alloc, of_type(values, column.ty), k, &mut *all)?;
             push_cells(alloc, values, k + 1, rest, all)
         }
     }
 }
 
-fn row(
+/// A row of a table, with the value at that place in its first cell.
+pub fn row(
     alloc: Global,
     values: &Values,
     k: usize,
@@ -63,24 +76,4 @@ fn row(
         kind: Kind::Table(table),
         cells,
     })
-}
-
-/// Pushes rows of a table, as many as are asked for, each five places behind the last.
-pub fn push_rows(
-    alloc: Global,
-    values: &Values,
-    k: usize,
-    table: u32,
-    columns: &[Column],
-    count: usize,
-    all: &mut Rows,
-) -> Result<(), NoMemory>
-    requires { k + 5 * count + length columns.now ≤ 1000 }
-    ensures { OnOk result (all.new ≡ all.old ++ spec.rows (held values.now) k table columns.now count) }
-{
-    if count == 0 {
-        return Ok(());
-    }
-    all.push(row(alloc, values, k, table, columns)?)?;
-    push_rows(alloc, values, k + 5, table, columns, count - 1, all)
 }

@@ -1,10 +1,10 @@
 // Entry values and known lists.
-ghost use Rattle.std.specs.Prelude.{◌≡◌, ◌++◌, ◌+◌, ◌*◌, ◌≤◌, ◌<◌, ◌%◌, ◌^◌, IfOk, OnOk, length};
+ghost use Rattle.std.specs.Prelude.{◌≡◌, ◌++◌, ◌∷◌, ◌+◌, ◌*◌, ◌≤◌, ◌<◌, ◌%◌, ◌^◌, [], IfOk, OnOk, length};
 ghost use Rattle.kernel_lang.specs.Whole.{fragment_of};
 ghost use Rattle.small_dbs.specs.Chosen as spec;
 ghost use Rattle.small_dbs.specs.Held.{held};
 
-use crate::cells::{of_type, value_at};
+use crate::cells::{of_type, push_value};
 use crate::choice::Values;
 use crate::fitting::operand_type;
 use kernel_lang::KFragment;
@@ -26,7 +26,7 @@ pub fn push_entries(
     match types.split_first() {
         None => Ok(()),
         Some((ty, rest)) => {
-            all.push(value_at(alloc, of_type(values, *ty), k)?)?;
+            push_value(alloc, of_type(values, *ty), k, &mut *all)?;
             push_entries(alloc, values, k + 2, rest, all)
         }
     }
@@ -73,25 +73,32 @@ fn push_members(
     if count == 0 {
         return Ok(());
     }
-    all.push(value_at(alloc, values, k)?)?;
+    push_value(alloc, values, k, &mut *all)?;
     push_members(alloc, values, k + 1, count - 1, all)
 }
 
-fn known_list(
+fn push_known(
     alloc: Global,
     tables: &[Table],
     frag: &KFragment,
     values: &Values,
     d: usize,
     q: u32,
-) -> Result<Scalars, NoMemory>
+    all: &mut ScalarLists,
+) -> Result<(), NoMemory>
     requires { d < 8 }
-    ensures { IfOk result (λ xs. xs ≡ spec.members (held values.now (spec.member_type tables.now (fragment_of frag.now) q (fragment_of frag.now).atoms)) (d + q) (d % 3)) }
+    ensures { OnOk result (all.new ≡ all.old ++ spec.members (held values.now (spec.member_type tables.now (fragment_of frag.now) q (fragment_of frag.now).atoms)) (d + q) (d % 3) ∷ []) }
 {
     let ty = member_type(tables, frag, q, frag.atoms.as_slice());
-    let mut all = Items::new(alloc);
-    push_members(alloc, of_type(values, ty), d + q as usize, d % 3, &mut all)?;
-    Ok(all)
+    let mut members = Items::new(alloc);
+    push_members(
+        alloc,
+        of_type(values, ty),
+        d + q as usize,
+        d % 3,
+        &mut members,
+    )?;
+    all.push(members)
 }
 
 /// The known lists of a small database.
@@ -107,7 +114,7 @@ pub fn known_lists(
 {
     let mut all = Items::new(alloc);
     for q in 0..frag.known {
-        all.push(known_list(alloc, tables, frag, values, d, q)?)?;
+        push_known(alloc, tables, frag, values, d, q, &mut all)?;
     }
     Ok(all)
 }

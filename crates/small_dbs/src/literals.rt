@@ -1,64 +1,72 @@
-// The literals of a fragment.
-ghost use Rattle.std.specs.Prelude.{◌≡◌, ◌++◌, OnOk, map};
+// What the literals of a fragment give.
+ghost use Rattle.std.specs.Prelude.{◌≡◌, OnOk, map};
 ghost use Rattle.kernel_lang.specs.Plain.{accumulator};
 ghost use Rattle.small_dbs.specs.Literals as spec;
-ghost use Rattle.small_dbs.specs.Lent.{scalars_lent};
 
+use crate::values::put_literal;
 use kernel_lang::Acc;
-use qbs_base::{NoMemory, Scalar};
+use qbs_base::{NoMemory, Scalars, Ty};
+use std::alloc::Global;
 use tor_terms::{Atom, Operand};
 
-fn push_operand<'a>(a: &'a Operand, all: &mut Vec<&'a Scalar>) -> Result<(), NoMemory>
-    ensures { OnOk result (scalars_lent all.new.items ≡ scalars_lent all.old.items ++ spec.operand_literals a.now) }
-{
-    if let Operand::Lit(x) = a {
-        all.push(x)?;
-    }
-    Ok(())
-}
-
-fn push_atom<'a>(a: &'a Atom, all: &mut Vec<&'a Scalar>) -> Result<(), NoMemory>
-    ensures { OnOk result (scalars_lent all.new.items ≡ scalars_lent all.old.items ++ spec.atom_literals a.now) }
+fn put_operand(alloc: Global, ty: Ty, a: &Operand, values: &mut Scalars) -> Result<(), NoMemory>
+    ensures { OnOk result (values.new ≡ spec.put_given ty (spec.operand_literals a.now) values.old) }
 {
     match a {
-        Atom::Less(x, y) => {
-            push_operand(x, &mut *all)?;
-            push_operand(y, all)
+        Operand::Lit(x) => put_literal(alloc, ty, x, values),
+        _ => Ok(()),
+    }
+}
+
+fn put_atom(alloc: Global, ty: Ty, a: &Atom, values: &mut Scalars) -> Result<(), NoMemory>
+    ensures { OnOk result (values.new ≡ spec.put_given ty (spec.atom_literals a.now) values.old) }
+{
+    match a {
+        Atom::Less(x, y) | Atom::Same(x, y) => {
+            put_operand(alloc, ty, x, &mut *values)?;
+            put_operand(alloc, ty, y, values)
         }
-        Atom::Same(x, y) => {
-            push_operand(x, &mut *all)?;
-            push_operand(y, all)
-        }
-        Atom::Truth(x) => push_operand(x, all),
-        Atom::Member(x, _) => push_operand(x, all),
+        Atom::Truth(x) | Atom::Member(x, _) => put_operand(alloc, ty, x, values),
         Atom::Flag(_, _) => Ok(()),
     }
 }
 
-/// Pushes the literals of atoms.
-pub fn push_atoms<'a>(atoms: &'a [Atom], all: &mut Vec<&'a Scalar>) -> Result<(), NoMemory>
-    ensures { OnOk result (scalars_lent all.new.items ≡ scalars_lent all.old.items ++ spec.literals_of_atoms atoms.now) }
+/// Puts the values of a type that the literals of atoms give.
+pub fn put_atoms(
+    alloc: Global,
+    ty: Ty,
+    atoms: &[Atom],
+    values: &mut Scalars,
+) -> Result<(), NoMemory>
+    ensures { OnOk result (values.new ≡ spec.put_given ty (spec.literals_of_atoms atoms.now) values.old) }
 {
     match atoms.split_first() {
         None => Ok(()),
         Some((a, rest)) => {
-            push_atom(a, &mut *all)?;
-            push_atoms(rest, all)
+            put_atom(alloc, ty, a, &mut *values)?;
+            put_atoms(alloc, ty, rest, values)
         }
     }
 }
 
-/// Pushes that with which accumulators start.
-pub fn push_starts<'a>(accs: &'a [Acc], all: &mut Vec<&'a Scalar>) -> Result<(), NoMemory>
-    ensures { OnOk result (scalars_lent all.new.items ≡ scalars_lent all.old.items ++ spec.literals_of_starts (map accumulator accs.now)) }
+fn put_start(alloc: Global, ty: Ty, acc: &Acc, values: &mut Scalars) -> Result<(), NoMemory>
+    ensures { OnOk result (values.new ≡ spec.put_given ty (spec.start_literals (accumulator acc.now).start) values.old) }
+{
+    match &acc.start {
+        Some(x) => put_literal(alloc, ty, x, values),
+        None => Ok(()),
+    }
+}
+
+/// Puts the values of a type that those give with which accumulators start.
+pub fn put_starts(alloc: Global, ty: Ty, accs: &[Acc], values: &mut Scalars) -> Result<(), NoMemory>
+    ensures { OnOk result (values.new ≡ spec.put_given ty (spec.literals_of_starts (map accumulator accs.now)) values.old) }
 {
     match accs.split_first() {
         None => Ok(()),
         Some((acc, rest)) => {
-            if let Some(x) = &acc.start {
-                all.push(x)?;
-            }
-            push_starts(rest, all)
+            put_start(alloc, ty, acc, &mut *values)?;
+            put_starts(alloc, ty, rest, values)
         }
     }
 }

@@ -1,5 +1,5 @@
 // The eight small databases of a fragment.
-ghost use Rattle.std.specs.Prelude.{◌≡◌, ◌<◌, true, IfOk};
+ghost use Rattle.std.specs.Prelude.{◌≡◌, ◌++◌, ◌∷◌, ◌<◌, [], true, IfOk, OnOk};
 ghost use Rattle.std.specs.List.{AllByRecursion};
 ghost use Rattle.qbs_base.specs.Values.{IsDatabaseOf};
 ghost use Rattle.kernel_lang.specs.Fitting.{PartsFit};
@@ -19,26 +19,47 @@ use qbs_base::{Items, NoMemory};
 use schema::Schema;
 use std::alloc::Global;
 
-// Small database number d.
-fn small(
+// Pushes small database number d.
+fn push_small(
     alloc: Global,
     schema: &Schema,
     frag: &KFragment,
     values: &Values,
     d: usize,
-) -> Result<SmallDb, NoMemory>
+    all: &mut SmallDbs,
+) -> Result<(), NoMemory>
     requires low { d < 8 }
     requires own { held values.now ≡ literals.values (fragment_of frag.now) }
-    ensures { IfOk result (λ small. small ≡ spec.small schema.now (fragment_of frag.now) d) }
+    ensures { OnOk result (all.new ≡ all.old ++ spec.small schema.now (fragment_of frag.now) d ∷ []) }
 {
     let db = small_db(alloc, values, d, schema)?;
     let mut own = Items::new(alloc);
     push_entries(alloc, values, d, frag.entries.as_slice(), &mut own)?;
     let known = known_lists(alloc, schema.tables(), frag, values, d)?;
-    Ok(SmallDb {
+    all.push(SmallDb {
         db,
         entry: Entry { values: own, known },
     })
+}
+
+fn push_smalls(
+    alloc: Global,
+    schema: &Schema,
+    frag: &KFragment,
+    values: &Values,
+    all: &mut SmallDbs,
+) -> Result<(), NoMemory>
+    requires { held values.now ≡ literals.values (fragment_of frag.now) }
+    ensures { OnOk result (all.new ≡ all.old ++ spec.smalls schema.now (fragment_of frag.now)) }
+{
+    push_small(alloc, schema, frag, values, 0, &mut *all)?;
+    push_small(alloc, schema, frag, values, 1, &mut *all)?;
+    push_small(alloc, schema, frag, values, 2, &mut *all)?;
+    push_small(alloc, schema, frag, values, 3, &mut *all)?;
+    push_small(alloc, schema, frag, values, 4, &mut *all)?;
+    push_small(alloc, schema, frag, values, 5, &mut *all)?;
+    push_small(alloc, schema, frag, values, 6, &mut *all)?;
+    push_small(alloc, schema, frag, values, 7, all)
 }
 
 /// The eight small databases of a fragment that fits the schema, each with entry values and known
@@ -63,13 +84,6 @@ fn made(alloc: Global, schema: &Schema, frag: &KFragment) -> Result<SmallDbs, No
 {
     let values = values_of(alloc, frag)?;
     let mut all = Items::new(alloc);
-    all.push(small(alloc, schema, frag, &values, 0)?)?;
-    all.push(small(alloc, schema, frag, &values, 1)?)?;
-    all.push(small(alloc, schema, frag, &values, 2)?)?;
-    all.push(small(alloc, schema, frag, &values, 3)?)?;
-    all.push(small(alloc, schema, frag, &values, 4)?)?;
-    all.push(small(alloc, schema, frag, &values, 5)?)?;
-    all.push(small(alloc, schema, frag, &values, 6)?)?;
-    all.push(small(alloc, schema, frag, &values, 7)?)?;
+    push_smalls(alloc, schema, frag, &values, &mut all)?;
     Ok(all)
 }

@@ -7,21 +7,32 @@ ghost use Rattle.small_dbs.specs.Adding.{AreNew, names_in, with_rows};
 ghost use Rattle.small_dbs.specs.Chosen as spec;
 ghost use Rattle.small_dbs.specs.Held.{held};
 
-use crate::cells::push_rows;
+use crate::cells::row;
 use crate::choice::Values;
-use qbs_base::{Db, Items, NoMemory, Rows, Table, copy_text};
+use qbs_base::{Column, Db, NoMemory, Table, copy_text};
 use schema::Schema;
 use std::alloc::Global;
 
-// Puts rows into the table with that number.
-fn put_rows(db: &mut Db, table: u32, rows: Rows) -> Result<(), NoMemory>
-    requires { table < length db.old }
-    ensures { OnOk result (db.new ≡ with_rows db.old table rows) }
+// Puts rows into the table with that number, as many as are asked for, each five places behind the
+// last.
+fn put_rows(
+    alloc: Global,
+    values: &Values,
+    k: usize,
+    table: u32,
+    columns: &[Column],
+    count: usize,
+    db: &mut Db,
+) -> Result<(), NoMemory>
+    requires few { k + 5 * count + length columns.now ≤ 1000 }
+    requires there { table < length db.old }
+    ensures { OnOk result (db.new ≡ with_rows db.old table (spec.rows (held values.now) k table columns.now count)) }
 {
-    for row in rows.into_vec() {
-        db.put_row(table, row)?;
+    if count == 0 {
+        return Ok(());
     }
-    Ok(())
+    db.put_row(table, row(alloc, values, k, table, columns)?)?;
+    put_rows(alloc, values, k + 5, table, columns, count - 1, db)
 }
 
 // Adds a table with its rows.
@@ -40,18 +51,16 @@ fn add_table(
     requires columns { length table.now.columns ≤ 32 }
     ensures { OnOk result (db.new ≡ db.old ++ (table.now.name, spec.rows (held values.now) (d + 3 * number) number table.now.columns (d % 4)) ∷ []) }
 {
-    let mut rows = Items::new(alloc);
-    push_rows(
+    let at = db.add_table(copy_text(alloc, &table.name)?)?;
+    put_rows(
         alloc,
         values,
         d + 3 * number,
-        number as u32,
+        at,
         table.columns.as_slice(),
         d % 4,
-        &mut rows,
-    )?;
-    let at = db.add_table(copy_text(alloc, &table.name)?)?;
-    put_rows(db, at, rows)
+        db,
+    )
 }
 
 fn add_tables(

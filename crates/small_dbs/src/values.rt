@@ -1,17 +1,16 @@
 // The values of each type, in ascending order and each once.
 ghost use Rattle.std.specs.Prelude.{◌≡◌, ◌++◌, ◌∷◌, ◌-ℤ◌, ◌+ℤ◌, pos, true, false, [], IfOk, OnOk};
-ghost use Rattle.std.specs.List.{flat_map};
 ghost use Rattle.qbs_base.specs.declared.scalar.Scalar.TheVariants as scalars;
 ghost use Rattle.qbs_base.specs.declared.scalar.Ty.TheVariants as tys;
 ghost use Rattle.kernel_lang.specs.Whole.{fragment_of};
 ghost use Rattle.small_dbs.specs.Held.{held, long_or_none};
-ghost use Rattle.small_dbs.specs.Lent.{scalars_lent};
 ghost use Rattle.small_dbs.specs.Literals as spec;
 
+use crate::cells::push_copy;
 use crate::choice::Values;
-use crate::literals::{push_atoms, push_starts};
+use crate::literals::{put_atoms, put_starts};
 use kernel_lang::KFragment;
-use qbs_base::{Items, NoMemory, Scalar, Scalars, Text, copy_scalar};
+use qbs_base::{Items, NoMemory, Scalar, Scalars, Text, Ty};
 use std::alloc::Global;
 use tor_terms::{same_cell, scalar_before};
 
@@ -19,7 +18,7 @@ fn push_all(alloc: Global, values: &[Scalar], all: &mut Scalars) -> Result<(), N
     ensures { OnOk result (all.new ≡ all.old ++ values.now) }
 {
     for x in values {
-        all.push(copy_scalar(alloc, x)?)?;
+        push_copy(alloc, x, &mut *all)?;
     }
     Ok(())
 }
@@ -34,39 +33,37 @@ fn push_with(
     ensures { OnOk result (all.new ≡ all.old ++ spec.put x.now values.now) }
 {
     match values.split_first() {
-        None => {
-            all.push(copy_scalar(alloc, x)?)?;
-            Ok(())
-        }
+        None => push_copy(alloc, x, all),
         Some((y, rest)) => {
             if scalar_before(x, y) {
-                all.push(copy_scalar(alloc, x)?)?;
+                push_copy(alloc, x, &mut *all)?;
                 return push_all(alloc, values, all);
             }
             if same_cell(x, y) {
                 return push_all(alloc, values, all);
             }
-            all.push(copy_scalar(alloc, y)?)?;
+            push_copy(alloc, y, &mut *all)?;
             push_with(alloc, x, rest, all)
         }
     }
 }
 
-// Values with one more at its place, where it isn't there.
-fn put(alloc: Global, x: &Scalar, values: Scalars) -> Result<Scalars, NoMemory>
-    ensures { IfOk result (λ all. all ≡ spec.put x.now values) }
+// Puts one more value at its place, where it isn't there.
+fn put(alloc: Global, x: &Scalar, values: &mut Scalars) -> Result<(), NoMemory>
+    ensures { OnOk result (values.new ≡ spec.put x.now values.old) }
 {
     let mut all = Items::new(alloc);
     push_with(alloc, x, values.as_slice(), &mut all)?;
-    Ok(all)
+    *values = all;
+    Ok(())
 }
 
-fn put_long(alloc: Global, n: Option<i64>, values: Scalars) -> Result<Scalars, NoMemory>
-    ensures { IfOk result (λ all. all ≡ spec.put_all (long_or_none n) values) }
+fn put_long(alloc: Global, n: Option<i64>, values: &mut Scalars) -> Result<(), NoMemory>
+    ensures { OnOk result (values.new ≡ spec.put_all (long_or_none n) values.old) }
 {
     match n {
         Some(n) => put(alloc, &Scalar::Long(n), values),
-        None => Ok(values),
+        None => Ok(()),
     }
 }
 
@@ -88,94 +85,84 @@ fn itself(n: i64) -> Option<i64>
     Some(n)
 }
 
-// What is near a number.
-fn put_near(alloc: Global, x: &Scalar, values: Scalars) -> Result<Scalars, NoMemory>
-    ensures { IfOk result (λ all. all ≡ spec.put_all (spec.near x.now) values) }
+// Puts what is near a number.
+fn put_near(alloc: Global, x: &Scalar, values: &mut Scalars) -> Result<(), NoMemory>
+    ensures { OnOk result (values.new ≡ spec.put_all (spec.near x.now) values.old) }
 {
     match x {
         Scalar::Long(n) => {
-            let one = put_long(alloc, before(*n), values)?;
-            let two = put_long(alloc, itself(*n), one)?;
-            put_long(alloc, behind(*n), two)
+            put_long(alloc, before(*n), &mut *values)?;
+            put_long(alloc, itself(*n), &mut *values)?;
+            put_long(alloc, behind(*n), values)
         }
-        _ => Ok(values),
+        _ => Ok(()),
     }
 }
 
-fn put_text(alloc: Global, x: &Scalar, values: Scalars) -> Result<Scalars, NoMemory>
-    ensures { IfOk result (λ all. all ≡ spec.put_all (spec.texts_of x.now) values) }
+fn put_text(alloc: Global, x: &Scalar, values: &mut Scalars) -> Result<(), NoMemory>
+    ensures { OnOk result (values.new ≡ spec.put_all (spec.texts_of x.now) values.old) }
 {
     match x {
         Scalar::Text(_) => put(alloc, x, values),
-        _ => Ok(values),
+        _ => Ok(()),
     }
 }
 
-fn put_all_near(alloc: Global, xs: &[&Scalar], values: Scalars) -> Result<Scalars, NoMemory>
-    ensures { IfOk result (λ all. all ≡ spec.put_all (flat_map spec.near (scalars_lent xs.now)) values) }
+/// Puts the values of a type that a literal gives.
+pub fn put_literal(alloc: Global, ty: Ty, x: &Scalar, values: &mut Scalars) -> Result<(), NoMemory>
+    ensures { OnOk result (values.new ≡ spec.put_all (spec.given_by ty x.now) values.old) }
 {
-    match xs.split_first() {
-        None => Ok(values),
-        Some((x, rest)) => {
-            let more = put_near(alloc, x, values)?;
-            put_all_near(alloc, rest, more)
-        }
+    match ty {
+        Ty::Long => put_near(alloc, x, values),
+        Ty::Bool => Ok(()),
+        Ty::Text => put_text(alloc, x, values),
     }
 }
 
-fn put_all_texts(alloc: Global, xs: &[&Scalar], values: Scalars) -> Result<Scalars, NoMemory>
-    ensures { IfOk result (λ all. all ≡ spec.put_all (flat_map spec.texts_of (scalars_lent xs.now)) values) }
+// Puts numbers.
+fn put_longs(alloc: Global, frag: &KFragment, values: &mut Scalars) -> Result<(), NoMemory>
+    ensures { OnOk result (values.new ≡ spec.put_all (spec.candidates (fragment_of frag.now) tys.Long) values.old) }
 {
-    match xs.split_first() {
-        None => Ok(values),
-        Some((x, rest)) => {
-            let more = put_text(alloc, x, values)?;
-            put_all_texts(alloc, rest, more)
-        }
-    }
+    put_long(alloc, Some(0), &mut *values)?;
+    put_long(alloc, Some(1), &mut *values)?;
+    put_atoms(alloc, Ty::Long, frag.atoms.as_slice(), &mut *values)?;
+    put_starts(alloc, Ty::Long, frag.accs.as_slice(), values)
 }
 
-fn longs(alloc: Global, frag: &KFragment) -> Result<Scalars, NoMemory>
-    ensures { IfOk result (λ xs. xs ≡ spec.values (fragment_of frag.now) tys.Long) }
+// Pushes both truth values.
+fn push_bools(all: &mut Scalars) -> Result<(), NoMemory>
+    ensures { OnOk result (all.new ≡ all.old ++ scalars.Bool false ∷ scalars.Bool true ∷ []) }
 {
-    let mut literals = Vec::new(alloc);
-    push_atoms(frag.atoms.as_slice(), &mut literals)?;
-    push_starts(frag.accs.as_slice(), &mut literals)?;
-    let none = put(alloc, &Scalar::Long(0), Items::new(alloc))?;
-    let one = put(alloc, &Scalar::Long(1), none)?;
-    put_all_near(alloc, literals.as_slice(), one)
-}
-
-fn bools(alloc: Global) -> Result<Scalars, NoMemory>
-    ensures { IfOk result (λ xs. xs ≡ scalars.Bool false ∷ scalars.Bool true ∷ []) }
-{
-    let mut all = Items::new(alloc);
     all.push(Scalar::Bool(false))?;
-    all.push(Scalar::Bool(true))?;
-    Ok(all)
+    all.push(Scalar::Bool(true))
 }
 
-fn texts(alloc: Global, frag: &KFragment) -> Result<Scalars, NoMemory>
-    ensures { IfOk result (λ xs. xs ≡ spec.values (fragment_of frag.now) tys.Text) }
+fn put_word(alloc: Global, word: &str, values: &mut Scalars) -> Result<(), NoMemory>
+    ensures { OnOk result (values.new ≡ spec.put (scalars.Text word.now) values.old) }
 {
-    let mut literals = Vec::new(alloc);
-    push_atoms(frag.atoms.as_slice(), &mut literals)?;
-    let none = put(
-        alloc,
-        &Scalar::Text(Text::from_str(alloc, "")?),
-        Items::new(alloc),
-    )?;
-    let one = put(alloc, &Scalar::Text(Text::from_str(alloc, "a")?), none)?;
-    put_all_texts(alloc, literals.as_slice(), one)
+    put(alloc, &Scalar::Text(Text::from_str(alloc, word)?), values)
+}
+
+// Puts texts.
+fn put_texts(alloc: Global, frag: &KFragment, values: &mut Scalars) -> Result<(), NoMemory>
+    ensures { OnOk result (values.new ≡ spec.put_all (spec.candidates (fragment_of frag.now) tys.Text) values.old) }
+{
+    put_word(alloc, "", &mut *values)?;
+    put_word(alloc, "a", &mut *values)?;
+    put_atoms(alloc, Ty::Text, frag.atoms.as_slice(), values)
 }
 
 /// The values of each type.
 pub fn values_of(alloc: Global, frag: &KFragment) -> Result<Values, NoMemory>
     ensures { IfOk result (λ v. held v ≡ spec.values (fragment_of frag.now)) }
 {
-    Ok(Values {
-        longs: longs(alloc, frag)?,
-        bools: bools(alloc)?,
-        texts: texts(alloc, frag)?,
-    })
+    let mut values = Values {
+        longs: Items::new(alloc),
+        bools: Items::new(alloc),
+        texts: Items::new(alloc),
+    };
+    put_longs(alloc, frag, &mut values.longs)?;
+    push_bools(&mut values.bools)?;
+    put_texts(alloc, frag, &mut values.texts)?;
+    Ok(values)
 }

@@ -1,4 +1,0 @@
-use Rattle.small_dbs.proofs.cells.+push_rows.Given as goal
-
-abbrev pub decreases-push_rows : goal.decreases-push_rows
-decreases-push_rows l = l.count

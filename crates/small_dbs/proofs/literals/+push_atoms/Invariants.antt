@@ -1,5 +1,0 @@
-use Rattle.std.proofs.Common.{length}
-use Rattle.small_dbs.proofs.literals.+push_atoms.Given as goal
-
-abbrev pub decreases-push_atoms : goal.decreases-push_atoms
-decreases-push_atoms l = length l.atoms.now
