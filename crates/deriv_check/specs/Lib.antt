@@ -3,3 +3,4 @@ pub mod Texts
 pub mod Grammar
 pub mod Reading
 pub mod Answers
+pub mod Ends

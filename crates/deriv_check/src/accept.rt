@@ -1,44 +1,70 @@
 // Whether a derivation shows that a condition holds.
-ghost use Rattle.std.specs.Prelude.{◌≡◌, Some, IfOk, IsTrue, option_map};
+ghost use Rattle.std.specs.Prelude.{◌≡◌, Some, IfOk, IsTrue};
 ghost use Rattle.tor_terms.specs.Plain.{tree_of};
 ghost use Rattle.tor_axioms.specs.Accepts as spec;
 ghost use Rattle.tor_axioms.specs.Decide.{literal, with_fact as with_fact_of};
 ghost use Rattle.tor_axioms.specs.Paths.{run as run_of};
 ghost use Rattle.tor_axioms.specs.Validity.{IsValid, IsValidAnywhere};
+ghost use Rattle.deriv_check.specs.Ends.{end_of};
 
 use qbs_base::NoMemory;
 use std::alloc::Global;
 use tor_axioms::{Derivation, Facts, Step, Vc, apply, with_fact, with_facts};
-use tor_terms::{Atoms, Term, copy_term, same_term};
+use tor_terms::{Atoms, Term, copy_boxed_term, same_term};
 
-/// The term at the end of the steps, or None where one of them doesn't apply.
+/// Whether the steps apply one after the other. Then the term is the one at their end.
 fn run(
     alloc: Global,
     atoms: &Atoms,
     facts: &Facts,
     steps: &[Step],
-    start: &Term,
-) -> Result<Option<Term>, NoMemory>
-    ensures { IfOk result (λ o. option_map tree_of o ≡ run_of atoms.now facts.now steps.now (tree_of start.now)) }
+    term: &mut Term,
+) -> Result<bool, NoMemory>
+    ensures { IfOk result (λ all. end_of all (tree_of term.new) ≡ run_of atoms.now facts.now steps.now (tree_of term.old)) }
 {
-    let mut term = copy_term(alloc, start)?;
     for step in steps {
-        match apply(alloc, step.rule, &step.path, &term, atoms, facts)? {
-            Some(next) => term = next,
-            None => return Ok(None),
+        match apply(alloc, step.rule, &step.path, &*term, atoms, facts)? {
+            Some(next) => *term = next,
+            None => return Ok(false),
         }
     }
-    Ok(Some(term))
+    Ok(true)
 }
 
-/// Whether both steps came to an end, and to identical terms.
-fn same_ends(first: &Option<Term>, second: &Option<Term>) -> bool
-    ensures { result ≡ spec.same_ends (option_map tree_of first.now) (option_map tree_of second.now) }
+/// Whether the steps of both come to an end, and to identical terms.
+fn ends_meet(
+    alloc: Global,
+    vc: &Vc,
+    facts: &Facts,
+    left: &[Step],
+    right: &[Step],
+    first: &mut Term,
+    second: &mut Term,
+) -> Result<bool, NoMemory>
+    ensures { IfOk result (λ answer. answer ≡ spec.same_ends (run_of vc.now.atoms facts.now left.now (tree_of first.old)) (run_of vc.now.atoms facts.now right.now (tree_of second.old))) }
 {
-    match (first, second) {
-        (Some(t), Some(u)) => same_term(t, u),
-        _ => false,
+    if !run(alloc, &vc.atoms, facts, left, &mut *first)? {
+        return Ok(false);
     }
+    if !run(alloc, &vc.atoms, facts, right, &mut *second)? {
+        return Ok(false);
+    }
+    Ok(same_term(first, second))
+}
+
+/// Whether the steps lead from both terms of the condition to identical ones.
+fn same_ends(
+    alloc: Global,
+    vc: &Vc,
+    facts: &Facts,
+    left: &[Step],
+    right: &[Step],
+) -> Result<bool, NoMemory>
+    ensures { IfOk result (λ answer. answer ≡ spec.same_ends (run_of vc.now.atoms facts.now left.now (tree_of vc.now.left)) (run_of vc.now.atoms facts.now right.now (tree_of vc.now.right))) }
+{
+    let mut first = copy_boxed_term(alloc, &vc.left)?;
+    let mut second = copy_boxed_term(alloc, &vc.right)?;
+    ends_meet(alloc, vc, facts, left, right, &mut first, &mut second)
 }
 
 /// Whether the derivation is accepted under these facts.
@@ -48,9 +74,7 @@ fn accepted(alloc: Global, vc: &Vc, facts: &Facts, d: &Derivation) -> Result<boo
 {
     match d {
         Derivation::Steps { left, right } => {
-            let first = run(alloc, &vc.atoms, facts, left.as_slice(), &vc.left)?;
-            let second = run(alloc, &vc.atoms, facts, right.as_slice(), &vc.right)?;
-            Ok(same_ends(&first, &second))
+            same_ends(alloc, vc, facts, left.as_slice(), right.as_slice())
         }
         Derivation::Split { atom, yes, no } => {
             if *atom as usize >= vc.atoms.len() {

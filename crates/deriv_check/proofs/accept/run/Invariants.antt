@@ -5,4 +5,4 @@ use Rattle.deriv_check.proofs.accept.run.Given as goal
 
 -- the steps that are left lead to where all of them lead
 abbrev pub invariant-loop-step : goal.invariant-loop-step
-invariant-loop-step l = run l.atoms l.facts l.steps (tree_of l.start) ≡ run l.atoms l.facts (drop l.step-index l.steps) (tree_of l.term)
+invariant-loop-step l = run l.atoms l.facts l.steps (tree_of l.fn.term) ≡ run l.atoms l.facts (drop l.step-index l.steps) (tree_of l.term)
