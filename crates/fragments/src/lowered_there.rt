@@ -36,11 +36,11 @@ fn lower_unbroken(
     t: &Numbers,
     needed: &[&Name],
     first: u64,
-) -> Result<Lowered, NoMemory>
+) -> Result<Box<Lowered>, NoMemory>
     requires may { MayBeLowered (setting_in_code w.now) }
     requires unbroken { BreaksNone (setting_in_code w.now) (numbers_in_code t.now) }
     requires needed { names_lent needed.now ≡ fragment.needed_of (fragment_in_code w.now.fragment) }
-    ensures { IfOk result (λ l. IsLoweredFrom (setting_in_code w.now) first (lowering_in_code l) l.first l.kept) }
+    ensures { IfOk result (λ l. IsLoweredFrom (setting_in_code w.now) first (lowering_in_code l.value) l.value.first l.value.kept) }
 {
     let names = needed_in_order(alloc, w, needed)?;
     let kept = kept_of(alloc, &w.fragment, t.entries.as_slice(), first)?;
@@ -48,9 +48,9 @@ fn lower_unbroken(
 }
 
 // The lowered fragment of a loop in its setting.
-fn lower_setting(alloc: Global, w: &Setting, first: u64) -> Result<Lowered, Fail<Outside>>
+fn lower_setting(alloc: Global, w: &Setting, first: u64) -> Result<Box<Lowered>, Fail<Outside>>
     requires { MayBeLowered (setting_in_code w.now) }
-    ensures lowered { IfOk result (λ l. IsLoweredFrom (setting_in_code w.now) first (lowering_in_code l) l.first l.kept) }
+    ensures lowered { IfOk result (λ l. IsLoweredFrom (setting_in_code w.now) first (lowering_in_code l.value) l.value.first l.value.kept) }
     ensures outside { IfErr result (BreaksFirst (setting_in_code w.now)) }
 {
     let accs = accumulators(alloc, &w.fragment)?;
@@ -76,11 +76,11 @@ fn lower_sited(
     schema: &Schema,
     there: &Located,
     sites: &Sites,
-) -> Result<Lowered, Fail<Outside>>
+) -> Result<Box<Lowered>, Fail<Outside>>
     requires may { MayBeLowered (setting_of schema.now (read_by schema.now) (type_at there.now.types) (fragment_located there.now)) }
     requires sites { map site_of sites.now ≡ specs.sites_of (statement there.now.looped.now) }
     ensures lowered { IfOk result (λ l.
-        IsLoweredFrom (setting_of schema.now (read_by schema.now) (type_at there.now.types) (fragment_located there.now)) there.now.first (lowering_in_code l) l.first l.kept) }
+        IsLoweredFrom (setting_of schema.now (read_by schema.now) (type_at there.now.types) (fragment_located there.now)) there.now.first (lowering_in_code l.value) l.value.first l.value.kept) }
     ensures outside { IfErr result (BreaksFirst (setting_of schema.now (read_by schema.now) (type_at there.now.types) (fragment_located there.now))) }
 {
     let w = setting_there(&*schema, &*there, &*sites);
@@ -92,10 +92,10 @@ pub fn lower_located(
     alloc: Global,
     schema: &Schema,
     there: &Located,
-) -> Result<Lowered, Fail<Outside>>
+) -> Result<Box<Lowered>, Fail<Outside>>
     requires { MayBeLowered (setting_of schema.now (read_by schema.now) (type_at there.now.types) (fragment_located there.now)) }
     ensures lowered { IfOk result (λ l.
-        IsLoweredFrom (setting_of schema.now (read_by schema.now) (type_at there.now.types) (fragment_located there.now)) there.now.first (lowering_in_code l) l.first l.kept) }
+        IsLoweredFrom (setting_of schema.now (read_by schema.now) (type_at there.now.types) (fragment_located there.now)) there.now.first (lowering_in_code l.value) l.value.first l.value.kept) }
     ensures outside { IfErr result (BreaksFirst (setting_of schema.now (read_by schema.now) (type_at there.now.types) (fragment_located there.now))) }
 {
     let sites = sites_of(alloc, there.looped, kernel_body(there.looped))?;

@@ -30,17 +30,17 @@ pub fn lower(
     schema: &Schema,
     typed: &Typed,
     path: &Path,
-) -> Result<Lowered, Fail<Outside>>
+) -> Result<Box<Lowered>, Fail<Outside>>
     requires typed { IsWellTyped schema.now (read_by schema.now) (plain_program typed.now.program) }
     requires loops { IsLoopOf (plain_program typed.now.program) path.now }
-    ensures lowered { IfOk result (λ l. IsLowered schema.now (read_by schema.now) (plain_program typed.now.program) path.now (lowering_in_code l) l.first l.kept) }
+    ensures lowered { IfOk result (λ l. IsLowered schema.now (read_by schema.now) (plain_program typed.now.program) path.now (lowering_in_code l.value) l.value.first l.value.kept) }
     ensures outside { IfErr result (IsOutside schema.now (read_by schema.now) (plain_program typed.now.program) path.now) }
-    ensures fits { IfOk result (λ l. is_typed schema.now (fragment_of l.frag) ≡ true) }
-    ensures known { IfOk result (λ l. AreKnownTo schema.now (fragment_of l.frag) (map query l.known) l.known_args) }
+    ensures fits { IfOk result (λ l. is_typed schema.now (fragment_of l.value.frag) ≡ true) }
+    ensures known { IfOk result (λ l. AreKnownTo schema.now (fragment_of l.value.frag) (map query l.value.known) l.value.known_args) }
     ensures means { IfOk result (λ l.
         (w : Setting)
         → setting_at schema.now (read_by schema.now) path.now (plain_program typed.now.program) ≡ Some w
-        → IsMeant schema.now (read_by schema.now) (plain_program typed.now.program) path.now w (with_numbers l.kept l.first w.fragment.run)) }
+        → IsMeant schema.now (read_by schema.now) (plain_program typed.now.program) path.now w (with_numbers l.value.kept l.value.first w.fragment.run)) }
 {
     match located(alloc, Some(schema), typed.program(), path)? {
         None => unreachable!(),

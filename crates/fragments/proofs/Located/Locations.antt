@@ -10,12 +10,13 @@ use Rattle.java_ast.specs.Tree as plain
 use Rattle.java_mean.specs.Visible.{Visible, declared_in}
 use Rattle.loop_text.specs.Statements.Fragment.{Fragment, is_simple, are_simple, before_run, run_of, fragment_of, fragment_where, fragment_here, fragment_in}
 use Rattle.loop_text.specs.Statements.KeptStatements.{how_many, first_in}
-use Rattle.fragments.specs.Helping.Locating.{fragment_located, IsLocatedIn, IsFoundIn, IsFoundAt}
+use Rattle.fragments.specs.Helping.Locating.{fragment_located, fragment_spotted, IsFoundIn, IsSpottedIn, IsSeenIn, IsFoundAt}
 use Rattle.loop_text.specs.Statements.Loops.{is_loop}
 use Rattle.loop_text.specs.Statements.Names.{Names, with_name, with_names, declared_by, declared_among, walking, names_of_params}
 use Rattle.java_loops.specs.Lowering.Placing.{type_under, scope_after, scope_past, scope_inside, scope_within, scope_in, scope_of_params, scope_in_method, fragment_in_method}
 use Rattle.java_loops.specs.Lowering.Seen.{names_seen}
 use Rattle.fragments.specs.declared.places.position.Located.{Located}
+use Rattle.fragments.specs.declared.places.position.Spot.{Spot}
 use Rattle.java_loops.proofs.Kept.Longest.{run_splits}
 use Rattle.java_loops.proofs.Lists.Sets.{seen_declared}
 use Rattle.loop_text.proofs.Trees.Walked.{next_item}
@@ -115,20 +116,23 @@ loop_here : (visible : Names) (before rest ss : Statements) (s : Statement) → 
 loop_here visible before rest ss s is loop =
     ap (fragment_here visible before) is ∙ ap (λ (b : Bool). fragment_where b (fragment_of visible before s ss)) loop
 
-pub found_here : (o : Option Schema) (vs : Visible) (n : ℕ) (block before front run : List Stmt) (s : Stmt) (q : Located) → n < length block → s ≡ get_or block n s → is_loop (statement s) ≡ true → statements before ≡ first_of n (statements block) → before_run (statements before) ≡ statements front → run_of (statements before) ≡ statements run → q.visible ≡ scope_past o vs (statements front) → q.types ≡ scope_past o vs (statements before) → q.run.now ≡ run → q.looped.now ≡ s → q.behind.now ≡ drop (n + 1) block → q.first ≡ length front → IsLocatedIn o vs [] n (statements block) q
-found_here o vs n block before front run s q below is loop first fronted ran visible types runs looped behind begins =
+pub found_here : (o : Option Schema) (vs : Visible) (n : ℕ) (block before front run : List Stmt) (s : Stmt) (visible types : Visible) (q : Spot) → n < length block → s ≡ get_or block n s → is_loop (statement s) ≡ true → statements before ≡ first_of n (statements block) → before_run (statements before) ≡ statements front → run_of (statements before) ≡ statements run → visible ≡ scope_past o vs (statements front) → types ≡ scope_past o vs (statements before) → q.run.now ≡ run → q.looped.now ≡ s → q.behind.now ≡ drop (n + 1) block → q.first ≡ length front → IsSpottedIn o vs [] n (statements block) visible types q
+found_here o vs n block before front run s visible types q below is loop first fronted ran seen whole runs looped behind begins =
     let rest : behind_of n (statements block) ≡ Then (statement s) (statements (drop (n + 1) block)) = sym (statements_behind n block) ∙ ap statements (next_item block n s below is) in
     let there : Fragment = fragment_of (names_seen vs) (first_of n (statements block)) (statement s) (statements (drop (n + 1) block)) in
-    let whole : fragment_located q ≡ there =
-    same_fragment (fragment_located q) there
-    (ap names_seen visible ∙ seen_past o vs (statements front) ∙ ap (λ (ss : Statements). with_names (names_seen vs) (declared_among ss)) (sym fronted ∙ ap before_run first))
+    let same : fragment_spotted visible q ≡ there =
+    same_fragment (fragment_spotted visible q) there
+    (ap names_seen seen ∙ seen_past o vs (statements front) ∙ ap (λ (ss : Statements). with_names (names_seen vs) (declared_among ss)) (sym fronted ∙ ap before_run first))
     (ap statements runs ∙ sym ran ∙ ap run_of first)
     (ap statement looped)
     (ap statements behind) in
     record {
-      fragment = loop_here (names_seen vs) (first_of n (statements block)) (behind_of n (statements block)) (statements (drop (n + 1) block)) (statement s) rest loop ∙ ap Some (sym whole);
+      fragment = loop_here (names_seen vs) (first_of n (statements block)) (behind_of n (statements block)) (statements (drop (n + 1) block)) (statement s) rest loop ∙ ap Some (sym same);
       first = ap (λ (ss : Statements). Some (how_many (before_run ss))) (sym first) ∙ ap (λ (ss : Statements). Some (how_many ss)) fronted ∙ ap Some (count front ∙ sym begins);
-      types = ap (λ (ss : Statements). Some (scope_past o vs ss)) (sym first) ∙ ap Some (sym types);
+      types = ap (λ (ss : Statements). Some (scope_past o vs ss)) (sym first) ∙ ap Some (sym whole);
+      scoped =
+          run_scoped o vs (statements before) (statements front) (statements run) visible types fronted ran seen whole
+          ∙ ap (λ (xs : List Stmt). with_names (names_seen visible) (declared_among (statements xs))) (sym runs);
     }
 
 pub past_end : (n : ℕ) (xs : List Stmt) → length xs ≤ n → behind_of n (statements xs) ≡ Nothing
@@ -138,12 +142,12 @@ past_end (suc n) [] h = refl
 past_end (suc n) (x ∷ xs) h = past_end n xs (omega arith)
 
 -- there is no statement with the number
-pub none_here : (o : Option Schema) (vs : Visible) (n : ℕ) (block : List Stmt) → length block ≤ n → IsFoundIn o vs [] n (statements block) None
-none_here o vs n block h = ap (fragment_here (names_seen vs) (first_of n (statements block))) (past_end n block h)
+pub none_here : (o : Option Schema) (vs before there : Visible) (n : ℕ) (block : List Stmt) → length block ≤ n → IsSeenIn o vs [] n (statements block) before there None
+none_here o vs before there n block h = ap (fragment_here (names_seen vs) (first_of n (statements block))) (past_end n block h)
 
 -- the statement with the number is no loop
-pub no_loop_here : (o : Option Schema) (vs : Visible) (n : ℕ) (block : List Stmt) (s : Stmt) → n < length block → s ≡ get_or block n s → is_loop (statement s) ≡ false → IsFoundIn o vs [] n (statements block) None
-no_loop_here o vs n block s below is other =
+pub no_loop_here : (o : Option Schema) (vs before there : Visible) (n : ℕ) (block : List Stmt) (s : Stmt) → n < length block → s ≡ get_or block n s → is_loop (statement s) ≡ false → IsSeenIn o vs [] n (statements block) before there None
+no_loop_here o vs before there n block s below is other =
     ap (fragment_here (names_seen vs) (first_of n (statements block))) (sym (statements_behind n block) ∙ ap statements (next_item block n s below is))
     ∙ ap (λ (b : Bool). fragment_where b (fragment_of (names_seen vs) (first_of n (statements block)) (statement s) (statements (drop (n + 1) block)))) other
 
@@ -156,44 +160,45 @@ fragment_below visible within b m n path block body s r number branch names ther
     ∙ ap (λ (xs : Names). fragment_in xs path m body) (sym names)
     ∙ there
 
-pub found_below : (o : Option Schema) (vs : Visible) (b m n : ℕ) (path : List ℕ) (block body : Statements) (s : Statement) (r : Option Located) → numbered n block ≡ Some s → branch_of b s ≡ Some body → IsFoundIn o (scope_within o vs (first_of n block) s) path m body r → IsFoundIn o vs (b ∷ m ∷ path) n block r
-found_below o vs b m n path block body s None number branch there =
-    fragment_below (names_seen vs) (names_seen (scope_within o vs (first_of n block) s)) b m n path block body s None number branch (seen_within o vs (first_of n block) s) there
-found_below o vs b m n path block body s (Some q) number branch there =
+pub found_below : (o : Option Schema) (vs before there : Visible) (b m n : ℕ) (path : List ℕ) (block body : Statements) (s : Statement) (r : Option Spot) → numbered n block ≡ Some s → branch_of b s ≡ Some body → IsSeenIn o (scope_within o vs (first_of n block) s) path m body before there r → IsSeenIn o vs (b ∷ m ∷ path) n block before there r
+found_below o vs before there b m n path block body s None number branch is =
+    fragment_below (names_seen vs) (names_seen (scope_within o vs (first_of n block) s)) b m n path block body s None number branch (seen_within o vs (first_of n block) s) is
+found_below o vs before there b m n path block body s (Some q) number branch is =
     record {
-      fragment = fragment_below (names_seen vs) (names_seen (scope_within o vs (first_of n block) s)) b m n path block body s (Some (fragment_located q)) number branch (seen_within o vs (first_of n block) s) there.fragment;
-      first = ap (found_in (λ (t : Statement). found_in (first_in path m) (branch_of b t))) number ∙ ap (found_in (first_in path m)) branch ∙ there.first;
+      fragment = fragment_below (names_seen vs) (names_seen (scope_within o vs (first_of n block) s)) b m n path block body s (Some (fragment_spotted before q)) number branch (seen_within o vs (first_of n block) s) is.fragment;
+      first = ap (found_in (λ (t : Statement). found_in (first_in path m) (branch_of b t))) number ∙ ap (found_in (first_in path m)) branch ∙ is.first;
       types =
           ap (found_in (λ (t : Statement). found_in (scope_in o (scope_within o vs (first_of n block) t) path m) (branch_of b t))) number
           ∙ ap (found_in (scope_in o (scope_within o vs (first_of n block) s) path m)) branch
-          ∙ there.types;
+          ∙ is.types;
+      scoped = is.scoped;
     }
 
-found_along : (o : Option Schema) (vs : Visible) (path path' : List ℕ) (n : ℕ) (block : Statements) (r : Option Located) → path ≡ path' → IsFoundIn o vs path' n block r → IsFoundIn o vs path n block r
-found_along o vs path path' n block r is = subst (λ (p : List ℕ). IsFoundIn o vs p n block r) (sym is)
+found_along : (o : Option Schema) (vs before there : Visible) (path path' : List ℕ) (n : ℕ) (block : Statements) (r : Option Spot) → path ≡ path' → IsSeenIn o vs path' n block before there r → IsSeenIn o vs path n block before there r
+found_along o vs before there path path' n block r is = subst (λ (p : List ℕ). IsSeenIn o vs p n block before there r) (sym is)
 
 two_steps : (path below rest : List ℕ) (b m : ℕ) → path ≡ b ∷ below → below ≡ m ∷ rest → path ≡ b ∷ m ∷ rest
 two_steps path below rest b m is more = is ∙ ap (λ (p : List ℕ). b ∷ p) more
 
-pub step_found : (o : Option Schema) (vs within : Visible) (path below rest : List ℕ) (b m n : ℕ) (block body before : Statements) (s : Statement) (r : Option Located) → path ≡ b ∷ below → below ≡ m ∷ rest → Some s ≡ numbered n block → Some body ≡ branch_of b s → before ≡ first_of n block → within ≡ scope_within o vs before s → IsFoundIn o within rest m body r → IsFoundIn o vs path n block r
-step_found o vs within path below rest b m n block body before s r is more number branch first scope there =
-    found_along o vs path (b ∷ m ∷ rest) n block r (two_steps path below rest b m is more)
-    (found_below o vs b m n rest block body s r (sym number) (sym branch)
-    (subst (λ (ws : Visible). IsFoundIn o ws rest m body r) (scope ∙ ap (λ (ss : Statements). scope_within o vs ss s) first) there))
+pub step_found : (o : Option Schema) (vs within visible types : Visible) (path below rest : List ℕ) (b m n : ℕ) (block body before : Statements) (s : Statement) (r : Option Spot) → path ≡ b ∷ below → below ≡ m ∷ rest → Some s ≡ numbered n block → Some body ≡ branch_of b s → before ≡ first_of n block → within ≡ scope_within o vs before s → IsSeenIn o within rest m body visible types r → IsSeenIn o vs path n block visible types r
+step_found o vs within visible types path below rest b m n block body before s r is more number branch first scope there =
+    found_along o vs visible types path (b ∷ m ∷ rest) n block r (two_steps path below rest b m is more)
+    (found_below o vs visible types b m n rest block body s r (sym number) (sym branch)
+    (subst (λ (ws : Visible). IsSeenIn o ws rest m body visible types r) (scope ∙ ap (λ (ss : Statements). scope_within o vs ss s) first) there))
 
-pub no_number : (o : Option Schema) (vs : Visible) (path below rest : List ℕ) (b m n : ℕ) (block : Statements) → path ≡ b ∷ below → below ≡ m ∷ rest → None ≡ numbered n block → IsFoundIn o vs path n block None
-no_number o vs path below rest b m n block is more none =
-    found_along o vs path (b ∷ m ∷ rest) n block None (two_steps path below rest b m is more)
+pub no_number : (o : Option Schema) (vs before there : Visible) (path below rest : List ℕ) (b m n : ℕ) (block : Statements) → path ≡ b ∷ below → below ≡ m ∷ rest → None ≡ numbered n block → IsSeenIn o vs path n block before there None
+no_number o vs before there path below rest b m n block is more none =
+    found_along o vs before there path (b ∷ m ∷ rest) n block None (two_steps path below rest b m is more)
     (ap (found_in (λ (t : Statement). found_in (fragment_in (with_names (with_names (names_seen vs) (declared_among (first_of n block))) (walking t)) rest m) (branch_of b t))) (sym none))
 
-pub no_branch : (o : Option Schema) (vs : Visible) (path below rest : List ℕ) (b m n : ℕ) (block : Statements) (s : Statement) → path ≡ b ∷ below → below ≡ m ∷ rest → Some s ≡ numbered n block → None ≡ branch_of b s → IsFoundIn o vs path n block None
-no_branch o vs path below rest b m n block s is more number none =
-    found_along o vs path (b ∷ m ∷ rest) n block None (two_steps path below rest b m is more)
+pub no_branch : (o : Option Schema) (vs before there : Visible) (path below rest : List ℕ) (b m n : ℕ) (block : Statements) (s : Statement) → path ≡ b ∷ below → below ≡ m ∷ rest → Some s ≡ numbered n block → None ≡ branch_of b s → IsSeenIn o vs path n block before there None
+no_branch o vs before there path below rest b m n block s is more number none =
+    found_along o vs before there path (b ∷ m ∷ rest) n block None (two_steps path below rest b m is more)
     (ap (found_in (λ (t : Statement). found_in (fragment_in (with_names (with_names (names_seen vs) (declared_among (first_of n block))) (walking t)) rest m) (branch_of b t))) (sym number)
     ∙ ap (found_in (fragment_in (with_names (with_names (names_seen vs) (declared_among (first_of n block))) (walking s)) rest m)) (sym none))
 
-pub odd_path : (o : Option Schema) (vs : Visible) (path below : List ℕ) (b n : ℕ) (block : Statements) → path ≡ b ∷ below → below ≡ [] → IsFoundIn o vs path n block None
-odd_path o vs path below b n block is none = found_along o vs path (b ∷ []) n block None (is ∙ ap (λ (p : List ℕ). b ∷ p) none) refl
+pub odd_path : (o : Option Schema) (vs before there : Visible) (path below : List ℕ) (b n : ℕ) (block : Statements) → path ≡ b ∷ below → below ≡ [] → IsSeenIn o vs path n block before there None
+odd_path o vs before there path below b n block is none = found_along o vs before there path (b ∷ []) n block None (is ∙ ap (λ (p : List ℕ). b ∷ p) none) refl
 
 -- ---- In a program
 

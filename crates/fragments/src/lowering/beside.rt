@@ -250,6 +250,12 @@ fn valid_fragment(parts: Parts) -> KFragment
     }
 }
 
+fn boxed(alloc: Global, lowered: Lowered) -> Result<Box<Lowered>, NoMemory>
+    ensures { IfOk result (λ b. b.value ≡ lowered) }
+{
+    Ok(Box::new(alloc, lowered)?)
+}
+
 /// The lowered fragment with the accumulators of these variables and all flags, and what stands beside it, for a loop
 /// whose fragment is valid and whose known lists have queries.
 pub fn lowering_with(
@@ -260,27 +266,31 @@ pub fn lowering_with(
     names: &[&Name],
     first: u64,
     kept: qbs_base::Numbers,
-) -> Result<Lowered, NoMemory>
+) -> Result<Box<Lowered>, NoMemory>
     requires few { HasFewLoops (setting_in_code w.now) }
     requires needed { needed ≡ length (fragment.needed_of (setting_in_code w.now).fragment) }
     requires numbers { AreNumbersOf (setting_in_code w.now) (numbers_in_code t.now) }
     requires valid { validity.broken (specs.fragment_with (setting_in_code w.now) (numbers_in_code t.now) (names_lent names.now)) ≡ None }
     requires known { list_all (has_query (setting_in_code w.now)) (numbers_in_code t.now).known ≡ true }
-    ensures lowered { IfOk result (λ l. lowering_in_code l ≡ specs.lowering_with (setting_in_code w.now) (numbers_in_code t.now) (names_lent names.now)) }
-    ensures queries { IfOk result (λ l. HasQueriesOf (setting_in_code w.now).schema (lowering_in_code l)) }
-    ensures first { IfOk result (λ l. l.first ≡ first) }
-    ensures kept { IfOk result (λ l. l.kept ≡ kept) }
+    ensures lowered { IfOk result (λ l. lowering_in_code l.value ≡ specs.lowering_with (setting_in_code w.now) (numbers_in_code t.now) (names_lent names.now)) }
+    ensures queries { IfOk result (λ l. HasQueriesOf (setting_in_code w.now).schema (lowering_in_code l.value)) }
+    ensures first { IfOk result (λ l. l.value.first ≡ first) }
+    ensures kept { IfOk result (λ l. l.value.kept ≡ kept) }
 {
     let entries = t.entries.as_slice();
     let known = t.known.as_slice();
     let parts = fragment_with(alloc, w, t, needed, names)?;
-    Ok(Lowered {
-        frag: valid_fragment(parts),
-        names: names_of(alloc, w, names)?,
-        entries: copy_entries(alloc, entries)?,
-        known: queries_asked(alloc, w, known)?,
-        known_args: arguments_of(alloc, w, entries, known)?,
-        first,
-        kept,
-    })
+    let lowered = boxed(
+        alloc,
+        Lowered {
+            frag: valid_fragment(parts),
+            names: names_of(alloc, w, names)?,
+            entries: copy_entries(alloc, entries)?,
+            known: queries_asked(alloc, w, known)?,
+            known_args: arguments_of(alloc, w, entries, known)?,
+            first,
+            kept,
+        },
+    )?;
+    Ok(lowered)
 }

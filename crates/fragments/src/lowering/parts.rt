@@ -3,6 +3,7 @@ ghost use Rattle.std.specs.Prelude.{◌≡◌, IfOk, length, map, slice_get};
 ghost use Rattle.java_ast.specs.Reading.{expression};
 ghost use Rattle.qbs_base.specs.Columns.{columns_at as columns_in};
 ghost use Rattle.kernel_lang.specs.Parts.{parts_of};
+ghost use Rattle.kernel_lang.specs.Plain.{accumulator};
 ghost use Rattle.fragments.specs.Helping.Counted.{numbers_in_code, HasFewLoops, AreNumbersOf};
 ghost use Rattle.loop_text.specs.Statements.Fragment.{needed_of};
 ghost use Rattle.java_loops.specs.Lowering.Lowered as specs;
@@ -19,7 +20,7 @@ use crate::numbering::numbers::Numbers;
 use crate::places::setting::Setting;
 use java_ast::{Expr, ExprNode};
 use java_mean::{JavaType, Single};
-use kernel_lang::Parts;
+use kernel_lang::{Accs, Parts};
 use qbs_base::{Column, Name, NoMemory, Ty, Tys};
 use schema::Schema;
 use std::alloc::Global;
@@ -91,6 +92,31 @@ fn types_of_entries(alloc: Global, w: &Setting, entries: &[&Expr]) -> Result<Tys
 
 // ---- The fragment
 
+// The accumulators of these names, and all flags.
+fn accumulators_with(
+    alloc: Global,
+    w: &Setting,
+    t: &Numbers,
+    needed: usize,
+    names: &[&Name],
+) -> Result<Accs, NoMemory>
+    requires few { HasFewLoops (setting_in_code w.now) }
+    requires needed { needed ≡ length (needed_of (setting_in_code w.now).fragment) }
+    requires numbers { AreNumbersOf (setting_in_code w.now) (numbers_in_code t.now) }
+    ensures { IfOk result (λ accs.
+        map accumulator accs
+        ≡ specs.accumulators_of (setting_in_code w.now) (numbers_in_code t.now) (specs.conditions_of (setting_in_code w.now) (numbers_in_code t.now)) (names_lent names.now)) }
+{
+    let counts = counts_of(alloc, w, needed)?;
+    let context = Context {
+        setting: w,
+        numbers: t,
+        counts: &counts,
+    };
+    let conditions = conditions_of(alloc, &context)?;
+    accumulators_of(alloc, &context, conditions.as_slice(), names)
+}
+
 /// The parts of the fragment with the accumulators of these names, and all flags.
 pub fn fragment_with(
     alloc: Global,
@@ -104,16 +130,9 @@ pub fn fragment_with(
     requires numbers { AreNumbersOf (setting_in_code w.now) (numbers_in_code t.now) }
     ensures { IfOk result (λ parts. parts_of parts ≡ specs.fragment_with (setting_in_code w.now) (numbers_in_code t.now) (names_lent names.now)) }
 {
-    let counts = counts_of(alloc, w, needed)?;
-    let context = Context {
-        setting: w,
-        numbers: t,
-        counts: &counts,
-    };
-    let conditions = conditions_of(alloc, &context)?;
+    let accs = accumulators_with(alloc, w, t, needed, names)?;
     let lists = lists_of(alloc, w)?;
     let atoms = copy_atoms(alloc, t.atoms.as_slice())?;
-    let accs = accumulators_of(alloc, &context, conditions.as_slice(), names)?;
     let entries = types_of_entries(alloc, w, t.entries.as_slice())?;
     Ok(Parts {
         lists,

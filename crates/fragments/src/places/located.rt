@@ -3,13 +3,13 @@ ghost use Rattle.std.specs.Prelude.{◌≡◌, [], IfOk, option_copied};
 ghost use Rattle.java_ast.specs.Reading.{statements, method as plain_method, program as plain_program};
 ghost use Rattle.loop_text.specs.Statements.Fragment as fragment;
 ghost use Rattle.loop_text.specs.Statements.Fragment.{needed_at};
-ghost use Rattle.fragments.specs.Helping.Locating.{fragment_located, IsFoundAt, IsFoundIn};
+ghost use Rattle.fragments.specs.Helping.Locating.{fragment_located, IsFoundAt, IsFoundIn, IsSeenIn};
 ghost use Rattle.java_loops.specs.Lowering.Placing.{scope_of_params};
 ghost use Rattle.fragments.specs.Helping.Reading.{fragment_in_code};
 
 use crate::kept::accumulators::accumulators;
 use crate::lowering::beside::copy_names;
-use crate::places::position::Located;
+use crate::places::position::{Located, Spot};
 use crate::places::scopes::{declare_all, declare_params, declare_within};
 use crate::places::setting::Fragment;
 use crate::rules::k5_updates::live_among;
@@ -38,16 +38,17 @@ impl<'a> Located<'a> {
     }
 }
 
-// The loop with this number in its block.
-fn located_here<'a>(
+// The loop with this number in its block. What the block declares before the run gets visible, and what it declares before the
+// loop among the types.
+fn spot_here<'a>(
     schema: Option<&Schema>,
-    mut visible: Scope<'a>,
-    mut types: Scope<'a>,
     block: &'a [Stmt],
     number: usize,
-) -> Result<Option<Located<'a>>, NoMemory>
-    requires { types ≡ visible }
-    ensures { IfOk result (IsFoundIn (option_copied schema.entry) visible.entry [] number (statements block.now)) }
+    visible: &mut Scope<'a>,
+    types: &mut Scope<'a>,
+) -> Result<Option<Spot<'a>>, NoMemory>
+    requires { types.old ≡ visible.old }
+    ensures { IfOk result (IsSeenIn (option_copied schema.entry) visible.old [] number (statements block.now) visible.new types.new) }
 {
     let Some(looped) = block.get(number) else {
         return Ok(None);
@@ -57,11 +58,9 @@ fn located_here<'a>(
     }
     let before = before_number(block, number);
     let (front, run) = split_run(before);
-    declare_all(schema, front, &mut visible)?;
-    declare_all(schema, before, &mut types)?;
-    Ok(Some(Located {
-        visible,
-        types,
+    declare_all(schema, front, visible)?;
+    declare_all(schema, before, types)?;
+    Ok(Some(Spot {
         run,
         looped,
         behind: behind_number(block, number),
@@ -69,20 +68,20 @@ fn located_here<'a>(
     }))
 }
 
-// The loop to which a path leads behind the number of a statement of the block.
-fn located_below<'a>(
+// The loop to which a path leads behind the number of a statement of the block, with what is declared on the way.
+fn spot_below<'a>(
     schema: Option<&Schema>,
-    mut visible: Scope<'a>,
-    mut types: Scope<'a>,
     block: &'a [Stmt],
     number: u64,
     path: &[u64],
-) -> Result<Option<Located<'a>>, NoMemory>
-    requires { types ≡ visible }
-    ensures { IfOk result (IsFoundIn (option_copied schema.entry) visible.entry path.now number (statements block.now)) }
+    visible: &mut Scope<'a>,
+    types: &mut Scope<'a>,
+) -> Result<Option<Spot<'a>>, NoMemory>
+    requires { types.old ≡ visible.old }
+    ensures { IfOk result (IsSeenIn (option_copied schema.entry) visible.old path.now number (statements block.now) visible.new types.new) }
 {
     let Some((at, below)) = path.split_first() else {
-        return located_here(schema, visible, types, block, number as usize);
+        return spot_here(schema, block, number as usize, visible, types);
     };
     let Some((further, rest)) = below.split_first() else {
         return Ok(None);
@@ -94,9 +93,9 @@ fn located_below<'a>(
         return Ok(None);
     };
     let before = before_number(block, number as usize);
-    declare_within(schema, before, s, &mut visible)?;
-    declare_within(schema, before, s, &mut types)?;
-    located_below(schema, visible, types, inner, *further, rest)
+    declare_within(schema, before, s, visible)?;
+    declare_within(schema, before, s, types)?;
+    spot_below(schema, inner, *further, rest, visible, types)
 }
 
 fn located_in_method<'a>(
@@ -113,7 +112,24 @@ fn located_in_method<'a>(
     let mut types = Scope::new(alloc);
     declare_params(schema, m.params.as_slice(), &mut visible)?;
     declare_params(schema, m.params.as_slice(), &mut types)?;
-    located_below(schema, visible, types, m.body.as_slice(), number, path)
+    match spot_below(
+        schema,
+        m.body.as_slice(),
+        number,
+        path,
+        &mut visible,
+        &mut types,
+    )? {
+        None => Ok(None),
+        Some(spot) => Ok(Some(Located {
+            visible,
+            types,
+            run: spot.run,
+            looped: spot.looped,
+            behind: spot.behind,
+            first: spot.first,
+        })),
+    }
 }
 
 /// The loop to which a path leads, its variables with their types where a schema is given; none where the path leads to no

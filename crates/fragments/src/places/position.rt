@@ -20,3 +20,13 @@ pub struct Located<'a> {
     pub first: u64,
     ghost scoped: { names_seen types ≡ with_names (names_seen visible) (declared_among (statements run.now)) },
 }
+
+/// A loop in its block: the run before it, the loop, what stands behind it, and the number of the run's first statement, or of
+/// the loop where the run is empty.
+#[derive(Clone, Copy)]
+pub struct Spot<'a> {
+    pub run: &'a [Stmt],
+    pub looped: &'a Stmt,
+    pub behind: &'a [Stmt],
+    pub first: u64,
+}

@@ -10,7 +10,7 @@ use crate::places::setting::Setting;
 use crate::rules::k7_known::{asked_for, is_column_query};
 use crate::rules::k7_operands::{are_entries, is_operand};
 use java_ast::{Expr, ExprNode, Stmt};
-use java_types::read_query;
+use java_types::query_of;
 use loop_text::conditions::asked::{Asked, behind_setting, first_setting};
 use loop_text::conditions::flags::{condition_of, is_some, reads_flag, sets_some};
 use loop_text::conditions::leaves::{is_compared, is_excepted, push_leaves};
@@ -53,11 +53,9 @@ fn is_known_query(
     match asked {
         None => Ok(false),
         Some(a) => {
-            let q = read_query(alloc, w.schema, a.text)?;
-            Ok(
-                is_column_query(&q)
-                    && (are_entries(w, n, a.arguments) && !sets_some(a.arguments, behind)),
-            )
+            let q = query_of(alloc, w.schema, a.text)?;
+            let listed = is_column_query(q.as_deref());
+            Ok(listed && (are_entries(w, n, a.arguments) && !sets_some(a.arguments, behind)))
         }
     }
 }

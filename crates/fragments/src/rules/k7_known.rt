@@ -21,8 +21,8 @@ fn is_column_item(item: &SqlItem) -> bool
 }
 
 /// Whether a query is of one column without LIMIT.
-pub fn is_column_query(q: &Option<Query>) -> bool
-    ensures { result ≡ specs.is_column_query (option_map query q.now) }
+pub fn is_column_query(q: Option<&Query>) -> bool
+    ensures { result ≡ specs.is_column_query (option_map query (option_copied q.entry)) }
 {
     match q {
         Some(Query::Listing(q)) => is_column_item(&q.item) && q.limit.is_none(),

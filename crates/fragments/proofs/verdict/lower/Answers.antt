@@ -39,10 +39,10 @@ lower_located-requires c =
 
 pub returns-clause-lowered : goal.returns-clause-lowered
 returns-clause-lowered c =
-    IfOk-weaker c.lower_located.result (λ l. IsLoweredFrom (setting_located c.args.schema.now c.in-Some.there) c.in-Some.there.first (lowering_in_code l) l.first l.kept) (λ l. IsLowered c.args.schema.now (read_by c.args.schema.now) (program c.args.typed.now.program) c.args.path.now (lowering_in_code l) l.first l.kept)
+    IfOk-weaker c.lower_located.result (λ l. IsLoweredFrom (setting_located c.args.schema.now c.in-Some.there) c.in-Some.there.first (lowering_in_code l.value) l.value.first l.value.kept) (λ l. IsLowered c.args.schema.now (read_by c.args.schema.now) (program c.args.typed.now.program) c.args.path.now (lowering_in_code l.value) l.value.first l.value.kept)
     (λ l. located_lowered c.args.schema.now c.args.path.now (program c.args.typed.now.program) c.in-Some.there c.requires.typed
     (found_there c.args.schema.now c.args.path.now c.program.result.now c.args.typed.now.program c.in_ok-located.field-0 c.in-Some.there c.program.ensures c.in-Some.is c.in_ok-located.ensures)
-    (lowering_in_code l) l.first l.kept)
+    (lowering_in_code l.value) l.value.first l.value.kept)
     c.lower_located.ensures.lowered
 
 pub returns-clause-outside : goal.returns-clause-outside
@@ -54,26 +54,26 @@ returns-clause-outside c =
 
 pub returns-clause-fits : goal.returns-clause-fits
 returns-clause-fits c =
-    IfOk-weaker c.lower_located.result (λ l. IsLoweredFrom (setting_located c.args.schema.now c.in-Some.there) c.in-Some.there.first (lowering_in_code l) l.first l.kept) (λ l. is_typed c.args.schema.now (fragment_of l.frag) ≡ true)
+    IfOk-weaker c.lower_located.result (λ l. IsLoweredFrom (setting_located c.args.schema.now c.in-Some.there) c.in-Some.there.first (lowering_in_code l.value) l.value.first l.value.kept) (λ l. is_typed c.args.schema.now (fragment_of l.value.frag) ≡ true)
     (λ l. located_fits c.args.schema.now c.args.path.now (program c.args.typed.now.program) c.in-Some.there c.requires.typed
     (found_there c.args.schema.now c.args.path.now c.program.result.now c.args.typed.now.program c.in_ok-located.field-0 c.in-Some.there c.program.ensures c.in-Some.is c.in_ok-located.ensures)
-    c.args.typed.now.numbers (lowering_in_code l) l.first l.kept)
+    c.args.typed.now.numbers (lowering_in_code l.value) l.value.first l.value.kept)
     c.lower_located.ensures.lowered
 
 pub returns-clause-known : goal.returns-clause-known
 returns-clause-known c =
-    IfOk-weaker c.lower_located.result (λ l. IsLoweredFrom (setting_located c.args.schema.now c.in-Some.there) c.in-Some.there.first (lowering_in_code l) l.first l.kept) (λ l. AreKnownTo c.args.schema.now (fragment_of l.frag) (map query l.known) l.known_args)
-    (λ l k. known_held c.args.schema.now (fragment_of l.frag) l.known l.known_args
+    IfOk-weaker c.lower_located.result (λ l. IsLoweredFrom (setting_located c.args.schema.now c.in-Some.there) c.in-Some.there.first (lowering_in_code l.value) l.value.first l.value.kept) (λ l. AreKnownTo c.args.schema.now (fragment_of l.value.frag) (map query l.value.known) l.value.known_args)
+    (λ l k. known_held c.args.schema.now (fragment_of l.value.frag) l.value.known l.value.known_args
     (located_known c.args.schema.now c.args.path.now (program c.args.typed.now.program) c.in-Some.there c.requires.typed
     (found_there c.args.schema.now c.args.path.now c.program.result.now c.args.typed.now.program c.in_ok-located.field-0 c.in-Some.there c.program.ensures c.in-Some.is c.in_ok-located.ensures)
-    c.args.typed.now.numbers (lowering_in_code l) l.first l.kept k))
+    c.args.typed.now.numbers (lowering_in_code l.value) l.value.first l.value.kept k))
     c.lower_located.ensures.lowered
 
 pub returns-clause-means : goal.returns-clause-means
 returns-clause-means c =
-    IfOk-weaker c.lower_located.result (λ l. IsLoweredFrom (setting_located c.args.schema.now c.in-Some.there) c.in-Some.there.first (lowering_in_code l) l.first l.kept) (λ l. (w : Setting) → setting_at c.args.schema.now (read_by c.args.schema.now) c.args.path.now (program c.args.typed.now.program) ≡ Some w → IsMeant c.args.schema.now (read_by c.args.schema.now) (program c.args.typed.now.program) c.args.path.now w (with_numbers l.kept l.first w.fragment.run))
-    (λ l k. lowered_is_meant c.args.schema.now (read_by c.args.schema.now) (program c.args.typed.now.program) c.args.path.now (lowering_in_code l) l.first l.kept c.requires.typed c.args.typed.now.numbers
+    IfOk-weaker c.lower_located.result (λ l. IsLoweredFrom (setting_located c.args.schema.now c.in-Some.there) c.in-Some.there.first (lowering_in_code l.value) l.value.first l.value.kept) (λ l. (w : Setting) → setting_at c.args.schema.now (read_by c.args.schema.now) c.args.path.now (program c.args.typed.now.program) ≡ Some w → IsMeant c.args.schema.now (read_by c.args.schema.now) (program c.args.typed.now.program) c.args.path.now w (with_numbers l.value.kept l.value.first w.fragment.run))
+    (λ l k. lowered_is_meant c.args.schema.now (read_by c.args.schema.now) (program c.args.typed.now.program) c.args.path.now (lowering_in_code l.value) l.value.first l.value.kept c.requires.typed c.args.typed.now.numbers
     (located_lowered c.args.schema.now c.args.path.now (program c.args.typed.now.program) c.in-Some.there c.requires.typed
     (found_there c.args.schema.now c.args.path.now c.program.result.now c.args.typed.now.program c.in_ok-located.field-0 c.in-Some.there c.program.ensures c.in-Some.is c.in_ok-located.ensures)
-    (lowering_in_code l) l.first l.kept k))
+    (lowering_in_code l.value) l.value.first l.value.kept k))
     c.lower_located.ensures.lowered

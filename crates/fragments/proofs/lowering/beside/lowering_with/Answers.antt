@@ -1,19 +1,23 @@
 use Rattle.std.specs.Borrow.{Bor}
-use Rattle.std.proofs.Common.{◌∙◌, ℕ, List, ap, map}
+use Rattle.std.proofs.Common.{◌∙◌, ℕ, List, ap, map, sym, subst}
 use Rattle.java_ast.specs.declared.tree.Expr.{Expr}
 use Rattle.loop_text.specs.Kernel.KernelConditions.{asked_for}
 use Rattle.java_loops.specs.Lowering.Lowered.{numbers_of_arguments, query_asked}
 use Rattle.java_loops.specs.Lowering.Numbering.{arguments_asked}
 use Rattle.loop_text.specs.Sites.Reading.{exprs_lent}
 use Rattle.loop_text.specs.Statements.Seen.{names_lent}
+use Rattle.fragments.specs.Asked.{HasQueriesOf}
 use Rattle.fragments.specs.Helping.Reading.{setting_in_code}
+use Rattle.fragments.specs.Lowers.{lowering_in_code}
+use Rattle.fragments.specs.declared.lowering.lowered.Lowered.{Lowered}
 use Rattle.fragments.proofs.Known.KnownHeld.{queries_held}
 use Rattle.fragments.proofs.Lowerings.LoweredBeside.{same_lowering}
 use Rattle.fragments.proofs.lowering.beside.lowering_with.Goals as goal
 
 pub returns-clause-lowered : goal.returns-clause-lowered
 returns-clause-lowered c =
-    same_lowering _ _ _ _ _ _ _ _ _ _
+    ap lowering_in_code c.in_ok-lowered.ensures
+    ∙ same_lowering _ _ _ _ _ _ _ _ _ _
     (c.valid_fragment.ensures ∙ c.in_ok-parts.ensures)
     c.in_ok-names_of.ensures
     (c.in_ok-copy_entries.ensures ∙ ap (λ (l : List (Bor Expr)). exprs_lent l) c.as_slice-entries.ensures)
@@ -23,4 +27,6 @@ returns-clause-lowered c =
     ∙ ap (λ (l : List (Bor (List ℕ))). map (λ x. numbers_of_arguments (exprs_lent c.args.t.now.entries) (arguments_asked (asked_for (setting_in_code c.args.w.now).fragment.run x))) (names_lent l)) c.as_slice-known.ensures)
 
 pub returns-clause-queries : goal.returns-clause-queries
-returns-clause-queries c = queries_held (setting_in_code c.args.w.now).schema c.in_ok-queries_asked.field-0 c.in_ok-queries_asked.ensures.valid
+returns-clause-queries c =
+    subst (λ (l : Lowered). HasQueriesOf (setting_in_code c.args.w.now).schema (lowering_in_code l)) (sym c.in_ok-lowered.ensures)
+    (queries_held (setting_in_code c.args.w.now).schema c.in_ok-queries_asked.field-0 c.in_ok-queries_asked.ensures.valid)
