@@ -1,10 +1,11 @@
 // Terms, formulas and lists in boxes.
 use qbs_base::{Items, NoMemory};
 use std::alloc::Global;
-use tor_terms::{Formula, Loops, Term};
+use tor_terms::{Formula, Loops};
 
-pub fn boxed(alloc: Global, term: Term) -> Result<Box<Term>, NoMemory> {
-    Ok(Box::new(alloc, term)?)
+/// A value in a box of its own.
+pub fn boxed<T: Drop>(alloc: Global, value: T) -> Result<Box<T>, NoMemory> {
+    Ok(Box::new(alloc, value)?)
 }
 
 pub fn numbers(alloc: Global, list: &[u32]) -> Result<Loops, NoMemory> {
@@ -12,13 +13,13 @@ pub fn numbers(alloc: Global, list: &[u32]) -> Result<Loops, NoMemory> {
 }
 
 pub fn is(alloc: Global, atom: u32, holds: bool) -> Result<Box<Formula>, NoMemory> {
-    Ok(Box::new(alloc, Formula::Is(atom, holds))?)
+    boxed(alloc, Formula::Is(atom, holds))
 }
 
 pub fn both(alloc: Global, f: Box<Formula>, g: Box<Formula>) -> Result<Box<Formula>, NoMemory> {
-    Ok(Box::new(alloc, Formula::Both(f, g))?)
+    boxed(alloc, Formula::Both(f, g))
 }
 
 pub fn either(alloc: Global, f: Box<Formula>, g: Box<Formula>) -> Result<Box<Formula>, NoMemory> {
-    Ok(Box::new(alloc, Formula::Either(f, g))?)
+    boxed(alloc, Formula::Either(f, g))
 }

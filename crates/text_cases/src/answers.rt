@@ -1,4 +1,5 @@
 // The answers of queries over a table of one column.
+ghost use Rattle.std.specs.Prelude.{◌≡◌, []};
 ghost use Rattle.sql_ast.specs.Reading.{query};
 ghost use Rattle.sql_exec.specs.Answered.{IsAnswerable};
 
@@ -8,13 +9,24 @@ use sql_ast::Query;
 use sql_exec::{Answer, answer};
 use std::alloc::Global;
 
-fn row(alloc: Global, number: i64) -> Result<Row, NoMemory> {
+// A row of the table with that number, of a number each column.
+fn row(alloc: Global, table: u32, numbers: &[i64]) -> Result<Row, NoMemory> {
     let mut cells = Cells::new(alloc);
-    cells.push(Scalar::Long(number))?;
+    for number in numbers {
+        cells.push(Scalar::Long(*number))?;
+    }
     Ok(Row {
-        kind: Kind::Table(0),
+        kind: Kind::Table(table),
         cells,
     })
+}
+
+/// Appends a row to the table with that number, of a number each column. Where there is no such table, nothing is done.
+pub fn put_row(db: &mut Db, alloc: Global, table: u32, numbers: &[i64]) -> Result<(), NoMemory> {
+    if db.rows(table).is_some() {
+        db.put_row(table, row(alloc, table, numbers)?)?;
+    }
+    Ok(())
 }
 
 /// The number of these digits, and 0 where they are none.
@@ -26,17 +38,16 @@ pub fn number_of(alloc: Global, digits: &[u8]) -> Result<i64, NoMemory> {
     }
 }
 
-// One table of one column.
-fn numbered(alloc: Global, numbers: &[Vec<u8>]) -> Result<Db, NoMemory> {
-    let mut db = Db::new(alloc);
+// Adds one table of one column.
+fn put_numbers(db: &mut Db, alloc: Global, numbers: &[Vec<u8>]) -> Result<(), NoMemory>
+    requires { db.old ≡ [] }
+{
     db.add_table(Text::from_string(String::new(alloc)))?;
     for digits in numbers {
         let number = number_of(alloc, digits)?;
-        if db.rows(0).is_some() {
-            db.put_row(0, row(alloc, number)?)?;
-        }
+        put_row(db, alloc, 0, &[number])?;
     }
-    Ok(db)
+    Ok(())
 }
 
 fn put_cell(out: &mut String, cell: &Scalar) -> Result<(), NoMemory> {
@@ -65,6 +76,16 @@ fn put_found(out: &mut String, found: &Answer) -> Result<(), NoMemory> {
     }
 }
 
+fn put_over(out: &mut String, alloc: Global, q: &Query, db: &Db) -> Result<(), NoMemory>
+    requires { IsAnswerable (query q.now) }
+{
+    let found = answer(alloc, q, db, &Scalars::new(alloc));
+    match found {
+        Ok(found) => put_found(out, &found),
+        Err(NoMemory) => Err(NoMemory),
+    }
+}
+
 /// Appends the answer of a query over a table of these numbers.
 pub fn put_answer(
     out: &mut String,
@@ -74,7 +95,9 @@ pub fn put_answer(
 ) -> Result<(), NoMemory>
     requires { IsAnswerable (query q.now) }
 {
-    let db = numbered(alloc, numbers)?;
-    let found = answer(alloc, q, &db, &Scalars::new(alloc))?;
-    put_found(out, &found)
+    let mut db = Db::new(alloc);
+    match put_numbers(&mut db, alloc, numbers) {
+        Ok(_) => put_over(out, alloc, q, &db),
+        Err(NoMemory) => Err(NoMemory),
+    }
 }

@@ -1,5 +1,5 @@
 // Programs that are copied, or of which statements are replaced, and conditions with another place.
-use crate::boxes::boxed;
+use crate::boxes::{boxed, kept};
 use crate::parts::put_refusal;
 use crate::places::put_span;
 use crate::programs::put_program;
@@ -40,11 +40,13 @@ fn one_break(alloc: Global) -> Result<Stmts, NoMemory> {
 
 // ---- Texts of programs
 
-fn put_copied(out: &mut String, alloc: Global, program: &Program) -> Result<(), NoMemory> {
-    match copy_program(alloc, program) {
-        Ok(copy) => put_program(out, alloc, &copy, false),
-        Err(NoMemory) => Err(NoMemory),
-    }
+fn put_made(
+    out: &mut String,
+    alloc: Global,
+    made: Result<Program, NoMemory>,
+) -> Result<(), NoMemory> {
+    let program = kept(alloc, made)?;
+    put_program(out, alloc, &program, false)
 }
 
 // A `break` stands in place of the statements of a block up to the one that the path leads to.
@@ -58,10 +60,7 @@ fn put_replaced(
         return Ok(out.push_str("no such statement")?);
     }
     let with = one_break(alloc)?;
-    match replace_at(alloc, program, path, 0, &with) {
-        Ok(changed) => put_program(out, alloc, &changed, false),
-        Err(NoMemory) => Err(NoMemory),
-    }
+    put_made(out, alloc, replace_at(alloc, program, path, 0, &with))
 }
 
 fn put_put(
@@ -71,10 +70,11 @@ fn put_put(
     path: &Path,
     with: Vec<Stmt>,
 ) -> Result<(), NoMemory> {
-    match put_at(alloc, Box::into_inner(program), path, 0, with) {
-        Ok(changed) => put_program(out, alloc, &changed, false),
-        Err(NoMemory) => Err(NoMemory),
-    }
+    put_made(
+        out,
+        alloc,
+        put_at(alloc, Box::into_inner(program), path, 0, with),
+    )
 }
 
 // The same, in a copy of the program.
@@ -84,9 +84,8 @@ fn put_in_place(
     program: &Program,
     path: &Path,
 ) -> Result<(), NoMemory> {
-    let with = one_break(alloc)?.into_vec();
-    let copy = Box::new(alloc, copy_program(alloc, program)?)?;
-    put_put(out, alloc, copy, path, with)
+    let copy = kept(alloc, copy_program(alloc, program))?;
+    put_put(out, alloc, copy, path, one_break(alloc)?.into_vec())
 }
 
 // ---- Places of conditions
@@ -103,10 +102,8 @@ fn put_spans(out: &mut String, e: &Expr) -> Result<(), NoMemory> {
 }
 
 fn put_copy(out: &mut String, alloc: Global, cond: &Expr) -> Result<(), NoMemory> {
-    match copy_placed(alloc, NOWHERE, cond) {
-        Ok(copy) => put_spans(out, &copy),
-        Err(NoMemory) => Err(NoMemory),
-    }
+    let copy = kept(alloc, copy_placed(alloc, NOWHERE, cond))?;
+    put_spans(out, &copy)
 }
 
 // The places of the nodes of a loop's condition, and behind them those of a copy that begins the text.
@@ -141,7 +138,7 @@ fn put_of_program(
     path: &Path,
 ) -> Result<(), NoMemory> {
     match kind {
-        "copied" => put_copied(out, alloc, program),
+        "copied" => put_made(out, alloc, copy_program(alloc, program)),
         "replaced" => put_replaced(out, alloc, program, path),
         "put" => put_in_place(out, alloc, program, path),
         _ => put_placed(out, alloc, program, path),

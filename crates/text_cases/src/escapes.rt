@@ -19,24 +19,26 @@ fn digit_of(byte: u8) -> u8 {
 }
 
 fn behind_backslash(bytes: &mut Vec<u8>, byte: u8) -> Result<Escape, AllocError> {
-    match byte {
+    let meant = match byte {
         b'x' => return Ok(Escape::Byte),
-        b'n' => bytes.push(b'\n')?,
-        b'r' => bytes.push(b'\r')?,
-        b't' => bytes.push(b'\t')?,
-        _ => bytes.push(byte)?,
-    }
+        b'n' => b'\n',
+        b'r' => b'\r',
+        b't' => b'\t',
+        _ => byte,
+    };
+    bytes.push(meant)?;
     Ok(Escape::Nothing)
 }
 
 fn next(bytes: &mut Vec<u8>, escape: Escape, byte: u8) -> Result<Escape, AllocError> {
-    match escape {
+    let meant = match escape {
         Escape::Nothing if byte == b'\\' => return Ok(Escape::Begun),
-        Escape::Nothing => bytes.push(byte)?,
+        Escape::Nothing => byte,
         Escape::Begun => return behind_backslash(bytes, byte),
         Escape::Byte => return Ok(Escape::Half(digit_of(byte))),
-        Escape::Half(high) => bytes.push(high.wrapping_mul(16).wrapping_add(digit_of(byte)))?,
-    }
+        Escape::Half(high) => high.wrapping_mul(16).wrapping_add(digit_of(byte)),
+    };
+    bytes.push(meant)?;
     Ok(Escape::Nothing)
 }
 
@@ -53,13 +55,14 @@ pub fn bytes_of(alloc: Global, field: &str) -> Result<Vec<u8>, AllocError> {
 /// Appends a text in one line, its line ends, tabs and backslashes as escapes.
 pub fn put_line(out: &mut String, text: &str) -> Result<(), AllocError> {
     for c in text.chars() {
-        match c {
-            '\n' => out.push_str("\\n")?,
-            '\r' => out.push_str("\\r")?,
-            '\t' => out.push_str("\\t")?,
-            '\\' => out.push_str("\\\\")?,
-            _ => out.push(c)?,
-        }
+        let put = match c {
+            '\n' => out.push_str("\\n"),
+            '\r' => out.push_str("\\r"),
+            '\t' => out.push_str("\\t"),
+            '\\' => out.push_str("\\\\"),
+            _ => out.push(c),
+        };
+        put?;
     }
     Ok(())
 }

@@ -64,7 +64,10 @@ fn put_set(out: &mut String, command: &Option<Command>) -> Result<(), NoMemory> 
 pub fn put_run(out: &mut String, alloc: Global, fields: &[Vec<u8>]) -> Result<(), NoMemory> {
     let words = words_of(alloc, fields)?;
     match read_words(alloc, &words) {
-        Ok(command) => put_set(out, &command),
+        Ok(command) => {
+            let command = Box::new(alloc, command)?;
+            put_set(out, &command)
+        },
         Err(_) => Err(NoMemory),
     }
 }

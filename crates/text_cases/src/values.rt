@@ -1,4 +1,6 @@
 // Printed values, and the tables of a database.
+ghost use Rattle.std.specs.Prelude.{◌≡◌, []};
+
 use crate::answers::number_of;
 use crate::escapes::put_line;
 use crate::places::{field, text_of};
@@ -91,14 +93,16 @@ fn put_tables(out: &mut String, db: &Db, other: &Text) -> Result<(), NoMemory> {
     Ok(put_name(out, db, 0)?)
 }
 
-// A database of one table. The number that the table gets is appended.
-fn database(
+// Adds a table with its rows, three fields each. The number that the table gets is appended.
+fn put_table(
     out: &mut String,
     alloc: Global,
+    db: &mut Db,
     name: Text,
     fields: &[Vec<u8>],
-) -> Result<Db, NoMemory> {
-    let mut db = Db::new(alloc);
+) -> Result<(), NoMemory>
+    requires { db.old ≡ [] }
+{
     let table = db.add_table(name)?;
     write!(out, "added as {table}\n")?;
     for number in 0..fields.len() / 3 {
@@ -106,19 +110,27 @@ fn database(
             db.put_row(0, row(alloc, fields, number.wrapping_mul(3))?)?;
         }
     }
-    Ok(db)
+    Ok(())
+}
+
+fn put_named(
+    out: &mut String,
+    alloc: Global,
+    db: &mut Db,
+    fields: &[Vec<u8>],
+) -> Result<(), NoMemory>
+    requires { db.old ≡ [] }
+{
+    let [name, other, rows @ ..] = fields else {
+        return Ok(());
+    };
+    put_table(out, alloc, db, text_of(alloc, name)?, rows)?;
+    put_tables(out, db, &text_of(alloc, other)?)
 }
 
 /// Appends what a database says of its one table, which has the name in the first field, and of the name in the second. Behind these
 /// stand the table's rows, three fields each.
 pub fn put_database(out: &mut String, alloc: Global, fields: &[Vec<u8>]) -> Result<(), NoMemory> {
-    let [name, other, rows @ ..] = fields else {
-        return Ok(());
-    };
-    let name = text_of(alloc, name)?;
-    let other = text_of(alloc, other)?;
-    match database(out, alloc, name, rows) {
-        Ok(db) => put_tables(out, &db, &other),
-        Err(NoMemory) => Err(NoMemory),
-    }
+    let mut db = Db::new(alloc);
+    put_named(out, alloc, &mut db, fields)
 }
