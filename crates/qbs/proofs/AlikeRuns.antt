@@ -15,16 +15,16 @@ use Rattle.java_mean.specs.Queries.{Reader}
 use Rattle.java_types.specs.Texts.{read_by}
 use Rattle.java_types.proofs.Found.{found_exactly}
 use Rattle.words.specs.declared.command.Options.{Options}
-use Rattle.qbs.specs.declared.plan.Plan.{Plan}
-use Rattle.qbs.specs.Calls.{Call, Called, Calls, CallsNothing, arguments, method_at, method_named, word_refusal}
-use Rattle.qbs.specs.Opening.{IsSchemaOf, schema_refusal}
-use Rattle.qbs.specs.Lines.{fault_text}
-use Rattle.qbs.specs.Plan.{Given, refusal}
+use Rattle.plans.specs.declared.plan.Plan.{Plan}
+use Rattle.plans.specs.Calls.{Call, Called, Calls, CallsNothing, arguments, method_at, method_named, word_refusal}
+use Rattle.plans.specs.Opening.{IsSchemaOf, schema_refusal}
+use Rattle.plans.specs.Lines.{fault_text}
+use Rattle.plans.specs.Plan.{Given, refusal}
+use Rattle.plans.specs.Tables.{most_bytes, AreRead, AreNotRead, over_tables, loaded, HasRows, data_refusal, IsFileOf, IsTableFile}
+use Rattle.plans.proofs.Called.{position_mapped}
+use Rattle.plans.proofs.Fetched.{as_many}
 use Rattle.qbs.specs.Rewrite.{size_of, budget_of}
 use Rattle.qbs.specs.Run.{IsChosen, comes_to, comes, call_of, run_of, run, turns_of}
-use Rattle.qbs.specs.Tables.{most_bytes, AreRead, AreNotRead, over_tables, loaded, HasRows, data_refusal, IsFileOf, IsTableFile}
-use Rattle.qbs.proofs.Called.{position_mapped}
-use Rattle.qbs.proofs.Fetched.{as_many}
 use Rattle.qbs.proofs.Promised.{unread, unread_texts, no_program}
 use Rattle.qbs.proofs.OneRead.{read_one, tables_one}
 use Rattle.qbs.proofs.OneFound.{schema_one, program_one}

@@ -1,5 +1,5 @@
 -- What is found of a bundle is what `check` writes.
-use Rattle.std.proofs.Common.{◌≡◌, ℕ, zero, suc, ◌+◌, List, [], ◌∷◌, length, Option, Some, None, Result, Ok, Err, refl, sym, ap, ◌∙◌, subst, arith}
+use Rattle.std.proofs.Common.{◌≡◌, ℕ, zero, suc, ◌+◌, List, [], ◌∷◌, length, Option, Some, None, Result, Ok, refl, sym, ap, ◌∙◌, subst, arith}
 use Rattle.qbs_base.specs.declared.status.Status.{Status}
 use Rattle.qbs_base.specs.Values.{Schema}
 use Rattle.java_ast.specs.declared.tree.Program.{Program}
@@ -9,19 +9,15 @@ use Rattle.java_mean.specs.Keeps.{Keeps}
 use Rattle.java_mean.specs.WellTyped.{IsWellTyped}
 use Rattle.java_types.specs.Texts.{read_by}
 use Rattle.deriv_check.specs.Bundles.{Entry}
-use Rattle.deriv_check.specs.Grammar.{HasBundle}
-use Rattle.deriv_check.specs.declared.fault.BundleFault.{BundleFault}
 use Rattle.rewrite_core.specs.Asked.{Place, replaced}
 use Rattle.rewrite_core.specs.declared.checking.Checked.{Checked}
 use Rattle.rewrite_core.specs.declared.checking.Checked.TheVariants as codes
 use Rattle.rewrite_core.specs.Checked.{checks_in, IfAll}
 use Rattle.rewrite_core.specs.Checking.{Checks, All, Refused, shown, or_refused, checked_from}
-use Rattle.qbs.specs.declared.plan.Plan.{Plan}
-use Rattle.qbs.specs.declared.fetch.Stop.{Stop}
-use Rattle.qbs.specs.Check.{BreaksBundle, bundle_refusal, accepted_line, refused_line, tells, checks}
-use Rattle.qbs.specs.Code.{Goes, OrMemory, StopsWith}
-use Rattle.qbs.specs.Steps.{refused}
-use Rattle.qbs.proofs.Opened.{refuses}
+use Rattle.plans.specs.declared.plan.Plan.{Plan}
+use Rattle.plans.specs.declared.fetch.Stop.{Stop}
+use Rattle.plans.specs.Code.{OrMemory}
+use Rattle.qbs.specs.Check.{accepted_line, refused_line, tells, checks}
 
 abbrev plan_of : Status → List ℕ → Plan
 plan_of status text = record { status = status; out = text; rep = [] }
@@ -69,7 +65,3 @@ one_due r k tables entries p ordinal plan text e f is due said =
     let same : checks_in (codes.Refused ordinal) ≡ checked_from tables 0 entries p = subst (λ (x : Checked). checks_in x ≡ checked_from tables 0 entries p) f is in
     subst (λ (x : Result Plan Stop). OrMemory x (checks tables p entries)) (sym e)
     (one_told tables entries p ordinal plan same (due ∙ ap (plan_of Status.Refused) said))
-
-pub bundle_stops : {A : Type 0} (view : A → List Entry) (bytes : List ℕ) (fault : BundleFault) (stop : Stop) → BreaksBundle bytes fault → StopsWith (bundle_refusal fault) stop →
-    Goes {A = A} (Err stop) (λ b. HasBundle bytes (view b)) (refused (BreaksBundle bytes) bundle_refusal)
-bundle_stops view bytes fault stop breaks due = refuses (λ b. HasBundle bytes (view b)) (BreaksBundle bytes) bundle_refusal fault stop breaks due

@@ -21,22 +21,23 @@ use Rattle.words.specs.declared.command.Options.{Options}
 use Rattle.words.specs.Plain.{HasWords}
 use Rattle.words.specs.Reading.{plain}
 use Rattle.words.proofs.Exact.{reads_plain_words}
-use Rattle.qbs.specs.declared.plan.Plan.{Plan}
-use Rattle.qbs.specs.Calls.{Call, Called, Calls, CallsNothing, arguments, word_refusal}
-use Rattle.qbs.specs.Check.{BreaksBundle, bundle_refusal, has_bundle, tells, checks, check_of, check}
+use Rattle.plans.specs.declared.plan.Plan.{Plan}
+use Rattle.plans.specs.Calls.{Call, Called, Calls, CallsNothing, arguments, word_refusal}
+use Rattle.plans.specs.Opening.{BreaksBundle, bundle_refusal, has_bundle, IsSchemaOf, BreaksSchema, schema_refusal, IsProgramOf, HasNoProgram, has_schema, has_program}
+use Rattle.plans.specs.Deliver.{Change}
+use Rattle.plans.specs.Plan.{Given, not_yet}
+use Rattle.plans.specs.Results.{names_of}
+use Rattle.plans.specs.Steps.{Ends, step, refused, IsRead, IsNotRead, reads}
+use Rattle.plans.specs.Tables.{table_file, most_bytes, AreRead, AreNotRead, reads_tables, IsFileOf, HasRows, LacksRows, data_refusal, has_rows}
+use Rattle.qbs.specs.Check.{tells, checks, check_of, check}
 use Rattle.qbs.specs.Commands.{without_store, command, IsDue}
 use Rattle.qbs.specs.Complete.{HasFile, HaveTexts, HasSchema, HasSource, HasTables, HasCall, IsRight, IsNotYet, IsListed, IsComplete}
-use Rattle.qbs.specs.Deliver.{Change}
 use Rattle.qbs.specs.Make.{IsResult, IsNotDone, method_text, outcome_over, runs, make_of, make}
-use Rattle.qbs.specs.Opening.{IsSchemaOf, BreaksSchema, schema_refusal, IsProgramOf, HasNoProgram, has_schema, has_program}
-use Rattle.qbs.specs.Plan.{Given, May, not_yet}
+use Rattle.qbs.specs.Pruners.{May}
 use Rattle.qbs.specs.Prove.{Proves, prove_of, prove}
-use Rattle.qbs.specs.Results.{names_of}
 use Rattle.qbs.specs.Rewrite.{size_of, budget_of, Rewrites, rewrite_of, rewrite}
 use Rattle.qbs.specs.Run.{IsChosen, chooses, comes_to, comes, call_of, run_of, run, turns_of}
 use Rattle.qbs.specs.Sql.{IsAsked, AsksNothing, answer_plan, answers, sql_of, sql}
-use Rattle.qbs.specs.Steps.{Ends, step, refused, IsRead, IsNotRead, reads}
-use Rattle.qbs.specs.Tables.{table_file, most_bytes, AreRead, AreNotRead, reads_tables, IsFileOf, HasRows, LacksRows, data_refusal, has_rows}
 use Rattle.qbs.specs.Top.{IsDone}
 use Rattle.qbs.proofs.AlikeRuns.{kept_named, some_named}
 use Rattle.qbs.proofs.OneFound.{schema_one, program_one, bundle_one, rows_one, call_one, query_one}

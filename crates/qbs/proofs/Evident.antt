@@ -16,17 +16,18 @@ use Rattle.words.specs.declared.command.Options.{Options}
 use Rattle.words.specs.Plain.{HasWords}
 use Rattle.words.specs.Reading.{plain}
 use Rattle.words.proofs.Exact.{reads_plain_words}
-use Rattle.qbs.specs.declared.plan.Plan.{Plan}
+use Rattle.plans.specs.declared.plan.Plan.{Plan}
+use Rattle.plans.specs.Deliver.{Change}
+use Rattle.plans.specs.Opening.{IsSchemaOf, IsProgramOf, HasNoProgram}
+use Rattle.plans.specs.Plan.{Given}
+use Rattle.plans.specs.Steps.{IsRead, IsNotRead}
 use Rattle.qbs.specs.Check.{AreAccepted, accepted_line, tells, check_of, check}
 use Rattle.qbs.specs.Commands.{without_store, command, IsDue}
-use Rattle.qbs.specs.Deliver.{Change}
 use Rattle.qbs.specs.Evidence.{IsProved, IsProof, HasProof, IsAccepted, IsRefused, IsChecked, IsCheck, HasCheck}
 use Rattle.qbs.specs.Headline.{DropsNone}
-use Rattle.qbs.specs.Opening.{IsSchemaOf, IsProgramOf, HasNoProgram}
-use Rattle.qbs.specs.Plan.{Given, May}
+use Rattle.qbs.specs.Pruners.{May}
 use Rattle.qbs.specs.Prove.{prove_of, prove}
 use Rattle.qbs.specs.Rewrite.{size_of, budget_of}
-use Rattle.qbs.specs.Steps.{IsRead, IsNotRead}
 use Rattle.qbs.specs.Top.{IsDone}
 use Rattle.qbs.proofs.Checked.{all_same}
 use Rattle.qbs.proofs.Promised.{command_is, none_dropped, rewrite_drops_none, unread, no_program}

@@ -19,20 +19,21 @@ use Rattle.sql_ast.specs.Meaning.{Answered, query_answer}
 use Rattle.words.specs.declared.command.Command.{Command}
 use Rattle.words.specs.declared.command.Command.TheVariants as commands
 use Rattle.words.specs.declared.command.Options.{Options}
-use Rattle.qbs.specs.declared.plan.Plan.{Plan}
-use Rattle.qbs.specs.Calls.{Call}
+use Rattle.plans.specs.declared.plan.Plan.{Plan}
+use Rattle.plans.specs.Calls.{Call}
+use Rattle.plans.specs.Opening.{HasNoProgram}
+use Rattle.plans.specs.Plan.{Given, not_yet}
+use Rattle.plans.specs.Results.{names_of}
+use Rattle.plans.specs.Steps.{Ends, IsNotRead}
+use Rattle.plans.specs.Tables.{AreNotRead}
 use Rattle.qbs.specs.Check.{tells, check_of, check}
 use Rattle.qbs.specs.Commands.{without_store, command}
 use Rattle.qbs.specs.Make.{loops_text, method_text, IsNotDone, outcome_over, runs, make}
-use Rattle.qbs.specs.Opening.{HasNoProgram}
-use Rattle.qbs.specs.Plan.{Given, May, not_yet}
+use Rattle.qbs.specs.Pruners.{May}
 use Rattle.qbs.specs.Prove.{prove_of, prove}
-use Rattle.qbs.specs.Results.{names_of}
 use Rattle.qbs.specs.Rewrite.{rewrite_of, rewrite}
 use Rattle.qbs.specs.Run.{comes_to, call_of, run_of, run}
 use Rattle.qbs.specs.Sql.{answer_plan, sql_of, sql}
-use Rattle.qbs.specs.Steps.{Ends, IsNotRead}
-use Rattle.qbs.specs.Tables.{AreNotRead}
 
 -- a plan of a command that words name
 pub record IsFair (files : Given) (plan : Plan) : Type 0 where

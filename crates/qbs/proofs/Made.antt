@@ -19,14 +19,15 @@ use Rattle.rewrite_core.specs.Trying.{all_tried, rewritten}
 use Rattle.sample.specs.Class.{sample_program}
 use Rattle.sample.specs.Tables.{sample_schema, sample_rows}
 use Rattle.sample.proofs.Typed.{well_typed}
-use Rattle.qbs.specs.declared.plan.Plan.{Plan}
-use Rattle.qbs.specs.declared.fetch.Stop.{Stop}
-use Rattle.qbs.specs.Code.{Goes, OrMemory, HasRun, HasNoRun}
+use Rattle.plans.specs.declared.plan.Plan.{Plan}
+use Rattle.plans.specs.declared.fetch.Stop.{Stop}
+use Rattle.plans.specs.Code.{Goes, OrMemory}
+use Rattle.plans.specs.Results.{names_of}
+use Rattle.plans.proofs.Loading.{drop_held, all_dropped}
+use Rattle.qbs.specs.Code.{HasRun, HasNoRun}
 use Rattle.qbs.specs.Make.{loops_text, method_text, summary, IsResult, IsNotDone, outcome_over, runs, TakeNone, make_of, make}
-use Rattle.qbs.specs.Results.{names_of}
 use Rattle.qbs.specs.Run.{IsChosen}
 use Rattle.qbs.proofs.Going.{goes_on}
-use Rattle.qbs.proofs.Loading.{drop_held, all_dropped}
 use Rattle.qbs.proofs.Rewrote.{is_rewriting}
 
 -- ---- No arguments

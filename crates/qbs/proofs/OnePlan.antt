@@ -22,21 +22,22 @@ use Rattle.words.specs.declared.command.Options.{Options}
 use Rattle.words.specs.Plain.{HasWords}
 use Rattle.words.specs.Reading.{plain}
 use Rattle.words.proofs.Exact.{reads_plain_words}
-use Rattle.qbs.specs.declared.plan.Plan.{Plan}
-use Rattle.qbs.specs.Calls.{Call, Calls, CallsNothing, word_refusal}
-use Rattle.qbs.specs.Check.{BreaksBundle, bundle_refusal, has_bundle, tells, checks, check_of, check}
+use Rattle.plans.specs.declared.plan.Plan.{Plan}
+use Rattle.plans.specs.Calls.{Call, Calls, CallsNothing, word_refusal}
+use Rattle.plans.specs.Opening.{BreaksBundle, bundle_refusal, has_bundle, IsSchemaOf, BreaksSchema, schema_refusal, IsProgramOf, HasNoProgram, has_schema, has_program}
+use Rattle.plans.specs.Plan.{Given, not_yet}
+use Rattle.plans.specs.Results.{names_of}
+use Rattle.plans.specs.Steps.{Ends, refused, IsRead, IsNotRead, reads}
+use Rattle.plans.specs.Tables.{most_bytes, AreRead, AreNotRead, reads_tables, IsFileOf, IsTableFile, HasRows, LacksRows, data_refusal, has_rows}
+use Rattle.qbs.specs.Check.{tells, checks, check_of, check}
 use Rattle.qbs.specs.Commands.{without_store, command, AreRefused}
-use Rattle.qbs.specs.Lines.{verdict_line}
+use Rattle.qbs.specs.Reports.{verdict_line}
 use Rattle.qbs.specs.Make.{loops_text, method_text, summary, IsResult, IsNotDone, outcome_over, runs, make}
-use Rattle.qbs.specs.Opening.{IsSchemaOf, BreaksSchema, schema_refusal, IsProgramOf, HasNoProgram, has_schema, has_program}
-use Rattle.qbs.specs.Plan.{Given, May, not_yet}
+use Rattle.qbs.specs.Pruners.{May}
 use Rattle.qbs.specs.Prove.{Proves, prove_of, prove}
-use Rattle.qbs.specs.Results.{names_of}
 use Rattle.qbs.specs.Rewrite.{size_of, budget_of, Rewrites, rewrite_of, rewrite}
 use Rattle.qbs.specs.Run.{IsChosen, chooses, comes_to, comes, call_of, run_of, run, turns_of}
 use Rattle.qbs.specs.Sql.{IsAsked, AsksNothing, answer_plan, answers, sql_of, sql}
-use Rattle.qbs.specs.Steps.{Ends, refused, IsRead, IsNotRead, reads}
-use Rattle.qbs.specs.Tables.{most_bytes, AreRead, AreNotRead, reads_tables, IsFileOf, IsTableFile, HasRows, LacksRows, data_refusal, has_rows}
 use Rattle.qbs.specs.Top.{MayRead, Alike, HasOnePlan}
 use Rattle.qbs.proofs.OneStep.{IsOne, HasOne, step_one, ends_one}
 use Rattle.qbs.proofs.OneRead.{read_one, tables_one}

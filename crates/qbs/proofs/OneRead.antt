@@ -2,10 +2,10 @@
 use Rattle.std.proofs.Common.{◌≡◌, ℕ, ◌<◌, ◌≤◌, ◌-◌, inl, inr, List, [], ◌∷◌, length, Option, Some, None, IfSome, subst, sym, refl, ap, ◌∙◌, arith, codes}
 use Rattle.std.specs.Prelude.{IsSome}
 use Rattle.qbs_base.specs.declared.columns.Table.{Table}
-use Rattle.qbs.specs.declared.plan.Plan.{Plan}
-use Rattle.qbs.specs.Plan.{Given}
-use Rattle.qbs.specs.Steps.{IsRead, IsNotRead}
-use Rattle.qbs.specs.Tables.{table_file, AreRead, AreNotRead, IsFileOf}
+use Rattle.plans.specs.declared.plan.Plan.{Plan}
+use Rattle.plans.specs.Plan.{Given}
+use Rattle.plans.specs.Steps.{IsRead, IsNotRead}
+use Rattle.plans.specs.Tables.{table_file, AreRead, AreNotRead, IsFileOf}
 use Rattle.qbs.proofs.OneStep.{IsOne}
 
 told_same : (told : Option (List ℕ)) (b c : List ℕ) → IsSome told → IfSome told (λ all. b ≡ all) → IfSome told (λ all. c ≡ all) → b ≡ c

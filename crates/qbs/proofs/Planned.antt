@@ -3,17 +3,18 @@ use Rattle.std.proofs.Common.{◌≡◌, ℕ, List, [], ◌++◌, Option, Result
 use Rattle.qbs_base.specs.Values.{Schema}
 use Rattle.qbs_base.specs.declared.columns.Table.{Table}
 use Rattle.words.specs.declared.command.Options.{Options}
-use Rattle.qbs.specs.declared.plan.Plan.{Plan}
-use Rattle.qbs.specs.declared.fetch.Stop.{Stop}
-use Rattle.qbs.specs.Code.{Goes, OrMemory}
-use Rattle.qbs.specs.Opening.{IsSchemaOf, BreaksSchema, schema_refusal}
-use Rattle.qbs.specs.Plan.{Given, May}
+use Rattle.plans.specs.declared.plan.Plan.{Plan}
+use Rattle.plans.specs.declared.fetch.Stop.{Stop}
+use Rattle.plans.specs.Code.{Goes, OrMemory}
+use Rattle.plans.specs.Opening.{IsSchemaOf, BreaksSchema, schema_refusal}
+use Rattle.plans.specs.Plan.{Given}
+use Rattle.plans.specs.Steps.{Ends, refused, IsRead, IsNotRead, reads}
+use Rattle.plans.specs.Tables.{most_bytes, AreRead, AreNotRead, Reads, reads_tables, over_tables}
+use Rattle.plans.proofs.Fetched.{read_there, not_read_there, are_read_there, are_not_read_there}
+use Rattle.qbs.specs.Pruners.{May}
 use Rattle.qbs.specs.Prove.{prove_of, prove}
 use Rattle.qbs.specs.Rewrite.{rewrite_of, rewrite}
-use Rattle.qbs.specs.Steps.{Ends, refused, IsRead, IsNotRead, reads}
-use Rattle.qbs.specs.Tables.{most_bytes, AreRead, AreNotRead, Reads, reads_tables, over_tables}
 use Rattle.qbs.proofs.Going.{goes_on, stops_at}
-use Rattle.qbs.proofs.Fetched.{read_there, not_read_there, are_read_there, are_not_read_there}
 
 -- ---- a schema and a source
 

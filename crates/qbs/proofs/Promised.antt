@@ -19,16 +19,17 @@ use Rattle.words.specs.declared.command.Options.{Options}
 use Rattle.words.specs.Plain.{HasWords}
 use Rattle.words.specs.Reading.{plain}
 use Rattle.words.proofs.Exact.{reads_plain_words}
-use Rattle.qbs.specs.declared.plan.Plan.{Plan}
+use Rattle.plans.specs.declared.plan.Plan.{Plan}
+use Rattle.plans.specs.Deliver.{Change}
+use Rattle.plans.specs.Opening.{HasNoProgram}
+use Rattle.plans.specs.Plan.{Given}
+use Rattle.plans.specs.Steps.{IsRead, IsNotRead}
+use Rattle.plans.specs.Tables.{AreNotRead}
 use Rattle.qbs.specs.Commands.{without_store, command, HasNoWords, IsDue}
-use Rattle.qbs.specs.Deliver.{Change}
 use Rattle.qbs.specs.Headline.{IsRewritten, IsHeadline, HasHeadline}
-use Rattle.qbs.specs.Lines.{verdict_line, pruned_line, report_text}
-use Rattle.qbs.specs.Opening.{HasNoProgram}
-use Rattle.qbs.specs.Plan.{Given, May}
+use Rattle.qbs.specs.Reports.{verdict_line, pruned_line, report_text}
+use Rattle.qbs.specs.Pruners.{May}
 use Rattle.qbs.specs.Rewrite.{size_of, budget_of, rewrite_of, rewrite}
-use Rattle.qbs.specs.Steps.{IsRead, IsNotRead}
-use Rattle.qbs.specs.Tables.{AreNotRead}
 use Rattle.qbs.specs.Top.{IsDone, CutShort}
 use Rattle.qbs.proofs.Fair.{IsFair, command_fair}
 

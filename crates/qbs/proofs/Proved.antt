@@ -19,10 +19,10 @@ use Rattle.rewrite_core.specs.Rewriting.{bundle_of, verdicts_of, StandAsTried}
 use Rattle.rewrite_core.specs.Trying.{all_tried, rewritten}
 use Rattle.rewrite_core.proofs.AcceptedBundles.{bundle_accepted}
 use Rattle.rewrite_core.proofs.WritableBundles.{bundle_writable}
-use Rattle.qbs.specs.declared.plan.Plan.{Plan}
-use Rattle.qbs.specs.Lines.{verdict_line, pruned_line}
-use Rattle.qbs.specs.Opening.{IsProgramOf}
-use Rattle.qbs.specs.Plan.{May}
+use Rattle.plans.specs.declared.plan.Plan.{Plan}
+use Rattle.plans.specs.Opening.{IsProgramOf}
+use Rattle.qbs.specs.Reports.{verdict_line, pruned_line}
+use Rattle.qbs.specs.Pruners.{May}
 use Rattle.qbs.specs.Prove.{entries_for, Proves}
 use Rattle.qbs.proofs.Rewrote.{is_rewriting}
 

@@ -4,16 +4,17 @@ use Rattle.rewrite_core.specs.Trying.{rewritten}
 use Rattle.qbs_base.specs.Values.{Schema}
 use Rattle.java_ast.specs.Tree.{PlainProgram}
 use Rattle.words.specs.declared.command.Options.{Options}
-use Rattle.qbs.specs.declared.plan.Plan.{Plan}
-use Rattle.qbs.specs.declared.fetch.Stop.{Stop}
-use Rattle.qbs.specs.Code.{Goes, OrMemory, run_called}
-use Rattle.qbs.specs.Opening.{IsSchemaOf, BreaksSchema, schema_refusal, IsProgramOf, HasNoProgram}
-use Rattle.qbs.specs.Plan.{May}
+use Rattle.plans.specs.declared.plan.Plan.{Plan}
+use Rattle.plans.specs.declared.fetch.Stop.{Stop}
+use Rattle.plans.specs.Code.{Goes, OrMemory}
+use Rattle.plans.specs.Opening.{IsSchemaOf, BreaksSchema, schema_refusal, IsProgramOf, HasNoProgram}
+use Rattle.plans.specs.Calls.{Call}
+use Rattle.plans.specs.Steps.{refused}
+use Rattle.qbs.specs.Code.{run_called}
+use Rattle.qbs.specs.Pruners.{May}
 use Rattle.qbs.specs.Prove.{Proves, prove_of}
 use Rattle.qbs.specs.Rewrite.{size_of, budget_of, IsRewriting, Rewrites, rewrite_of}
 use Rattle.qbs.specs.Run.{IsChosen, chooses, call_of, run_of, turns_of}
-use Rattle.qbs.specs.Calls.{Call}
-use Rattle.qbs.specs.Steps.{refused}
 use Rattle.qbs.proofs.Going.{goes_on, due_as}
 use Rattle.qbs.proofs.Twins.{run_steps}
 

@@ -14,10 +14,10 @@ use Rattle.rewrite_core.specs.Patches.{patched_text}
 use Rattle.rewrite_core.specs.Pruned.{ArePruned}
 use Rattle.rewrite_core.specs.Rewriting.{verdicts_of, StandAsTried}
 use Rattle.rewrite_core.specs.Trying.{all_tried, rewritten}
-use Rattle.qbs.specs.declared.plan.Plan.{Plan}
-use Rattle.qbs.specs.Lines.{verdict_line, pruned_line}
-use Rattle.qbs.specs.Opening.{IsProgramOf}
-use Rattle.qbs.specs.Plan.{May}
+use Rattle.plans.specs.declared.plan.Plan.{Plan}
+use Rattle.plans.specs.Opening.{IsProgramOf}
+use Rattle.qbs.specs.Reports.{verdict_line, pruned_line}
+use Rattle.qbs.specs.Pruners.{May}
 use Rattle.qbs.specs.Rewrite.{IsRewriting, Rewrites}
 
 pub is_source : (tables : Schema) (bytes : List ℕ) (p : PlainProgram) → IsProgramOf tables bytes p → IsSourceOf bytes p

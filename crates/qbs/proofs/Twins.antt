@@ -12,12 +12,12 @@ use Rattle.java_types.proofs.Found.{found_exactly}
 use Rattle.sql_ast.specs.Texts.{HasQuery}
 use Rattle.sql_ast.specs.Tree.{PlainQuery}
 use Rattle.sql_ast.specs.Valid.{params_in}
-use Rattle.qbs.specs.declared.plan.Plan.{Plan}
-use Rattle.qbs.specs.Calls.{Call, arguments, method_named}
+use Rattle.plans.specs.declared.plan.Plan.{Plan}
+use Rattle.plans.specs.Calls.{Call, arguments, method_named}
+use Rattle.plans.specs.Tables.{TableFault, loaded}
 use Rattle.qbs.specs.Code.{run_over, run_on, run_named, run_called, answer_over, answer_with, answer_ordered, answer_of}
 use Rattle.qbs.specs.Run.{call_of}
 use Rattle.qbs.specs.Sql.{sql_of}
-use Rattle.qbs.specs.Tables.{TableFault, loaded}
 
 module _ (tables : Schema) (texts : List (List ℕ)) (call : Call) (turns : ℕ) (p : PlainProgram) (plan : Plan) where
   by_rows : (m : PlainMethod) → method_named call.method p.methods ≡ Some m → (args : List Scalar) → arguments m.params call.words ≡ Ok args →

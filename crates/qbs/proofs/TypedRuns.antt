@@ -14,10 +14,10 @@ use Rattle.schema.specs.declared.fault.DataFault.{DataFault}
 use Rattle.schema.specs.declared.fault.DataRule.{DataRule}
 use Rattle.schema.specs.Rows.{cell_of, table_rows, most_rows}
 use Rattle.schema.proofs.Typed.{field_has, rows_of_table, few_rows}
-use Rattle.qbs.specs.Calls.{param_type, found, argument_of, with_argument, fields_of, or_mismatch, arguments}
-use Rattle.qbs.specs.Tables.{TableFault, with_rows, loaded_from, loaded}
-use Rattle.qbs.proofs.Called.{scalar_param}
-use Rattle.qbs.proofs.Loading.{columns_held}
+use Rattle.plans.specs.Calls.{param_type, found, argument_of, with_argument, fields_of, or_mismatch, arguments}
+use Rattle.plans.specs.Tables.{TableFault, with_rows, loaded_from, loaded}
+use Rattle.plans.proofs.Called.{scalar_param}
+use Rattle.plans.proofs.Loading.{columns_held}
 
 -- ---- rows
 

@@ -7,13 +7,14 @@ use Rattle.words.specs.declared.command.Options.{Options}
 use Rattle.words.specs.Plain.{HasWords}
 use Rattle.words.specs.Reading.{plain}
 use Rattle.words.proofs.Exact.{reads_plain_words}
-use Rattle.qbs.specs.declared.plan.Plan.{Plan}
-use Rattle.qbs.specs.declared.fetch.Stop.{Stop}
-use Rattle.qbs.specs.Code.{OrMemory, StopsFor}
+use Rattle.plans.specs.declared.plan.Plan.{Plan}
+use Rattle.plans.specs.declared.fetch.Stop.{Stop}
+use Rattle.plans.specs.Code.{OrMemory, StopsFor}
+use Rattle.plans.specs.Plan.{Given}
 use Rattle.qbs.specs.Commands.{without_store, command, HasNoWords, AreRefused, program}
 use Rattle.qbs.specs.Check.{check}
 use Rattle.qbs.specs.Make.{make}
-use Rattle.qbs.specs.Plan.{Given, May}
+use Rattle.qbs.specs.Pruners.{May}
 use Rattle.qbs.specs.Prove.{prove}
 use Rattle.qbs.specs.Rewrite.{rewrite}
 use Rattle.qbs.specs.Sql.{sql}

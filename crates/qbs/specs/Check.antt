@@ -7,27 +7,11 @@ use Rattle.java_ast.specs.Tree.{PlainProgram}
 use Rattle.java_mean.specs.Keeps.{Keeps}
 use Rattle.java_mean.specs.WellTyped.{IsWellTyped}
 use Rattle.java_types.specs.Texts.{read_by}
-use Rattle.deriv_check.specs.declared.fault.BundleFault.{BundleFault}
 use Rattle.deriv_check.specs.Bundles.{Entry}
-use Rattle.deriv_check.specs.Grammar.{HasBundle, IsOffset}
 use Rattle.rewrite_core.specs.Checking.{Checks, All, Refused, checked_from}
-use Rattle.qbs.specs.declared.plan.Plan.{Plan}
-use Rattle.qbs.specs.Lines.{bundle_fault_text}
-use Rattle.qbs.specs.Opening.{has_schema, has_program}
-use Rattle.qbs.specs.Plan.{Given, line, refusal}
-use Rattle.qbs.specs.Steps.{Ends, finds, reads}
-
--- ---- The bundle
-
--- no bundle has the bytes, and the offset is the length of the longest front of them with which some bundle begins
-abbrev pub BreaksBundle : List ℕ → BundleFault → Type 0
-BreaksBundle bytes fault = IsOffset HasBundle bytes fault.offset
-
-abbrev pub bundle_refusal : BundleFault → Plan
-bundle_refusal fault = refusal Status.Bundle (bundle_fault_text fault)
-
-abbrev pub has_bundle : List ℕ → (List Entry → Ends) → Ends
-has_bundle bytes next = finds (HasBundle bytes) (BreaksBundle bytes) bundle_refusal next
+use Rattle.plans.specs.Opening.{has_schema, has_program, has_bundle}
+use Rattle.plans.specs.Plan.{Given, line}
+use Rattle.plans.specs.Steps.{Ends, reads}
 
 -- ---- What is written
 

@@ -1,11 +1,10 @@
--- What only the code's contracts speak of: what comes of a step, and a command's last steps as a function.
-use Rattle.std.specs.Prelude.{◌≡◌, ℕ, ◌++◌, List, [], ◌∷◌, Bool, true, false, Result, Ok, Err, ⊤, slice_get}
+-- What only the code's contracts speak of: a command's last steps as a function.
+use Rattle.std.specs.Prelude.{◌≡◌, ℕ, ◌++◌, List, [], ◌∷◌, Bool, true, false, Result, Ok, Err, slice_get}
 use Rattle.std.specs.declared.option.Option.{Option}
 use Rattle.std.specs.declared.option.Option.TheVariants.{Some, None}
 use Rattle.qbs_base.specs.declared.scalar.Scalar.{Scalar}
 use Rattle.qbs_base.specs.declared.scalar.Ty.{Ty}
 use Rattle.qbs_base.specs.declared.scalar.Value.{Value}
-use Rattle.qbs_base.specs.declared.status.Status.{Status}
 use Rattle.qbs_base.specs.Values.{Schema, Database}
 use Rattle.java_ast.specs.Tree.{PlainMethod, PlainProgram}
 use Rattle.java_mean.specs.declared.rule.TypeRule.{TypeRule}
@@ -16,38 +15,15 @@ use Rattle.java_types.specs.Texts.{read_by}
 use Rattle.sql_ast.specs.Meaning.{query_answer}
 use Rattle.sql_ast.specs.Tree.{PlainQuery}
 use Rattle.sql_ast.specs.Valid.{params_in}
-use Rattle.qbs.specs.declared.plan.Plan.{Plan}
-use Rattle.qbs.specs.declared.fetch.Stop.{Stop}
+use Rattle.plans.specs.declared.plan.Plan.{Plan}
+use Rattle.plans.specs.Calls.{Call, arguments, method_named, word_refusal}
+use Rattle.plans.specs.Results.{names_of}
+use Rattle.plans.specs.Steps.{Ends}
+use Rattle.plans.specs.Tables.{TableFault, loaded, data_refusal}
 use Rattle.qbs.specs.declared.run.Asked.{Asked}
-use Rattle.qbs.specs.Calls.{Call, arguments, method_named, word_refusal}
 use Rattle.qbs.specs.Make.{method_text, IsResult, IsNotDone, outcome_over}
-use Rattle.qbs.specs.Plan.{refusal}
-use Rattle.qbs.specs.Results.{names_of}
 use Rattle.qbs.specs.Run.{comes_to}
 use Rattle.qbs.specs.Sql.{answer_plan}
-use Rattle.qbs.specs.Steps.{Ends}
-use Rattle.qbs.specs.Tables.{TableFault, loaded, data_refusal}
-
--- ---- A step
-
--- what is so is there, or the plan that stops the command, where memory did not run out
-abbrev pub Goes : {A : Type 0} → Result A Stop → (A → Type 0) → Ends → Type 0
-Goes (Ok a) Is Stops = Is a
-Goes (Err (Stop.Due plan)) Is Stops = Stops plan
-Goes (Err Stop.Memory) Is Stops = ⊤
-
--- the plan of either outcome, where memory did not run out
-abbrev pub OrMemory : Result Plan Stop → Ends → Type 0
-OrMemory result P = Goes result P P
-
--- a stop that isn't for want of memory is this plan
-abbrev pub StopsWith : Plan → Stop → Type 0
-StopsWith due (Stop.Due plan) = plan ≡ due
-StopsWith due Stop.Memory = ⊤
-
--- or this refusal
-abbrev pub StopsFor : Status → List ℕ → List ℕ → Stop → Type 0
-StopsFor status text name stop = StopsWith (refusal status (text ++ name)) stop
 
 -- what the words of a run ask for, as the code holds it
 abbrev pub call_in : Asked → Call

@@ -5,14 +5,15 @@ use Rattle.std.specs.declared.option.Option.TheVariants.{Some, None}
 use Rattle.words.specs.declared.command.Command.{Command}
 use Rattle.words.specs.declared.command.Command.TheVariants as commands
 use Rattle.words.specs.Plain.{HasWords}
+use Rattle.plans.specs.Plan.{Given, no_memory, not_yet, bad_words}
+use Rattle.plans.specs.Steps.{Ends, ends, step}
 use Rattle.qbs.specs.Check.{check}
-use Rattle.qbs.specs.Plan.{Given, May, no_memory, not_yet, bad_words}
+use Rattle.qbs.specs.Pruners.{May}
 use Rattle.qbs.specs.Prove.{prove}
 use Rattle.qbs.specs.Make.{make}
 use Rattle.qbs.specs.Rewrite.{rewrite}
 use Rattle.qbs.specs.Run.{run}
 use Rattle.qbs.specs.Sql.{sql}
-use Rattle.qbs.specs.Steps.{Ends, ends, step}
 
 -- a store isn't built yet
 abbrev pub without_store : Option (List ℕ) → Ends → Ends

@@ -12,11 +12,11 @@ use Rattle.sql_ast.specs.Tree.{PlainQuery}
 use Rattle.words.specs.declared.command.Command.{Command}
 use Rattle.words.specs.declared.command.Command.TheVariants as commands
 use Rattle.words.specs.Plain.{HasWords}
-use Rattle.qbs.specs.Calls.{Call, Called, Calls}
-use Rattle.qbs.specs.Opening.{IsSchemaOf, IsProgramOf}
-use Rattle.qbs.specs.Plan.{Given}
+use Rattle.plans.specs.Calls.{Call, Called, Calls}
+use Rattle.plans.specs.Opening.{IsSchemaOf, IsProgramOf}
+use Rattle.plans.specs.Plan.{Given}
+use Rattle.plans.specs.Tables.{table_file, most_bytes, HasRows}
 use Rattle.qbs.specs.Sql.{IsAsked}
-use Rattle.qbs.specs.Tables.{table_file, most_bytes, HasRows}
 
 -- ---- What is right
 

@@ -13,14 +13,15 @@ use Rattle.rewrite_core.specs.Trying.{all_tried, rewritten}
 use Rattle.words.specs.declared.command.Command.TheVariants as commands
 use Rattle.words.specs.declared.command.Options.{Options}
 use Rattle.words.specs.Plain.{HasWords}
+use Rattle.plans.specs.Deliver.{Change}
+use Rattle.plans.specs.Opening.{IsSchemaOf, IsProgramOf}
+use Rattle.plans.specs.Plan.{Given}
+use Rattle.plans.specs.Steps.{IsRead}
 use Rattle.qbs.specs.Check.{AreAccepted, accepted_line, refused_line}
-use Rattle.qbs.specs.Deliver.{Change}
-use Rattle.qbs.specs.Lines.{report_text}
-use Rattle.qbs.specs.Opening.{IsSchemaOf, IsProgramOf}
-use Rattle.qbs.specs.Plan.{Given, May}
+use Rattle.qbs.specs.Reports.{report_text}
+use Rattle.qbs.specs.Pruners.{May}
 use Rattle.qbs.specs.Prove.{entries_for}
 use Rattle.qbs.specs.Rewrite.{size_of, budget_of}
-use Rattle.qbs.specs.Steps.{IsRead}
 
 -- ---- `prove`
 

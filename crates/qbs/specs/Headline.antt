@@ -19,11 +19,12 @@ use Rattle.schema.specs.Schemas.{schema_of}
 use Rattle.words.specs.declared.command.Command.TheVariants as commands
 use Rattle.words.specs.declared.command.Options.{Options}
 use Rattle.words.specs.Plain.{HasWords}
-use Rattle.qbs.specs.Deliver.{Change}
-use Rattle.qbs.specs.Lines.{report_text, pruned_line}
-use Rattle.qbs.specs.Plan.{Given, May}
+use Rattle.plans.specs.Deliver.{Change}
+use Rattle.plans.specs.Plan.{Given}
+use Rattle.plans.specs.Steps.{IsRead}
+use Rattle.qbs.specs.Reports.{report_text, pruned_line}
+use Rattle.qbs.specs.Pruners.{May}
 use Rattle.qbs.specs.Rewrite.{size_of, budget_of}
-use Rattle.qbs.specs.Steps.{IsRead}
 
 pub record IsRewritten (may : May) (size budget : ℕ) (schema source out rep : List ℕ) : Type 0 where
   -- the schema, and the program that has the source's bytes, which is well typed

@@ -19,12 +19,12 @@ use Rattle.rewrite_core.specs.Rewriting.{verdicts_of}
 use Rattle.rewrite_core.specs.Trying.{all_tried}
 use Rattle.sample.specs.Class.{sample_program}
 use Rattle.sample.specs.Tables.{sample_schema, sample_rows}
-use Rattle.qbs.specs.declared.plan.Plan.{Plan}
-use Rattle.qbs.specs.Lines.{fault_text}
-use Rattle.qbs.specs.Plan.{line, refusal}
-use Rattle.qbs.specs.Results.{names_of}
+use Rattle.plans.specs.declared.plan.Plan.{Plan}
+use Rattle.plans.specs.Lines.{fault_text}
+use Rattle.plans.specs.Plan.{line, refusal}
+use Rattle.plans.specs.Results.{names_of}
+use Rattle.plans.specs.Steps.{Ends, ends, step}
 use Rattle.qbs.specs.Run.{IsChosen}
-use Rattle.qbs.specs.Steps.{Ends, ends, step}
 
 -- ---- The summary
 

@@ -10,11 +10,12 @@ use Rattle.rewrite_core.specs.Pruned.{ArePruned}
 use Rattle.rewrite_core.specs.Rewriting.{bundle_of}
 use Rattle.rewrite_core.specs.Trying.{all_tried, rewritten}
 use Rattle.words.specs.declared.command.Options.{Options}
-use Rattle.qbs.specs.declared.plan.Plan.{Plan}
-use Rattle.qbs.specs.Opening.{has_schema, has_program}
-use Rattle.qbs.specs.Plan.{Given, May}
+use Rattle.plans.specs.declared.plan.Plan.{Plan}
+use Rattle.plans.specs.Opening.{has_schema, has_program}
+use Rattle.plans.specs.Plan.{Given}
+use Rattle.plans.specs.Steps.{Ends, reads}
+use Rattle.qbs.specs.Pruners.{May}
 use Rattle.qbs.specs.Rewrite.{size_of, budget_of, IsRewriting, rewriting_plan}
-use Rattle.qbs.specs.Steps.{Ends, reads}
 
 -- an entry for each loop that gives way, in the order of the tries
 abbrev pub entries_for : Schema → ℕ → ℕ → PlainProgram → List Entry

@@ -14,11 +14,12 @@ use Rattle.rewrite_core.specs.Pruned.{ArePruned}
 use Rattle.rewrite_core.specs.Rewriting.{StandAsTried}
 use Rattle.rewrite_core.specs.Trying.{all_tried, rewritten}
 use Rattle.words.specs.declared.command.Options.{Options}
-use Rattle.qbs.specs.declared.plan.Plan.{Plan}
-use Rattle.qbs.specs.Lines.{report_text}
-use Rattle.qbs.specs.Opening.{has_schema, has_program}
-use Rattle.qbs.specs.Plan.{Given, May}
-use Rattle.qbs.specs.Steps.{Ends, reads}
+use Rattle.plans.specs.declared.plan.Plan.{Plan}
+use Rattle.plans.specs.Opening.{has_schema, has_program}
+use Rattle.plans.specs.Plan.{Given}
+use Rattle.plans.specs.Steps.{Ends, reads}
+use Rattle.qbs.specs.Reports.{report_text}
+use Rattle.qbs.specs.Pruners.{May}
 
 -- ---- Options
 

@@ -7,14 +7,14 @@ use Rattle.java_mean.specs.Outcome.{Outcome, Done, Faulted, OutOfTurns, Stuck, o
 use Rattle.java_types.specs.Texts.{read_by}
 use Rattle.rewrite_core.specs.Trying.{rewritten}
 use Rattle.words.specs.declared.command.Options.{Options}
-use Rattle.qbs.specs.Calls.{Call, Called, has_call}
-use Rattle.qbs.specs.Lines.{fault_text}
-use Rattle.qbs.specs.Opening.{has_program}
-use Rattle.qbs.specs.Plan.{Given, refusal}
-use Rattle.qbs.specs.Results.{output}
+use Rattle.plans.specs.Calls.{Call, Called, has_call}
+use Rattle.plans.specs.Lines.{fault_text}
+use Rattle.plans.specs.Opening.{has_program}
+use Rattle.plans.specs.Plan.{Given, refusal}
+use Rattle.plans.specs.Results.{output}
+use Rattle.plans.specs.Steps.{Ends, step, reads}
+use Rattle.plans.specs.Tables.{over_tables, has_rows}
 use Rattle.qbs.specs.Rewrite.{or_default, size_of, budget_of, IsRewriting}
-use Rattle.qbs.specs.Steps.{Ends, step, reads}
-use Rattle.qbs.specs.Tables.{over_tables, has_rows}
 
 abbrev pub turns_of : Options → ℕ
 turns_of o = or_default 1000000 o.turns

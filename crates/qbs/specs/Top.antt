@@ -7,12 +7,13 @@ use Rattle.qbs_base.specs.Outside.{AppendsPrefix}
 use Rattle.words.specs.declared.command.Command.{Command}
 use Rattle.words.specs.declared.command.Command.TheVariants as commands
 use Rattle.words.specs.Plain.{HasWords}
-use Rattle.qbs.specs.declared.plan.Plan.{Plan}
+use Rattle.plans.specs.declared.plan.Plan.{Plan}
+use Rattle.plans.specs.Deliver.{Change, Delivers}
+use Rattle.plans.specs.Plan.{Given}
+use Rattle.plans.specs.Tables.{IsTableFile}
 use Rattle.qbs.specs.Commands.{HasNoWords, program, IsDue}
-use Rattle.qbs.specs.Deliver.{Change, Delivers}
-use Rattle.qbs.specs.Lines.{pruned_line}
-use Rattle.qbs.specs.Plan.{Given, May}
-use Rattle.qbs.specs.Tables.{IsTableFile}
+use Rattle.qbs.specs.Reports.{pruned_line}
+use Rattle.qbs.specs.Pruners.{May}
 
 -- a plan that is due was delivered
 pub record IsDone (files : Given) (may : May) (words : List (List ℕ)) (out rep : Change) (result : Status) : Type 0 where

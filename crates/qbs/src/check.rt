@@ -5,19 +5,16 @@ ghost use Rattle.java_ast.specs.Reading.{program as plain_program};
 ghost use Rattle.java_mean.specs.WellTyped.{IsWellTyped};
 ghost use Rattle.java_types.specs.Texts.{read_by};
 ghost use Rattle.deriv_check.specs.Bundles.{entries_of};
-ghost use Rattle.deriv_check.specs.Grammar.{HasBundle};
-ghost use Rattle.qbs.specs.Check.{BreaksBundle, bundle_refusal, accepted_line, refused_line, checks, check_of, check};
-ghost use Rattle.qbs.specs.Code.{Goes, OrMemory};
-ghost use Rattle.qbs.specs.Plan.{given};
-ghost use Rattle.qbs.specs.Steps.{refused as lacking};
+ghost use Rattle.plans.specs.Code.{OrMemory};
+ghost use Rattle.plans.specs.Plan.{given};
+ghost use Rattle.qbs.specs.Check.{accepted_line, refused_line, checks, check_of, check};
 
-use crate::Plan;
-use crate::fetch::{Stop, fetch};
-use crate::lines::bundle_refused;
-use crate::opening::{open_program, open_schema};
-use deriv_check::{Bundle, parse_bundle};
+use deriv_check::Bundle;
 use java_types::Typed;
-use qbs_base::{Bytes, Fail, Files, Status, Text};
+use plans::Plan;
+use plans::fetch::{Stop, fetch};
+use plans::opening::{open_bundle, open_program, open_schema};
+use qbs_base::{Bytes, Files, Status, Text};
 use rewrite_core::{Checked, check_bundle};
 use schema::Schema;
 use std::alloc::{AllocError, Global};
@@ -53,18 +50,6 @@ fn plan_texts(alloc: Global, schema: &[u8], source: &[u8], bundle: &[u8]) -> Res
     let typed = open_program(alloc, &schema, source)?;
     let bundle = open_bundle(alloc, bundle)?;
     plan_bundle(alloc, &schema, &typed, &bundle)
-}
-
-// The bundle that bytes are, or the refusal of the first byte with which no bundle goes on.
-#[tactic(auto, using(crate::proofs::Checked::bundle_stops))]
-fn open_bundle(alloc: Global, bytes: &[u8]) -> Result<Bundle, Stop>
-    ensures { Goes result (λ b. HasBundle bytes.now (entries_of b)) (lacking (BreaksBundle bytes.now) bundle_refusal) }
-{
-    match parse_bundle(alloc, bytes) {
-        Ok(bundle) => Ok(bundle),
-        Err(Fail::Fault(fault)) => Err(bundle_refused(alloc, &fault)),
-        Err(Fail::NoMemory) => Err(Stop::Memory),
-    }
 }
 
 // How many entries are accepted, or which is the first that isn't.

@@ -3,10 +3,10 @@ ghost use Rattle.std.specs.Prelude.{◌≡◌, ℕ, List, Option, IsSome, true, 
 ghost use Rattle.qbs_base.specs.Outside.{Rose};
 ghost use Rattle.qbs_base.specs.declared.status.Status.{Status};
 ghost use Rattle.words.specs.declared.command.Options.{Options};
-ghost use Rattle.qbs.specs.Calls.{Call};
+ghost use Rattle.plans.specs.Calls.{Call};
+ghost use Rattle.plans.specs.Tables.{IsTableFile};
+ghost use Rattle.plans.specs.declared.plan.Plan.{Plan};
 ghost use Rattle.qbs.specs.Run.{run};
-ghost use Rattle.qbs.specs.Tables.{IsTableFile};
-ghost use Rattle.qbs.specs.declared.plan.Plan.{Plan};
 
 /// Wherever a run ends without fault, the run of the rewritten program writes the same.
 pub fn rewritten_runs_are_alike()

@@ -2,7 +2,8 @@
 ghost use Rattle.std.specs.Prelude.{◌≡◌, ◌++◌, IfOk, OnOk, string_bytes};
 ghost use Rattle.std.specs.List.{flat_map};
 ghost use Rattle.rewrite_core.specs.declared.rewritten.Said.{Said};
-ghost use Rattle.qbs.specs.Lines.{place_text, said_text, verdict_line, pruned_line};
+ghost use Rattle.plans.specs.Lines.{place_text};
+ghost use Rattle.qbs.specs.Reports.{said_text, verdict_line, pruned_line};
 
 use qbs_base::{Bytes, NoMemory, Span};
 use rewrite_core::{LoopVerdict, Said};

@@ -1,11 +1,11 @@
 use Rattle.std.proofs.Common.{List, ℕ, Err, subst, refl, ◌∙◌, codes}
 use Rattle.std.proofs.lemmas.Result.{err_from_is_err_and}
 use Rattle.qbs_base.specs.Outside.{Rose}
+use Rattle.plans.specs.Code.{OrMemory}
+use Rattle.plans.specs.Plan.{given}
+use Rattle.plans.specs.Steps.{Ends, reads}
+use Rattle.plans.proofs.Fetched.{rose_later, told_later}
 use Rattle.qbs.specs.Check.{check_of}
-use Rattle.qbs.specs.Code.{OrMemory}
-use Rattle.qbs.specs.Plan.{given}
-use Rattle.qbs.specs.Steps.{Ends, reads}
-use Rattle.qbs.proofs.Fetched.{rose_later, told_later}
 use Rattle.qbs.proofs.Planned.{unread_there, read_on}
 use Rattle.qbs.proofs.check.plan_check.Goals as goal
 

@@ -1,7 +1,7 @@
 use Rattle.std.proofs.lemmas.Result.{err_from_is_err_and}
 use Rattle.java_ast.specs.Reading.{program as plain_program}
 use Rattle.java_types.specs.declared.checking.Typed.{Typed}
-use Rattle.qbs.specs.Opening.{IsProgramOf}
+use Rattle.plans.specs.Opening.{IsProgramOf}
 use Rattle.qbs.proofs.Rewritten.{prove_schema_lacking, prove_program_lacking, prove_found}
 use Rattle.qbs.proofs.prove.plan_texts.Goals as goal
 

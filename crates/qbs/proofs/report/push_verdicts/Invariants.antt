@@ -1,6 +1,6 @@
 use Rattle.std.proofs.Common.{◌≡◌, ◌++◌, drop}
 use Rattle.std.specs.List.{flat_map}
-use Rattle.qbs.specs.Lines.{verdict_line}
+use Rattle.qbs.specs.Reports.{verdict_line}
 use Rattle.qbs.proofs.report.push_verdicts.Given as goal
 
 -- what is written and the lines of the verdicts that are left are all lines

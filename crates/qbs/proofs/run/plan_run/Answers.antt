@@ -1,11 +1,12 @@
 use Rattle.std.proofs.Common.{List, ℕ, subst, ◌∙◌}
 use Rattle.std.proofs.lemmas.Result.{err_from_is_err_and}
 use Rattle.qbs_base.specs.Outside.{Rose}
-use Rattle.qbs.specs.Code.{OrMemory, call_in}
-use Rattle.qbs.specs.Plan.{given}
+use Rattle.plans.specs.Code.{OrMemory}
+use Rattle.plans.specs.Plan.{given}
+use Rattle.plans.specs.Tables.{over_tables}
+use Rattle.plans.proofs.Fetched.{rose_later, told_later}
+use Rattle.qbs.specs.Code.{call_in}
 use Rattle.qbs.specs.Run.{run_of}
-use Rattle.qbs.specs.Tables.{over_tables}
-use Rattle.qbs.proofs.Fetched.{rose_later, told_later}
 use Rattle.qbs.proofs.Planned.{first_unread, second_unread, both_read, over_there}
 use Rattle.qbs.proofs.run.plan_run.Goals as goal
 

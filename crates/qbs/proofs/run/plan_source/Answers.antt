@@ -1,8 +1,8 @@
 use Rattle.std.proofs.lemmas.Result.{err_from_is_err_and}
 use Rattle.java_ast.specs.Reading.{program as plain_program}
 use Rattle.java_types.specs.declared.checking.Typed.{Typed}
+use Rattle.plans.specs.Opening.{IsProgramOf}
 use Rattle.qbs.specs.Code.{call_in}
-use Rattle.qbs.specs.Opening.{IsProgramOf}
 use Rattle.qbs.proofs.Rewritten.{run_lacking, run_found}
 use Rattle.qbs.proofs.Rewrote.{is_source}
 use Rattle.qbs.proofs.run.plan_source.Goals as goal

@@ -2,10 +2,11 @@ use Rattle.std.proofs.Common.{List, ℕ, ◌++◌, subst, ◌∙◌, ap, length,
 use Rattle.std.proofs.lemmas.Result.{err_from_is_err_and}
 use Rattle.qbs_base.specs.declared.columns.Table.{Table}
 use Rattle.qbs_base.specs.Outside.{Rose}
-use Rattle.qbs.specs.Code.{OrMemory, call_in}
-use Rattle.qbs.specs.Plan.{given}
+use Rattle.plans.specs.Code.{OrMemory}
+use Rattle.plans.specs.Plan.{given}
+use Rattle.plans.proofs.Fetched.{as_many}
+use Rattle.qbs.specs.Code.{call_in}
 use Rattle.qbs.specs.Run.{run_of}
-use Rattle.qbs.proofs.Fetched.{as_many}
 use Rattle.qbs.proofs.Planned.{no_schema, no_texts, has_texts}
 use Rattle.qbs.proofs.run.plan_tables.Goals as goal
 

@@ -1,11 +1,11 @@
 use Rattle.std.proofs.Common.{List, ℕ, subst}
 use Rattle.std.proofs.lemmas.Result.{err_from_is_err_and}
 use Rattle.qbs_base.specs.Outside.{Rose}
-use Rattle.qbs.specs.Code.{OrMemory}
-use Rattle.qbs.specs.Plan.{given}
+use Rattle.plans.specs.Code.{OrMemory}
+use Rattle.plans.specs.Plan.{given}
+use Rattle.plans.specs.Tables.{over_tables}
+use Rattle.plans.proofs.Fetched.{rose_later}
 use Rattle.qbs.specs.Sql.{sql_of}
-use Rattle.qbs.specs.Tables.{over_tables}
-use Rattle.qbs.proofs.Fetched.{rose_later}
 use Rattle.qbs.proofs.Planned.{schema_read, schema_unread, over_there}
 use Rattle.qbs.proofs.sql.plan_sql.Goals as goal
 

@@ -3,10 +3,10 @@ use Rattle.std.proofs.lemmas.Result.{err_from_is_err_and}
 use Rattle.qbs_base.specs.declared.columns.Table.{Table}
 use Rattle.qbs_base.specs.Outside.{Rose}
 use Rattle.java_types.specs.Texts.{read_by}
+use Rattle.plans.specs.Plan.{given}
+use Rattle.plans.proofs.Fetched.{as_many}
 use Rattle.qbs.specs.Code.{answer_of}
-use Rattle.qbs.specs.Plan.{given}
 use Rattle.qbs.specs.Sql.{sql_of}
-use Rattle.qbs.proofs.Fetched.{as_many}
 use Rattle.qbs.proofs.Going.{due_as}
 use Rattle.qbs.proofs.Planned.{no_schema, no_texts, has_texts}
 use Rattle.qbs.proofs.Twins.{sql_steps}

@@ -1,0 +1,37 @@
+-- What is to be answered and written, and what is told of a call.
+use Rattle.std.specs.Prelude.{ℕ, List, [], ◌∷◌, ◌++◌, codes}
+use Rattle.std.specs.declared.option.Option.{Option}
+use Rattle.qbs_base.specs.declared.status.Status.{Status}
+use Rattle.qbs_base.specs.Outside.{Rose}
+use Rattle.plans.specs.declared.plan.Plan.{Plan}
+
+-- a line of text
+abbrev pub line : List ℕ → List ℕ
+line text = text ++ 10 ∷ []
+
+-- nothing for the output, and one line for the report
+abbrev pub refusal : Status → List ℕ → Plan
+refusal status text = record { status = status; out = []; rep = line text }
+
+abbrev pub no_memory : Plan
+no_memory = refusal Status.NoMemory (codes "qbs: memory")
+
+abbrev pub not_yet : Plan
+not_yet = refusal Status.NotYet (codes "qbs: not yet")
+
+abbrev pub bad_words : Plan
+bad_words = refusal Status.Words (codes "qbs: words")
+
+abbrev pub read_fault : List ℕ → Plan
+read_fault name = refusal Status.ReadFault (codes "qbs: read " ++ name)
+
+abbrev pub too_long : List ℕ → Plan
+too_long label = refusal Status.Limit (codes "qbs: limit: " ++ label)
+
+-- the files of a call: what is told of them, and that their faults rose in the call
+pub record Given : Type 1 where
+  pub told : List ℕ → Option (List ℕ)
+  pub rose : Type 0
+
+abbrev pub given : {D : Type 0} → (D → List ℕ → Option (List ℕ)) → (D → ℕ) → D → D → Given
+given told faults old new = record { told = told old; rose = Rose (faults old) (faults new) }

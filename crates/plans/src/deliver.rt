@@ -1,0 +1,55 @@
+// Writing what is due.
+ghost use Rattle.std.specs.Prelude.{◌≡◌, ◌≤◌};
+ghost use Rattle.qbs_base.specs.Outside.{Rose};
+ghost use Rattle.plans.specs.Deliver.{Delivers, change};
+ghost use Rattle.plans.specs.declared.plan.Plan.{Plan};
+
+use crate::Plan;
+use qbs_base::{Sink, Status, WriteAnswer};
+
+/// Writes the text to `out` and then the line to `rep`, each by one call where it has bytes.
+pub fn deliver<O: Sink, E: Sink>(
+    status: Status,
+    text: &[u8],
+    line: &[u8],
+    out: &mut O,
+    rep: &mut E,
+) -> Status
+    ensures { Delivers (record { status = status; out = text.now; rep = line.now })
+        (change O.told O.faults out.old out.new) (change E.told E.faults rep.old rep.new) result }
+{
+    if let WriteAnswer::Failed = send(text, out) {
+        return Status::WriteFault;
+    }
+    if let WriteAnswer::Failed = send(line, rep) {
+        return Status::WriteFault;
+    }
+    status
+}
+
+/// Writes a plan.
+pub fn deliver_plan<O: Sink, E: Sink>(plan: &Plan, out: &mut O, rep: &mut E) -> Status
+    ensures { Delivers plan.now
+        (change O.told O.faults out.old out.new) (change E.told E.faults rep.old rep.new) result }
+{
+    deliver(
+        plan.status,
+        plan.out.as_slice(),
+        plan.rep.as_slice(),
+        out,
+        rep,
+    )
+}
+
+ghost use Rattle.qbs_base.specs.Outside.{Writes, WriteCause};
+
+// One call, where there is something to write.
+fn send<K: Sink>(piece: &[u8], sink: &mut K) -> WriteAnswer
+    ensures wrote { Writes (K.told sink.old) (K.told sink.new) piece.now result }
+    ensures cause { WriteCause (K.faults sink.old) (K.faults sink.new) result }
+{
+    if piece.is_empty() {
+        return WriteAnswer::Ok;
+    }
+    sink.write_all(piece)
+}

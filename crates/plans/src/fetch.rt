@@ -1,0 +1,77 @@
+// Reading a file, or what is due where it can't be read.
+ghost use Rattle.std.specs.Prelude.{◌≡◌, ◌<◌, ◌≤◌, MatchResult, IfSome, length};
+ghost use Rattle.qbs_base.specs.Outside.{Rose};
+ghost use Rattle.plans.specs.declared.fetch.Stop.TheVariants.{Memory};
+ghost use Rattle.plans.specs.Code.{Goes, StopsFor};
+ghost use Rattle.plans.specs.Plan.{given};
+ghost use Rattle.plans.specs.Steps.{IsRead, IsNotRead};
+
+use crate::Plan;
+use qbs_base::{Bytes, Files, NoMemory, ReadAnswer, Status, Text};
+use std::alloc::{AllocError, AllocFailed, Global};
+
+/// What ends a command before its work is done.
+#[derive(Drop)]
+pub enum Stop {
+    Due(Plan),
+    Memory,
+}
+
+impl From<AllocError> for Stop {
+    ghost from_gives = { λ _ stop. stop ≡ Memory };
+
+    fn from(_: AllocError) -> Stop {
+        Stop::Memory
+    }
+}
+
+impl From<NoMemory> for Stop {
+    ghost from_gives = { λ _ stop. stop ≡ Memory };
+
+    fn from(_: NoMemory) -> Stop {
+        Stop::Memory
+    }
+}
+
+impl<T: Drop> From<AllocFailed<T>> for Stop {
+    ghost from_gives = { λ _ stop. stop ≡ Memory };
+
+    fn from(_: AllocFailed<T>) -> Stop {
+        Stop::Memory
+    }
+}
+
+/// The bytes of a file within a limit, or what is due without them: the label names the limit.
+pub fn fetch<F: Files>(
+    alloc: Global,
+    files: &mut F,
+    name: &Text,
+    limit: u64,
+    label: &str,
+) -> Result<Bytes, Stop>
+    ensures same { F.told files.new ≡ F.told files.old }
+    ensures later { F.faults files.old ≤ F.faults files.new }
+    ensures read { Goes result (IsRead (given F.told F.faults files.old files.new) name.now limit)
+        (IsNotRead (given F.told F.faults files.old files.new) name.now limit label.now) }
+{
+    match files.read_all(alloc, name, limit) {
+        ReadAnswer::Ok(bytes) => Ok(bytes),
+        ReadAnswer::TooLong => Err(refused(alloc, Status::Limit, "qbs: limit: ", label)),
+        ReadAnswer::Failed => Err(refused(alloc, Status::ReadFault, "qbs: read ", name.as_str())),
+        ReadAnswer::NoMemory => Err(Stop::Memory),
+    }
+}
+
+/// A refusal whose line is a text and a name.
+pub fn refused(alloc: Global, status: Status, text: &str, name: &str) -> Stop
+    ensures { StopsFor status text.now name.now result }
+{
+    match format!(in alloc; "{text}{name}\n") {
+        Ok(line) => Stop::Due(Plan {
+            status,
+            out: Bytes::from_vec(Vec::new(alloc)),
+            rep: Bytes::from_vec(line.into_bytes()),
+        }),
+        Err(_) => Stop::Memory,
+    }
+}

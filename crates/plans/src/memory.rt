@@ -1,0 +1,15 @@
+// Want of memory before any word is read.
+ghost use Rattle.qbs_base.specs.Outside.{Rose};
+ghost use Rattle.plans.specs.Memory.{RefusesForMemory};
+
+use qbs_base::{Sink, Status, WriteAnswer};
+
+/// Writes the line of want of memory to `rep`, as the answer where memory runs out before the words are read.
+pub fn refuse_for_memory<E: Sink>(rep: &mut E) -> Status
+    ensures { RefusesForMemory (E.told rep.old) (E.told rep.new) (Rose (E.faults rep.old) (E.faults rep.new)) result }
+{
+    match rep.write_all(b"qbs: memory\n") {
+        WriteAnswer::Ok => Status::NoMemory,
+        WriteAnswer::Failed => Status::WriteFault,
+    }
+}

@@ -1,0 +1,91 @@
+// What commands begin with: a schema, a source with a well-typed program, and a bundle.
+ghost use Rattle.std.specs.Prelude.{◌≡◌};
+ghost use Rattle.deriv_check.specs.Bundles.{entries_of};
+ghost use Rattle.deriv_check.specs.Grammar.{HasBundle};
+ghost use Rattle.java_ast.specs.Reading.{program as plain_program};
+ghost use Rattle.java_mean.specs.WellTyped.{IsWellTyped};
+ghost use Rattle.java_grammar.specs.Grammar.{IsReadable};
+ghost use Rattle.java_types.specs.Texts.{read_by};
+ghost use Rattle.plans.specs.Code.{Goes};
+ghost use Rattle.plans.specs.Opening.{IsSchemaOf, BreaksSchema, schema_refusal, HasTokens, LacksTokens, lex_refusal, HasKept, parse_refusal, HasLeast, type_refusal, IsProgramOf, HasNoProgram, BreaksBundle, bundle_refusal};
+ghost use Rattle.plans.specs.Steps.{refused};
+
+use crate::fetch::Stop;
+use crate::lines::{bundle_refused, lex_refused, parse_refused, schema_refused, type_refused};
+use deriv_check::{Bundle, parse_bundle};
+use java_ast::Program;
+use java_lex::{Tokens, lex};
+use java_parser::parse;
+use java_types::{Typed, check};
+use qbs_base::Fail;
+use schema::{Schema, parse_schema};
+use std::alloc::Global;
+
+/// The schema that bytes are, or the refusal of its first fault.
+#[tactic(auto, using(crate::proofs::Opened::schema_stops))]
+pub fn open_schema(alloc: Global, bytes: &[u8]) -> Result<Schema, Stop>
+    ensures { Goes result (IsSchemaOf bytes.now) (refused (BreaksSchema bytes.now) schema_refusal) }
+{
+    match parse_schema(alloc, bytes) {
+        Ok(schema) => Ok(schema),
+        Err(Fail::Fault(fault)) => Err(schema_refused(alloc, &fault)),
+        Err(Fail::NoMemory) => Err(Stop::Memory),
+    }
+}
+
+#[tactic(auto, using(crate::proofs::Opened::tokens_stop))]
+fn open_tokens(alloc: Global, bytes: &[u8]) -> Result<Tokens, Stop>
+    ensures { Goes result (HasTokens bytes.now) (refused (LacksTokens bytes.now) lex_refusal) }
+{
+    match lex(alloc, bytes) {
+        Ok(tokens) => Ok(tokens),
+        Err(Fail::Fault(fault)) => Err(lex_refused(alloc, &fault)),
+        Err(Fail::NoMemory) => Err(Stop::Memory),
+    }
+}
+
+#[tactic(auto, using(crate::proofs::Opened::program_stops))]
+fn open_tree(alloc: Global, tokens: &Tokens) -> Result<Program, Stop>
+    ensures { Goes result (λ p. IsReadable tokens.now.list (plain_program p)) (refused (HasKept tokens.now) parse_refusal) }
+{
+    match parse(alloc, tokens) {
+        Ok(program) => Ok(program),
+        Err(Fail::Fault(fault)) => Err(parse_refused(alloc, &fault)),
+        Err(Fail::NoMemory) => Err(Stop::Memory),
+    }
+}
+
+// The program as one that was checked.
+#[tactic(auto, using(crate::proofs::Opened::types_stop))]
+fn open_typed(alloc: Global, schema: &Schema, program: &Program) -> Result<Typed, Stop>
+    ensures same { Goes result (λ t. plain_program t.program ≡ plain_program program.now) (λ plan. Unit {0}) }
+    ensures typed { Goes result (λ t. IsWellTyped schema.now (read_by schema.now) (plain_program t.program))
+        (refused (HasLeast schema.now (plain_program program.now)) type_refusal) }
+{
+    match check(alloc, schema, program) {
+        Ok(typed) => Ok(typed),
+        Err(Fail::Fault(fault)) => Err(type_refused(alloc, &fault)),
+        Err(Fail::NoMemory) => Err(Stop::Memory),
+    }
+}
+
+/// The well-typed program that bytes are under a schema, or the refusal of their first fault.
+pub fn open_program(alloc: Global, schema: &Schema, bytes: &[u8]) -> Result<Typed, Stop>
+    ensures { Goes result (λ t. IsProgramOf schema.now bytes.now (plain_program t.program)) (HasNoProgram schema.now bytes.now) }
+{
+    let tokens = open_tokens(alloc, bytes)?;
+    let program = open_tree(alloc, &tokens)?;
+    open_typed(alloc, schema, &program)
+}
+
+/// The bundle that bytes are, or the refusal of the first byte with which no bundle goes on.
+#[tactic(auto, using(crate::proofs::Opened::bundle_stops))]
+pub fn open_bundle(alloc: Global, bytes: &[u8]) -> Result<Bundle, Stop>
+    ensures { Goes result (λ b. HasBundle bytes.now (entries_of b)) (refused (BreaksBundle bytes.now) bundle_refusal) }
+{
+    match parse_bundle(alloc, bytes) {
+        Ok(bundle) => Ok(bundle),
+        Err(Fail::Fault(fault)) => Err(bundle_refused(alloc, &fault)),
+        Err(Fail::NoMemory) => Err(Stop::Memory),
+    }
+}

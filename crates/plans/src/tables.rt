@@ -1,0 +1,113 @@
+// The tables of a schema, from files of a folder.
+ghost use Rattle.std.specs.Prelude.{◌≡◌, ◌<◌, ◌≤◌, ◌++◌, ◌∷◌, [], length, IfOk, OnOk, IfErr, slice_get, string_bytes};
+ghost use Rattle.qbs_base.specs.Outside.{Rose};
+ghost use Rattle.qbs_base.specs.Values.{IsDatabaseOf};
+ghost use Rattle.plans.specs.Plan.{given};
+ghost use Rattle.plans.specs.Tables.{table_file as file_of, IsFresh, Reads, Loads, LoadsNext, with_rows_at};
+
+use crate::fetch::{Stop, fetch};
+use crate::lines::data_refused;
+use qbs_base::{Bytes, Db, Fail, Files, Items, NoMemory, Rows, Table, Text};
+use schema::{Schema, load_table};
+use std::alloc::{AllocError, Global};
+
+/// The texts of tables.
+pub type TableTexts = Items<Bytes>;
+
+fn file_text(alloc: Global, folder: &Text, table: &Table) -> Result<String, AllocError>
+    ensures { IfOk result (λ s. string_bytes s ≡ file_of folder.now table.now.name) }
+{
+    let folder = folder.as_str();
+    let name = table.name.as_str();
+    let text = format!(in alloc; "{folder}/{name}.csv")?;
+    Ok(text)
+}
+
+// The file of a table in a folder.
+fn table_file(alloc: Global, folder: &Text, table: &Table) -> Result<Text, NoMemory>
+    ensures { IfOk result (λ text. text ≡ file_of folder.now table.now.name) }
+{
+    Ok(Text::from_string(file_text(alloc, folder, table)?))
+}
+
+/// Reads the files of tables in order, behind the texts that are there. All together have `left` bytes at
+/// most. A schema has 64 tables at most, and so many calls are open at once.
+pub fn fetch_tables<F: Files>(
+    tables: &[Table],
+    alloc: Global,
+    files: &mut F,
+    folder: &Text,
+    left: u64,
+    texts: &mut TableTexts,
+) -> Result<(), Stop>
+    ensures same { F.told files.new ≡ F.told files.old }
+    ensures later { F.faults files.old ≤ F.faults files.new }
+    ensures read { Reads (given F.told F.faults files.old files.new) folder.now tables.now left texts.old texts.new result }
+{
+    match tables {
+        [] => Ok(()),
+        [table, rest @ ..] => {
+            let name = table_file(alloc, folder, table)?;
+            let text = fetch(alloc, files, &name, left, "tables")?;
+            let left = left - text.len() as u64;
+            texts.push(text)?;
+            fetch_tables(rest, alloc, files, folder, left, texts)
+        }
+    }
+}
+
+// Puts rows into the table with that number.
+fn put_rows(db: &mut Db, table: u32, rows: Rows) -> Result<(), NoMemory>
+    requires { table < length db.old }
+    ensures { OnOk result (db.new ≡ with_rows_at db.old table rows) }
+{
+    for row in rows.into_vec() {
+        db.put_row(table, row)?;
+    }
+    Ok(())
+}
+
+// Adds the table with the next number, with the rows that its text has.
+fn load_next(
+    alloc: Global,
+    schema: &Schema,
+    number: u32,
+    text: &[u8],
+    db: &mut Db,
+) -> Result<(), Stop>
+    requires within { number < length schema.now }
+    requires next { number ≡ length db.old }
+    requires fresh { IsFresh schema.now number db.old }
+    ensures { LoadsNext schema.now number text.now db.old db.new result }
+{
+    let table = &schema.tables()[number as usize];
+    match load_table(alloc, schema, number, text) {
+        Ok(rows) => {
+            let number = db.add_table(table.name.clone()?)?;
+            put_rows(db, number, rows)?;
+            Ok(())
+        }
+        Err(Fail::Fault(fault)) => Err(data_refused(alloc, &table.name, &fault)),
+        Err(Fail::NoMemory) => Err(Stop::Memory),
+    }
+}
+
+/// The database that the texts of a schema's tables have, or the refusal of the first table whose text
+/// isn't one.
+pub fn load_tables(alloc: Global, schema: &Schema, texts: &[Bytes]) -> Result<Db, Stop>
+    requires { length texts.now ≡ length schema.now }
+    ensures loaded { Loads schema.now texts.now result }
+    ensures database { IfOk result (λ db. IsDatabaseOf schema.now db) }
+{
+    let mut db = Db::new(alloc);
+    for number in 0..schema.tables().len() {
+        load_next(
+            alloc,
+            schema,
+            number as u32,
+            texts[number].as_slice(),
+            &mut db,
+        )?;
+    }
+    Ok(db)
+}

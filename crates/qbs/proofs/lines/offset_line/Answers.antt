@@ -1,6 +1,0 @@
-use Rattle.std.proofs.Common.{◌∙◌}
-use Rattle.qbs.proofs.Lined.{offset_lined}
-use Rattle.qbs.proofs.lines.offset_line.Goals as goal
-
-pub returns : goal.returns
-returns c = c.in_ok-line.ensures.ok ∙ offset_lined c.args.fault.now
