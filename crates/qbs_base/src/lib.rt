@@ -1,6 +1,7 @@
 //! The plain values of the product: texts, scalars, rows, tables, and the outside as traits.
 #![tactic(auto)]
 
+mod boxes;
 mod bytes;
 mod columns;
 mod copying;
@@ -19,6 +20,7 @@ mod span;
 mod status;
 mod texts;
 
+pub use boxes::{boxed, held};
 pub use bytes::{is_digit, is_name_part, is_name_start, is_white};
 pub use columns::{Column, Columns, Table, Tables, columns_at, same_ty};
 pub use copying::{copy_cells, copy_names, copy_row, copy_rows, copy_scalar, copy_text};
