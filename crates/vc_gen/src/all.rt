@@ -13,9 +13,8 @@ ghost use Rattle.vc_gen.specs.Short.{AllShort};
 ghost use Rattle.vc_gen.specs.Soundness.{AllValid, AllValidAnywhere, EndsAsClaimed, EndsAnywhere};
 
 use crate::own::{Conditions, add_own};
-use crate::terms::boxed;
 use kernel_lang::{Acc, Candidate, KFragment};
-use qbs_base::{Items, NoMemory};
+use qbs_base::{Items, NoMemory, boxed};
 use std::alloc::Global;
 use tor_axioms::{Condition, Vc, Vcs};
 use tor_terms::{Atoms, Formula, Formulas, copy_atoms, copy_formula};

@@ -8,9 +8,9 @@ ghost use Rattle.vc_gen.specs.Conditions as spec;
 ghost use Rattle.vc_gen.specs.Levels.{layer_seen, layers_seen};
 
 use crate::level::Level;
-use crate::terms::{boxed, part, whole, whole_level};
+use crate::terms::{part, whole, whole_level};
 use kernel_lang::Update;
-use qbs_base::{Items, NoMemory};
+use qbs_base::{Items, NoMemory, boxed};
 use std::alloc::Global;
 use tor_axioms::{Condition, Literal, Literals};
 use tor_terms::{Atoms, Formula, Index, Loops, Term, copy_boxed_term};

@@ -7,16 +7,9 @@ ghost use Rattle.vc_gen.specs.Levels.{layer_seen, layers_seen};
 
 use crate::level::Level;
 use kernel_lang::Update;
-use qbs_base::{Items, NoMemory, Scalar};
+use qbs_base::{Items, NoMemory, Scalar, boxed};
 use std::alloc::Global;
 use tor_terms::{Elem, Formula, Index, Term, Way, copy_boxed_term, copy_formulas};
-
-/// A value in a box.
-pub fn boxed<T: Drop>(alloc: Global, value: T) -> Result<Box<T>, NoMemory>
-    ensures { IfOk result (λ b. b.value ≡ value) }
-{
-    Ok(Box::new(alloc, value)?)
-}
 
 fn nest_walks(alloc: Global, x: Box<Term>, inner: &[Level]) -> Result<Box<Term>, NoMemory>
     ensures { IfOk result (λ t. tree_of t.value ≡ spec.nest_walks (tree_of x.value) (spec.loops_of (layers_seen inner.now))) }
