@@ -12,7 +12,7 @@ use crate::scope::Scope;
 use crate::walk::walk_method;
 use java_ast::{Method, Program, copy_program};
 use java_mean::TypeFault;
-use qbs_base::{Fail, NoMemory};
+use qbs_base::{Fail, NoMemory, boxed};
 use schema::Schema;
 use std::alloc::Global;
 
@@ -79,8 +79,8 @@ fn first_fault(alloc: Global, schema: &Schema, p: &Program) -> Result<Option<Typ
     ensures { IfOk result (λ k. k ≡ least None (all_faults schema.now (read_by schema.now) (program p.now))) }
 {
     let mut kept = None;
-    let mut names = Scope::new(alloc);
-    walk_methods(p.methods.as_slice(), alloc, schema, &mut names, &mut kept)?;
+    let mut names = boxed(alloc, Scope::new(alloc))?;
+    walk_methods(p.methods.as_slice(), alloc, schema, &mut *names, &mut kept)?;
     Ok(kept)
 }
 

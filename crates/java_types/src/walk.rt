@@ -17,7 +17,7 @@ use crate::values::at_value;
 use crate::walked::Walked;
 use java_ast::{Expr, ExprNode, JTy, Method, Param, Stmt, StmtNode};
 use java_mean::TypeFault;
-use qbs_base::{NoMemory, Span};
+use qbs_base::{NoMemory, Span, boxed};
 use schema::Schema;
 use std::alloc::Global;
 
@@ -333,23 +333,23 @@ pub fn walk_method(
         places.whole double (plain_method m.now) ∷ in_method schema.now (plain_method m.now)))) }
 {
     at_method(m, double, returns(m.body.as_slice()), schema, kept);
-    let mut scope = Scope::new(alloc);
+    let mut scope = boxed(alloc, Scope::new(alloc))?;
     walk_params(
         m.params.as_slice(),
         m.span,
         schema,
         &m.result,
-        &mut scope,
+        &mut *scope,
         kept,
     )?;
-    let mut walked = Walked::new(alloc);
+    let mut walked = boxed(alloc, Walked::new(alloc))?;
     walk_block(
         m.body.as_slice(),
         alloc,
         schema,
         &m.result,
-        &mut scope,
-        &mut walked,
+        &mut *scope,
+        &mut *walked,
         false,
         true,
         kept,
