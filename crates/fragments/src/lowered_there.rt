@@ -1,5 +1,5 @@
 // A loop where it stands, lowered.
-ghost use Rattle.std.specs.Prelude.{◌≡◌, IfOk, IfErr, map};
+ghost use Rattle.std.specs.Prelude.{◌≡◌, Ok, IfOk, IfErr, map};
 ghost use Rattle.java_ast.specs.Reading.{statement};
 ghost use Rattle.java_mean.specs.Visible.{type_at};
 ghost use Rattle.java_types.specs.Texts.{read_by};
@@ -25,7 +25,7 @@ use crate::rules::judging::judged;
 use crate::rules::k5_updates::live_among;
 use loop_text::loops::counting::kernel_body;
 use loop_text::sites::list::{Sites, sites_of};
-use qbs_base::{Fail, Name, NoMemory};
+use qbs_base::{Fail, Name, NoMemory, held};
 use schema::Schema;
 use std::alloc::Global;
 
@@ -98,6 +98,9 @@ pub fn lower_located(
         IsLoweredFrom (setting_of schema.now (read_by schema.now) (type_at there.now.types) (fragment_located there.now)) there.now.first (lowering_in_code l.value) l.value.first l.value.kept) }
     ensures outside { IfErr result (BreaksFirst (setting_of schema.now (read_by schema.now) (type_at there.now.types) (fragment_located there.now))) }
 {
-    let sites = sites_of(alloc, there.looped, kernel_body(there.looped))?;
+    let sites = held(
+        alloc,
+        sites_of(alloc, there.looped, kernel_body(there.looped)),
+    )?;
     lower_sited(alloc, schema, there, &sites)
 }

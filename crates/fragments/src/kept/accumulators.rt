@@ -17,7 +17,7 @@ use crate::places::setting::Fragment;
 use java_ast::{Stmt, StmtNode};
 use loop_text::loops::counting::counting_in;
 use loop_text::sites::bindings::is_name;
-use qbs_base::{Name, NoMemory};
+use qbs_base::{Name, NoMemory, boxed};
 use std::alloc::Global;
 
 /// The counter of a loop that counts.
@@ -113,18 +113,11 @@ fn put_all_updated<'a>(
 
 /// The accumulators: what is assigned or added to in the loop and declared outside of it, other than its
 /// counter, each once, in the order of their updates.
-pub fn accumulators<'a>(alloc: Global, f: &Fragment<'a>) -> Result<NameList<'a>, NoMemory>
-    ensures { IfOk result (λ r. names_lent r.names ≡ fragment.accumulators (fragment_in_code f.now)) }
+pub fn accumulators<'a>(alloc: Global, f: &Fragment<'a>) -> Result<Box<NameList<'a>>, NoMemory>
+    ensures names { IfOk result (λ r. names_lent r.value.names ≡ fragment.accumulators (fragment_in_code f.now)) }
+    ensures listed { IfOk result (λ r. IsListed r.value) }
 {
-    accumulators_listed(alloc, f)
-}
-
-/// The same, where the list finds what it holds.
-pub fn accumulators_listed<'a>(alloc: Global, f: &Fragment<'a>) -> Result<NameList<'a>, NoMemory>
-    ensures names { IfOk result (λ r. names_lent r.names ≡ fragment.accumulators (fragment_in_code f.now)) }
-    ensures listed { IfOk result (λ r. IsListed r) }
-{
-    let mut list = NameList::new(alloc);
-    put_updated(f, f.looped, &mut list)?;
+    let mut list = boxed(alloc, NameList::new(alloc))?;
+    put_updated(f, f.looped, &mut *list)?;
     Ok(list)
 }

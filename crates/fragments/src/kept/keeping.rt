@@ -1,5 +1,5 @@
 // The statements of a run that a rewrite keeps.
-ghost use Rattle.std.specs.Prelude.{◌≡◌, ◌<◌, [], ℕ, List, Some, IfOk, OnOk, length, slice_get};
+ghost use Rattle.std.specs.Prelude.{◌≡◌, ◌<◌, [], ℕ, List, Some, Ok, IfOk, OnOk, length, slice_get};
 ghost use Rattle.java_ast.specs.Reading.{statement, statements};
 ghost use Rattle.loop_text.specs.Statements.Fragment as fragment;
 ghost use Rattle.loop_text.specs.Statements.KeptStatements.{AreKept};
@@ -11,14 +11,14 @@ ghost use Rattle.fragments.specs.Helping.Reading.{fragment_in_code};
 ghost use Rattle.loop_text.specs.Statements.Seen.{names_lent};
 ghost use Rattle.fragments.specs.Helping.Wanted as specs;
 
-use crate::kept::accumulators::{accumulators_listed, counter};
+use crate::kept::accumulators::{accumulators, counter};
 use crate::kept::mentioned::{put_all_mentioned, put_mentioned, put_names};
 use crate::kept::name_list::NameList;
 use crate::kept::setters::{Setters, set_by, setters_of};
 use crate::places::setting::Fragment;
 use java_ast::{Expr, Stmt};
 use loop_text::sites::bindings::is_name;
-use qbs_base::{Name, NoMemory, Numbers};
+use qbs_base::{Name, NoMemory, Numbers, boxed, held};
 use std::alloc::Global;
 
 /// The numbers of the kept statements of a run whose first one has this number, where the queries of the rewrite read
@@ -46,7 +46,7 @@ fn kept_beside<'a>(
     requires { none.now ≡ [] }
     ensures { IfOk result (AreKept (fragment_in_code f.now) (names_read (exprs_lent entries.now)) first (statements f.now.run.now)) }
 {
-    let accumulators = accumulators_listed(alloc, f)?;
+    let accumulators = accumulators(alloc, f)?;
     let wanted = wanted_of(alloc, f, entries, &accumulators, none)?;
     kept_numbers(alloc, f, &accumulators, &wanted, none, first)
 }
@@ -186,17 +186,17 @@ fn wanted_first<'a>(
     entries: &[&'a Expr],
     accumulators: &NameList,
     none: &Name,
-) -> Result<NameList<'a>, NoMemory>
+) -> Result<Box<NameList<'a>>, NoMemory>
     requires empty { none.now ≡ [] }
     requires accumulators_listed { IsListed accumulators.now }
     requires accumulators { names_lent accumulators.now.names ≡ fragment.accumulators (fragment_in_code f.now) }
-    ensures names { IfOk result (λ r. names_lent r.names ≡ specs.wanted_first (fragment_in_code f.now) (names_read (exprs_lent entries.now))) }
-    ensures listed { IfOk result (λ r. IsListed r) }
+    ensures names { IfOk result (λ r. names_lent r.value.names ≡ specs.wanted_first (fragment_in_code f.now) (names_read (exprs_lent entries.now))) }
+    ensures listed { IfOk result (λ r. IsListed r.value) }
 {
-    let mut list = NameList::new(alloc);
-    put_all_mentioned(f.behind, &mut list)?;
-    put_names_read(entries, &mut list)?;
-    put_all_visible(f, accumulators, none, &mut list)?;
+    let mut list = boxed(alloc, NameList::new(alloc))?;
+    put_all_mentioned(f.behind, &mut *list)?;
+    put_names_read(entries, &mut *list)?;
+    put_all_visible(f, accumulators, none, &mut *list)?;
     Ok(list)
 }
 
@@ -207,18 +207,18 @@ fn wanted_of<'a>(
     entries: &[&'a Expr],
     accumulators: &NameList,
     none: &Name,
-) -> Result<NameList<'a>, NoMemory>
+) -> Result<Box<NameList<'a>>, NoMemory>
     requires empty { none.now ≡ [] }
     requires accumulators_listed { IsListed accumulators.now }
     requires accumulators { names_lent accumulators.now.names ≡ fragment.accumulators (fragment_in_code f.now) }
-    ensures wanted { IfOk result (λ r. specs.AreWanted (fragment_in_code f.now) (names_read (exprs_lent entries.now)) (names_lent r.names)) }
-    ensures all { IfOk result (λ r. specs.HasAll (names_lent r.names) (specs.wanted_first (fragment_in_code f.now) (names_read (exprs_lent entries.now)))) }
-    ensures following { IfOk result (λ r. specs.HasFollowing (fragment_in_code f.now) (names_lent r.names) (names_lent r.names)) }
-    ensures listed { IfOk result (λ r. IsListed r) }
+    ensures wanted { IfOk result (λ r. specs.AreWanted (fragment_in_code f.now) (names_read (exprs_lent entries.now)) (names_lent r.value.names)) }
+    ensures all { IfOk result (λ r. specs.HasAll (names_lent r.value.names) (specs.wanted_first (fragment_in_code f.now) (names_read (exprs_lent entries.now)))) }
+    ensures following { IfOk result (λ r. specs.HasFollowing (fragment_in_code f.now) (names_lent r.value.names) (names_lent r.value.names)) }
+    ensures listed { IfOk result (λ r. IsListed r.value) }
 {
     let mut list = wanted_first(alloc, f, entries, accumulators, none)?;
-    let setters = setters_of(alloc, f.run)?;
-    put_all_following(f, accumulators, &setters, &mut list)?;
+    let setters = held(alloc, setters_of(alloc, f.run))?;
+    put_all_following(f, accumulators, &setters, &mut *list)?;
     Ok(list)
 }
 

@@ -32,7 +32,7 @@ use kernel_lang::{KFragment, Parts};
 use loop_text::conditions::asked::Asked;
 use loop_text::sites::bindings::declared_name;
 use loop_text::statements::names::sets;
-use qbs_base::{Items, Name, Names, NoMemory, NumberLists, Text};
+use qbs_base::{Items, Name, Names, NoMemory, NumberLists, Text, boxed};
 use sql_ast::{Queries, Query};
 use std::alloc::Global;
 
@@ -248,12 +248,6 @@ fn valid_fragment(parts: Parts) -> KFragment
         Ok(fragment) => fragment,
         Err(_) => unreachable!(),
     }
-}
-
-fn boxed(alloc: Global, lowered: Lowered) -> Result<Box<Lowered>, NoMemory>
-    ensures { IfOk result (λ b. b.value ≡ lowered) }
-{
-    Ok(Box::new(alloc, lowered)?)
 }
 
 /// The lowered fragment with the accumulators of these variables and all flags, and what stands beside it, for a loop

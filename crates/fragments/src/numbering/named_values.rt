@@ -20,7 +20,7 @@ use crate::rules::k7_known::asked_for;
 use java_ast::{Expr, ExprNode, Stmt};
 use loop_text::conditions::operands::{is_literal, is_row_column};
 use loop_text::statements::names::same_name;
-use qbs_base::{Items, Name, NoMemory};
+use qbs_base::{Items, Name, NoMemory, boxed};
 use std::alloc::Global;
 
 /// Entry values, lent.
@@ -42,15 +42,22 @@ fn put_known<'a>(e: &'a Expr, known: &mut NameList<'a>) -> Result<(), NoMemory>
     }
 }
 
-/// The variables of known lists in leaves, each once.
-pub fn known_among<'a>(alloc: Global, leaves: &[Leaf<'a>]) -> Result<NameList<'a>, NoMemory>
-    ensures { IfOk result (λ r. names_lent r.names ≡ specs.known_among [] (map leaf_in_code leaves.now)) }
+// The variables of known lists in leaves, each once, as they were found.
+fn known_found<'a>(alloc: Global, leaves: &[Leaf<'a>]) -> Result<Box<NameList<'a>>, NoMemory>
+    ensures { IfOk result (λ r. names_lent r.value.names ≡ specs.known_among [] (map leaf_in_code leaves.now)) }
 {
-    let mut known = NameList::new(alloc);
+    let mut known = boxed(alloc, NameList::new(alloc))?;
     for leaf in leaves {
-        put_known(leaf.expression, &mut known)?;
+        put_known(leaf.expression, &mut *known)?;
     }
     Ok(known)
+}
+
+/// The variables of known lists in leaves, each once.
+pub fn known_among<'a>(alloc: Global, leaves: &[Leaf<'a>]) -> Result<Items<&'a Name>, NoMemory>
+    ensures { IfOk result (λ r. names_lent r ≡ specs.known_among [] (map leaf_in_code leaves.now)) }
+{
+    Ok(Box::into_inner(known_found(alloc, leaves)?).names)
 }
 
 /// The number of a known list.

@@ -155,7 +155,7 @@ pub fn numbers_of<'a>(
     ensures { IfOk result (AreFewNumbersOf (setting_in_code w.now)) }
 {
     let leaves = all_leaves(alloc, w)?;
-    let known = known_among(alloc, leaves.as_slice())?.names;
+    let known = known_among(alloc, leaves.as_slice())?;
     if known.len() > MOST_KNOWN {
         return Ok(None);
     }

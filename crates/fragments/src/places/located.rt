@@ -18,7 +18,7 @@ use java_types::Scope;
 use loop_text::loops::limits::is_loop;
 use loop_text::statements::block_parts::{before_number, numbered, split_run};
 use loop_text::statements::runs::behind_number;
-use qbs_base::{Names, NoMemory};
+use qbs_base::{Names, NoMemory, boxed};
 use schema::Schema;
 use std::alloc::Global;
 
@@ -108,22 +108,22 @@ fn located_in_method<'a>(
     ensures { IfOk result (
         IsFoundIn (option_copied schema.entry) (scope_of_params (option_copied schema.entry) [] (plain_method m.now).params) path.now number (plain_method m.now).body) }
 {
-    let mut visible = Scope::new(alloc);
-    let mut types = Scope::new(alloc);
-    declare_params(schema, m.params.as_slice(), &mut visible)?;
-    declare_params(schema, m.params.as_slice(), &mut types)?;
+    let mut visible = boxed(alloc, Scope::new(alloc))?;
+    let mut types = boxed(alloc, Scope::new(alloc))?;
+    declare_params(schema, m.params.as_slice(), &mut *visible)?;
+    declare_params(schema, m.params.as_slice(), &mut *types)?;
     match spot_below(
         schema,
         m.body.as_slice(),
         number,
         path,
-        &mut visible,
-        &mut types,
+        &mut *visible,
+        &mut *types,
     )? {
         None => Ok(None),
         Some(spot) => Ok(Some(Located {
-            visible,
-            types,
+            visible: Box::into_inner(visible),
+            types: Box::into_inner(types),
             run: spot.run,
             looped: spot.looped,
             behind: spot.behind,

@@ -12,7 +12,7 @@ use crate::kept::name_list::NameList;
 use crate::places::setting::{Fragment, Setting};
 use loop_text::sites::list::place_where;
 use loop_text::updates::targets::{first_broken_update, first_place, has_idle_flag, is_none};
-use qbs_base::{Items, Name, NoMemory, Span};
+use qbs_base::{Items, Name, NoMemory, Span, boxed};
 use std::alloc::Global;
 
 // Whether a variable is visible before the run, or among those that are mentioned behind the loop.
@@ -34,8 +34,8 @@ pub fn live_among<'a>(
 ) -> Result<Items<&'a Name>, NoMemory>
     ensures { IfOk result (λ r. names_lent r ≡ filter (fragment.is_live (fragment_in_code f.now)) (names_lent names.now)) }
 {
-    let mut mentioned = NameList::new(alloc);
-    put_all_mentioned(f.behind, &mut mentioned)?;
+    let mut mentioned = boxed(alloc, NameList::new(alloc))?;
+    put_all_mentioned(f.behind, &mut *mentioned)?;
     let mut live = Items::new(alloc);
     for x in names {
         if is_live_beside(f, &mentioned, x) {

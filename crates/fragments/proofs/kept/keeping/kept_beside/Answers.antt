@@ -1,9 +1,10 @@
-use Rattle.std.proofs.Common.{◌≡◌}
+use Rattle.std.proofs.Common.{◌≡◌, ◌∙◌, ap}
 use Rattle.std.proofs.lemmas.Result.{IfOk-weaker}
 use Rattle.loop_text.specs.Statements.KeptStatements.{AreKept}
 use Rattle.java_loops.specs.Lowering.Lowered.{names_read}
 use Rattle.loop_text.specs.Sites.Reading.{exprs_lent}
 use Rattle.fragments.specs.Helping.Reading.{fragment_in_code}
+use Rattle.fragments.specs.declared.kept.name_list.NameList.{NameList}
 use Rattle.loop_text.specs.Statements.Seen.{names_lent}
 use Rattle.loop_text.specs.Statements.Wanted.{kept_numbers}
 use Rattle.java_loops.proofs.Kept.KeptNumbers.{are_kept}
@@ -13,7 +14,9 @@ pub returns : goal.returns
 returns c =
     let f = fragment_in_code c.args.f.now in
     let further = names_read (exprs_lent c.args.entries.now) in
-    let wanted = names_lent c.in_ok-wanted.wanted.names in
-    IfOk-weaker c.kept_numbers.result (λ numbers. numbers ≡ kept_numbers f wanted c.args.first f.run) (AreKept f further c.args.first f.run)
-    (λ numbers is. are_kept f further wanted c.args.first numbers c.in_ok-wanted.ensures.wanted c.in_ok-wanted.ensures.all c.in_ok-wanted.ensures.following is)
+    let wanted = names_lent c.in_ok-wanted.wanted.value.names in
+    let lent = names_lent c.deref-3.result.now.names in
+    let same = ap (λ (l : NameList). kept_numbers f (names_lent l.names) c.args.first f.run) c.deref-3.ensures in
+    IfOk-weaker c.kept_numbers.result (λ numbers. numbers ≡ kept_numbers f lent c.args.first f.run) (AreKept f further c.args.first f.run)
+    (λ numbers is. are_kept f further wanted c.args.first numbers c.in_ok-wanted.ensures.wanted c.in_ok-wanted.ensures.all c.in_ok-wanted.ensures.following (is ∙ same))
     c.kept_numbers.ensures

@@ -1,7 +1,9 @@
-use Rattle.std.proofs.Common.{sym, subst}
+use Rattle.std.proofs.Common.{◌∙◌, ap, sym, subst}
 use Rattle.java_loops.specs.Lowering.Lowered.{names_read}
 use Rattle.loop_text.specs.Sites.Reading.{exprs_lent}
+use Rattle.loop_text.specs.Statements.Seen.{names_lent}
 use Rattle.fragments.specs.Helping.Reading.{fragment_in_code}
+use Rattle.fragments.specs.declared.kept.name_list.NameList.{NameList}
 use Rattle.loop_text.specs.Statements.Wanted.{AreWanted}
 use Rattle.java_loops.proofs.Kept.KeptNumbers.{first_are_wanted}
 use Rattle.fragments.proofs.kept.keeping.wanted_of.Goals as goal
@@ -10,4 +12,5 @@ pub returns-clause-wanted : goal.returns-clause-wanted
 returns-clause-wanted c =
     let f = fragment_in_code c.args.f.now in
     let further = names_read (exprs_lent c.args.entries.now) in
-    c.in_ok-put_all_following.ensures.wanted further (subst (AreWanted f further) (sym c.in_ok-list.ensures.names) (first_are_wanted f further))
+    let first = ap (λ (l : NameList). names_lent l.names) c.deref_mut.ensures.value ∙ c.in_ok-list.ensures.names in
+    c.in_ok-put_all_following.ensures.wanted further (subst (AreWanted f further) (sym first) (first_are_wanted f further))

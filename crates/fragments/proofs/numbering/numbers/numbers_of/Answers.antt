@@ -10,10 +10,10 @@ use Rattle.fragments.proofs.numbering.numbers.numbers_of.Goals as goal
 
 pub returns-then-len-gt-MOST_KNOWN : goal.returns-then-len-gt-MOST_KNOWN
 returns-then-len-gt-MOST_KNOWN c =
-    let known : names_lent c.in_ok-known.field-0.names ≡ known_of (setting_in_code c.args.w.now) =
+    let known : names_lent c.in_ok-known.known ≡ known_of (setting_in_code c.args.w.now) =
     c.in_ok-known.ensures
     ∙ ap (λ (ls : List code.Leaf). known_among [] (map leaf_in_code ls)) c.as_slice.ensures
     ∙ ap (λ (ls : List Leaf). known_among [] ls) c.in_ok-leaves.ensures in
     let few : length (known_of (setting_in_code c.args.w.now)) ≤ length (numbers_of (setting_in_code c.args.w.now)).atoms = known_few (setting_in_code c.args.w.now) in
-    let same : length (names_lent c.in_ok-known.field-0.names) ≡ length (known_of (setting_in_code c.args.w.now)) = ap length known in
-    λ _. omega (arith, length-map c.in_ok-known.field-0.names (λ x. x.now))
+    let same : length (names_lent c.in_ok-known.known) ≡ length (known_of (setting_in_code c.args.w.now)) = ap length known in
+    λ _. omega (arith, length-map c.in_ok-known.known (λ x. x.now))
