@@ -1,5 +1,5 @@
 // The statements that ask for the needed accumulators of a loop.
-ghost use Rattle.std.specs.Prelude.{◌≡◌, true, IfOk, IfSome, OnOk, Some, map, option_copied, slice_get};
+ghost use Rattle.std.specs.Prelude.{◌≡◌, true, IfOk, IfSome, Ok, OnOk, Some, map, option_copied, slice_get};
 ghost use Rattle.std.specs.Option.{option_map};
 ghost use Rattle.java_ast.specs.Path.{and_then};
 ghost use Rattle.java_ast.specs.Reading.{spelled, expression, statement, statements};
@@ -23,7 +23,7 @@ use crate::values::{arguments_of, element_asked, value_with};
 use java_ast::{Expr, JTy, Stmt, StmtNode};
 use kernel_lang::{Acc, KFragment, Update};
 use loop_text::statements::runs::first_touching;
-use qbs_base::{Name, NoMemory, Span, Text};
+use qbs_base::{Name, NoMemory, Span, Text, held};
 use sql_ast::{Query, print_query};
 use sql_emit::{Emitted, emit};
 use std::alloc::Global;
@@ -119,10 +119,10 @@ fn value_for(
         l.lowered.entries.as_slice(),
         e.entries.as_slice(),
     )?;
-    Ok(Box::new(
+    held(
         alloc,
-        value_with(alloc, l.at, update, element, text, arguments)?,
-    )?)
+        value_with(alloc, l.at, update, element, text, arguments),
+    )
 }
 
 // The statement that asks for a variable, by its update and what is emitted for it.
@@ -160,16 +160,18 @@ fn emitted(alloc: Global, l: Looped, k: u32) -> Result<Box<Emitted>, NoMemory>
     ensures exact { IfOk result (λ e. Some (emission_of e.value) ≡ specs.emitted_in (looped_in_code l.entry) k) }
     ensures grammar { IfOk result (λ e. IsQueryOf l.entry.schema.now (plain_query e.value.query)) }
 {
-    let e = emit(
+    held(
         alloc,
-        l.schema,
-        &l.lowered.frag,
-        l.candidate,
-        k,
-        &l.lowered.known,
-        &l.lowered.known_args,
-    )?;
-    Ok(Box::new(alloc, e)?)
+        emit(
+            alloc,
+            l.schema,
+            &l.lowered.frag,
+            l.candidate,
+            k,
+            &l.lowered.known,
+            &l.lowered.known_args,
+        ),
+    )
 }
 
 // Adds the statement for a variable whose accumulator has this number, where that stands outside all loops.
