@@ -1,12 +1,7 @@
 // Terms, formulas and lists in boxes.
-use qbs_base::{Items, NoMemory};
+use qbs_base::{Items, NoMemory, boxed};
 use std::alloc::Global;
 use tor_terms::{Formula, Loops};
-
-/// A value in a box of its own.
-pub fn boxed<T: Drop>(alloc: Global, value: T) -> Result<Box<T>, NoMemory> {
-    Ok(Box::new(alloc, value)?)
-}
 
 pub fn numbers(alloc: Global, list: &[u32]) -> Result<Loops, NoMemory> {
     Ok(Items::from_vec(list.to_vec(alloc)?))

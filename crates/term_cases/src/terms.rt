@@ -4,8 +4,8 @@
 // Next(1); `E`, `Y`, `X`, `O`, `B`, `F` Sel with no formula, with atom 0, with its negation, with atom 1, with both, with
 // a nest of three; `P` Proj of column 1, `T` Proj of the whole row, `U` Uniq, `I` Insert of column 1, `V` Insert of the
 // whole row, `K` Count, `S` Sum, `a` Any; `C` Cat, `J` Join, `+` Add, `|` Or, `b` and `l` Best by Max and Min, `k` Pick.
-use crate::made::{boxed, either, is, numbers};
-use qbs_base::{Items, NoMemory, Scalar};
+use crate::made::{either, is, numbers};
+use qbs_base::{Items, NoMemory, Scalar, boxed};
 use std::alloc::Global;
 use tor_terms::{Elem, Formula, Formulas, Index, Term, Way};
 

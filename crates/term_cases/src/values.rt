@@ -1,7 +1,6 @@
 // The value of a sum.
-use crate::made::boxed;
 use crate::words::whole_at;
-use qbs_base::{Items, NoMemory, Scalar, Value};
+use qbs_base::{Items, NoMemory, Scalar, Value, boxed};
 use std::alloc::Global;
 use tor_terms::{Env, Term, eval};
 

@@ -1,5 +1,5 @@
 // What was read, held on the heap. A tree that a function owns is walked at each of its ways out, and a box isn't.
-use qbs_base::{Fail, NoMemory};
+use qbs_base::Fail;
 use std::alloc::Global;
 
 /// What was read, in a box, or why nothing was.
@@ -7,13 +7,5 @@ pub fn boxed<T: Drop, F>(alloc: Global, read: Result<T, Fail<F>>) -> Result<Box<
     match read {
         Ok(value) => Ok(Box::new(alloc, value)?),
         Err(fail) => Err(fail),
-    }
-}
-
-/// What was made, in a box.
-pub fn kept<T: Drop>(alloc: Global, made: Result<T, NoMemory>) -> Result<Box<T>, NoMemory> {
-    match made {
-        Ok(value) => Ok(Box::new(alloc, value)?),
-        Err(NoMemory) => Err(NoMemory),
     }
 }

@@ -1,5 +1,5 @@
 // Programs that are copied, or of which statements are replaced, and conditions with another place.
-use crate::boxes::{boxed, kept};
+use crate::boxes::boxed;
 use crate::parts::put_refusal;
 use crate::places::put_span;
 use crate::programs::put_program;
@@ -11,7 +11,7 @@ use java_ast::{
 };
 use java_lex::{Tokens, lex};
 use java_parser::parse;
-use qbs_base::{Fail, NoMemory, Span};
+use qbs_base::{Fail, NoMemory, Span, held};
 use std::alloc::Global;
 
 const NOWHERE: Span = Span {
@@ -45,7 +45,7 @@ fn put_made(
     alloc: Global,
     made: Result<Program, NoMemory>,
 ) -> Result<(), NoMemory> {
-    let program = kept(alloc, made)?;
+    let program = held(alloc, made)?;
     put_program(out, alloc, &program, false)
 }
 
@@ -84,7 +84,7 @@ fn put_in_place(
     program: &Program,
     path: &Path,
 ) -> Result<(), NoMemory> {
-    let copy = kept(alloc, copy_program(alloc, program))?;
+    let copy = held(alloc, copy_program(alloc, program))?;
     put_put(out, alloc, copy, path, one_break(alloc)?.into_vec())
 }
 
@@ -102,7 +102,7 @@ fn put_spans(out: &mut String, e: &Expr) -> Result<(), NoMemory> {
 }
 
 fn put_copy(out: &mut String, alloc: Global, cond: &Expr) -> Result<(), NoMemory> {
-    let copy = kept(alloc, copy_placed(alloc, NOWHERE, cond))?;
+    let copy = held(alloc, copy_placed(alloc, NOWHERE, cond))?;
     put_spans(out, &copy)
 }
 

@@ -22,7 +22,7 @@ mod tokens;
 mod values;
 
 use crate::escapes::bytes_of;
-use qbs_base::NoMemory;
+use qbs_base::{NoMemory, boxed};
 use std::alloc::Global;
 
 // What is said of sources and of what is changed in them.
@@ -73,7 +73,7 @@ fn put_answer(
 
 // The line of a case: its kind and its fields, with tabs between them.
 fn put_case(out: &mut String, alloc: Global, line: &str) -> Result<(), NoMemory> {
-    let mut fields = Vec::new(alloc);
+    let mut fields = boxed(alloc, Vec::new(alloc))?;
     for field in line.split('\t').skip(1) {
         fields.push(bytes_of(alloc, field)?)?;
     }

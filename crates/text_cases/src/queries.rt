@@ -4,6 +4,7 @@ ghost use Rattle.sql_ast.specs.Reading.{query};
 ghost use Rattle.sql_exec.specs.Answered.{IsAnswerable};
 
 use crate::answers::put_answer;
+use crate::boxes::boxed;
 use crate::escapes::put_line;
 use crate::joins::put_joined;
 use crate::places::text_of;
@@ -85,7 +86,7 @@ pub fn put_found(
         "joined" => JOINED,
         _ => TABLES,
     };
-    let Ok(schema) = parse_schema(alloc, tables.as_bytes()) else {
+    let Ok(schema) = boxed(alloc, parse_schema(alloc, tables.as_bytes())) else {
         return Err(NoMemory);
     };
     let text = text_of(alloc, text)?;
