@@ -8,7 +8,7 @@ ghost use Rattle.loop_text.specs.Statements.Fragment as fragment;
 ghost use Rattle.fragments.specs.Helping.Locating.{fragment_located};
 ghost use Rattle.fragments.specs.Lowers.{lowering_in_code};
 ghost use Rattle.fragments.specs.Helping.Reading.{fragment_in_code, setting_in_code};
-ghost use Rattle.loop_text.specs.Statements.Seen.{names_lent};
+ghost use Rattle.java_ast.specs.Names.{names_lent};
 ghost use Rattle.loop_text.specs.Sites.Reading.{site_of};
 ghost use Rattle.java_loops.specs.Kernel.Setting.{setting_of};
 ghost use Rattle.loop_text.specs.Sites.Sites as specs;

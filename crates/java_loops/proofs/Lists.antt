@@ -1,5 +1,4 @@
 pub mod Following
 pub mod Grouped
 pub mod Lent
-pub mod Sets
 pub mod UpTo

@@ -2,6 +2,5 @@ pub mod Collected
 pub mod Lowered
 pub mod Numbering
 pub mod Placing
-pub mod Seen
 pub mod Spelling
 pub mod UpTo

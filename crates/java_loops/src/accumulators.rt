@@ -9,11 +9,10 @@ ghost use Rattle.java_ast.specs.Tree.{Expression, PlainProgram};
 ghost use Rattle.java_mean.specs.Numbers.{NumbersFit};
 ghost use Rattle.java_mean.specs.Types.{type_spelled};
 ghost use Rattle.java_mean.specs.WellTyped.{IsWellTyped};
-ghost use Rattle.loop_text.specs.Statements.Names.{is_among};
+ghost use Rattle.java_ast.specs.Names.{is_among, names_read};
 ghost use Rattle.java_loops.specs.Kernel.Kernel.{broken, setting_at};
 ghost use Rattle.java_loops.specs.Kernel.Setting.{Setting};
 ghost use Rattle.java_loops.specs.Lowering.Collected.{AreForNeeded};
-ghost use Rattle.java_loops.specs.Lowering.Lowered.{names_read};
 ghost use Rattle.java_loops.specs.Lowering.Spelling.{spelled_at};
 ghost use Rattle.java_loops.specs.Walks.Reads.{Reads};
 

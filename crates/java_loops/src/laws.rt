@@ -13,7 +13,7 @@ ghost use Rattle.kernel_lang.specs.Fitting.{PartsFit};
 ghost use Rattle.kernel_lang.specs.Plain as kernel;
 ghost use Rattle.kernel_lang.specs.Running.{fragment_end};
 ghost use Rattle.java_loops.specs.Meant.Members.{HaveSameMembers, SameButForOrder};
-ghost use Rattle.loop_text.specs.Statements.Names.{Names};
+ghost use Rattle.java_ast.specs.Names.{Names};
 ghost use Rattle.loop_text.specs.Statements.Fragment.{Fragment, IsWanted, IsClosed, drops, live_or, are_simple, before_run, run_of, fragment_at};
 ghost use Rattle.loop_text.specs.Statements.KeptStatements.{first_at};
 ghost use Rattle.loop_text.specs.Statements.Loops.{loops_of};

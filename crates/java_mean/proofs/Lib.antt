@@ -18,7 +18,9 @@ pub mod Puts
 pub mod Reached
 pub mod Replaced
 pub mod Replacing
+pub mod Scoped
 pub mod Selected
+pub mod Sets
 pub mod Shown
 pub mod Simulates
 pub mod TextReader

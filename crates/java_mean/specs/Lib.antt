@@ -6,6 +6,7 @@ pub mod Expression
 pub mod FirstForm
 pub mod Fits
 pub mod Keeps
+pub mod Least
 pub mod Mentions
 pub mod Numbers
 pub mod Outcome

@@ -1,13 +1,17 @@
 -- The visible variables, in the order of their declarations, each with its type where that is known.
-use Rattle.std.specs.Prelude.{ℕ, Bool, true, false, List, [], ◌∷◌, ◌++◌, bytes_eq, if◌then◌else◌}
+use Rattle.std.specs.Prelude.{ℕ, Bool, true, false, List, [], ◌∷◌, ◌++◌, bytes_eq, if◌then◌else◌, map}
 use Rattle.std.specs.declared.option.Option.{Option}
 use Rattle.std.specs.declared.option.Option.TheVariants.{None}
 use Rattle.qbs_base.specs.Values.{Schema}
+use Rattle.java_ast.specs.Names.{Names}
 use Rattle.java_ast.specs.Tree.{Statement, Declare, PlainParam}
 use Rattle.java_mean.specs.Types.{JavaType, type_spelled}
 
 abbrev pub Visible : Type 0
 Visible = List (List ℕ × Option JavaType)
+
+abbrev pub names_seen : Visible → Names
+names_seen vs = map (λ v. v.0) vs
 
 abbrev pub is_visible : Visible → List ℕ → Bool
 is_visible [] x = false

@@ -11,7 +11,7 @@ use Rattle.java_stretches.proofs.Blocks.{down}
 use Rattle.loop_text.specs.Statements.Fragment.{Fragment, is_simple, are_simple, run_of, before_run, fragment_of, fragment_where, fragment_here, fragment_in, fragment_at}
 use Rattle.loop_text.specs.Statements.KeptStatements.{how_many, first_in, first_at}
 use Rattle.loop_text.specs.Statements.Loops.{is_loop}
-use Rattle.loop_text.specs.Statements.Names.{Names, with_names, declared_among, walking, names_of_params}
+use Rattle.java_ast.specs.Names.{Names, with_names, declared_among, walking, names_of_params}
 use Rattle.java_stretches.specs.Fit.{FitStatement, alone, if_alone, if_else, for_each, while, FitBlock, nothing, followed, FitMethods}
 use Rattle.java_stretches.specs.Focus.{Chain, Focus}
 use Rattle.java_stretches.proofs.Fitting.{wider, loosened, joined, Numbered, at_number, Branch, at_branch, branch_place, branch_simple}

@@ -10,7 +10,7 @@ use Rattle.loop_text.specs.Sites.Sites.{has_number}
 use Rattle.loop_text.specs.Statements.Fragment.{Fragment, is_simple, are_simple, run_of, before_run, fragment_of, fragment_where, fragment_here, fragment_in, fragment_at}
 use Rattle.loop_text.specs.Statements.KeptStatements.{how_many, first_in, first_at, with_numbers}
 use Rattle.loop_text.specs.Statements.Loops.{is_loop}
-use Rattle.loop_text.specs.Statements.Names.{Names, with_names, declared_among, walking, names_of_params}
+use Rattle.java_ast.specs.Names.{Names, with_names, declared_among, walking, names_of_params}
 use Rattle.java_stretches.specs.Focus.{Chain}
 
 -- ---- Where a run begins

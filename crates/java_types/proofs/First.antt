@@ -5,7 +5,7 @@ use Rattle.std.proofs.lemmas.Bool.Decides.{nat_tests}
 use Rattle.java_mean.specs.declared.rule.TypeFault.{TypeFault}
 use Rattle.java_mean.specs.RuleNames.{rule_number}
 use Rattle.java_mean.specs.WellTyped.{is_before, Has, IsLeast, NoneBefore}
-use Rattle.java_types.specs.Least.{least}
+use Rattle.java_mean.specs.Least.{least}
 
 abbrev lex : ℕ → ℕ → ℕ → ℕ → Bool
 lex a r b s = if nat_lt a b then true else (nat_eq a b && nat_lt r s)

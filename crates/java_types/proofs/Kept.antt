@@ -9,7 +9,7 @@ use Rattle.java_mean.specs.declared.rule.TypeFault.{TypeFault}
 use Rattle.java_mean.specs.declared.rule.TypeRule.{TypeRule}
 use Rattle.java_mean.specs.Places.{Place}
 use Rattle.java_mean.specs.WellTyped.{marked, faults_at, faults_in}
-use Rattle.java_types.specs.Least.{lesser, least}
+use Rattle.java_mean.specs.Least.{lesser, least}
 
 pub least-append : (k : Option TypeFault) (fs gs : List TypeFault) → least k (fs ++ gs) ≡ least (least k fs) gs
 least-append k [] gs = refl

@@ -9,4 +9,3 @@ pub mod Lent
 pub mod Nodes
 pub mod Noted
 pub mod Passed
-pub mod Scoped

@@ -21,7 +21,7 @@ use Rattle.java_mean.specs.Rules.{type_of, at_of, only_if, is_none, of_bool, unl
 use Rattle.java_mean.specs.Places.{Around, step}
 use Rattle.java_mean.specs.Visible.{Visible, is_visible, type_at}
 use Rattle.java_mean.specs.WellTyped.{marked, faults_at}
-use Rattle.java_types.specs.Least.{least}
+use Rattle.java_mean.specs.Least.{least}
 use Rattle.java_types.proofs.Kept.{least-append, marked-append}
 
 -- one rule after others

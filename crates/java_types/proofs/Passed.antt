@@ -34,7 +34,7 @@ use Rattle.java_mean.specs.Rules.{type_of, at_of, only_if, is_none, unless, unle
 use Rattle.java_mean.specs.Places.{Around, around, Place, value, step, param, whole, in_branch, in_while, in_operands, in_expression, in_expressions, in_statement, in_statements, in_parts, in_params, in_method, is_nothing, walking}
 use Rattle.java_mean.specs.Visible.{Visible, is_visible, type_at, declared_in, after, with_params}
 use Rattle.java_mean.specs.WellTyped.{marked, faults_at, faults_in, faults_in_methods}
-use Rattle.java_types.specs.Least.{least}
+use Rattle.java_mean.specs.Least.{least}
 use Rattle.java_types.proofs.Kept.{least-append, marked-append, faults_in-append}
 
 two : (k0 k1 k2 : Option TypeFault) (A B : List TypeFault) → k1 ≡ least k0 A → k2 ≡ least k1 B → k2 ≡ least k0 (A ++ B)

@@ -4,14 +4,14 @@ ghost use Rattle.java_ast.specs.Reading as reading;
 ghost use Rattle.java_ast.specs.Reading.{program, method as plain_method};
 ghost use Rattle.java_mean.specs.Numbers.{NumbersFit};
 ghost use Rattle.java_mean.specs.WellTyped.{all_faults, faults_in_methods, IsWellTyped};
-ghost use Rattle.java_types.specs.Least.{least, IsRight, IsKept};
+ghost use Rattle.java_mean.specs.Least.{least, IsRight, IsKept};
 ghost use Rattle.java_types.specs.Texts.{read_by};
 
 use crate::numbers::read_literals;
-use crate::scope::Scope;
 use crate::walk::walk_method;
-use java_ast::{Method, Program, copy_program};
-use java_mean::TypeFault;
+use java_ast::{Method, Program};
+use java_copies::copy_program;
+use java_mean::{Scope, TypeFault};
 use qbs_base::{Fail, NoMemory, boxed};
 use schema::Schema;
 use std::alloc::Global;

@@ -2,11 +2,9 @@
 #![tactic(auto)]
 
 mod checking;
-mod keeping;
 pub mod laws;
 mod numbers;
 mod queries;
-mod scope;
 mod steps;
 mod types;
 mod values;
@@ -19,5 +17,4 @@ pub use checking::{Typed, check};
 pub use java_mean::{TypeFault, TypeRule};
 pub use numbers::read_literals;
 pub use queries::{query_of, read_query};
-pub use scope::Scope;
 pub use types::type_spelled;

@@ -14,7 +14,7 @@ use java_ast::Expr;
 use java_mean::Single;
 use qbs_base::{Column, Fail, NoMemory, Text, Ty};
 use schema::Schema;
-use sql_ast::{FromItem, ListQuery, Query, SqlCol, SqlColumn, SqlItem, order_complete};
+use sql_ast::{FromItem, ListQuery, Query, SqlCol, SqlColumn, SqlItem};
 use sql_parse::parse_query;
 use std::alloc::Global;
 
@@ -138,16 +138,6 @@ pub fn is_truth(q: Option<&Query>) -> bool
     match q {
         Some(Query::Truth(_)) => true,
         _ => false,
-    }
-}
-
-/// Whether a query for a list, where it is one, has a complete order.
-pub fn has_order(q: Option<&Query>) -> bool
-    ensures { result ≡ rules.has_order (option_map query (option_copied q.entry)) }
-{
-    match q {
-        None => true,
-        Some(q) => order_complete(q),
     }
 }
 

@@ -6,11 +6,9 @@ ghost use Rattle.java_mean.specs.Places.{around, step, param, whole};
 ghost use Rattle.java_mean.specs.Rules as rules;
 ghost use Rattle.java_mean.specs.WellTyped.{faults_at, marked};
 ghost use Rattle.java_mean.specs.declared.rule.TypeRule.TheVariants as broken;
-ghost use Rattle.java_types.specs.Least.{least};
+ghost use Rattle.java_mean.specs.Least.{least};
 ghost use Rattle.java_types.specs.Texts.{read_by};
 
-use crate::keeping::note_if;
-use crate::scope::Scope;
 use crate::types::type_spelled;
 use crate::values::{of_bool, place_of, type_of};
 use crate::walked::Walked;
@@ -19,7 +17,7 @@ use crate::words::{
     unless_many, unless_scalar, unless_single, unless_walked, walked_element,
 };
 use java_ast::{Expr, ExprNode, JTy, Method, Param, Stmt, StmtNode};
-use java_mean::{JavaType, Single, TypeFault, TypeRule};
+use java_mean::{JavaType, Scope, Single, TypeFault, TypeRule, note_if};
 use qbs_base::{Name, Span};
 use schema::Schema;
 

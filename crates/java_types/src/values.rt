@@ -8,19 +8,17 @@ ghost use Rattle.java_mean.specs.Places.{value};
 ghost use Rattle.java_mean.specs.Rules as rules;
 ghost use Rattle.java_mean.specs.WellTyped.{faults_at, marked};
 ghost use Rattle.java_mean.specs.declared.rule.TypeRule.TheVariants as broken;
-ghost use Rattle.java_types.specs.Least.{least};
+ghost use Rattle.java_mean.specs.Least.{least};
 ghost use Rattle.java_types.specs.Texts.{read_by};
 
-use crate::keeping::note_if;
-use crate::queries::{fits_query, has_order, is_number, is_truth, lists, params_of, query_of};
-use crate::scope::Scope;
+use crate::queries::{fits_query, is_number, is_truth, lists, params_of, query_of};
 use crate::types::{column_in, single_spelled};
 use crate::words::{
     listed_in, note_column, scalar_ty, scalars_of, set_of, unless, unless_alike, unless_listed,
     unless_many, unless_scalar, unless_scalars, unless_set, unless_single,
 };
 use java_ast::{Expr, ExprNode, JTy, Op};
-use java_mean::{JavaType, Kindred, Single, TypeFault, TypeRule};
+use java_mean::{JavaType, Kindred, Scope, Single, TypeFault, TypeRule, has_order, note_if};
 use qbs_base::{NoMemory, Scalar, Span, Text, Ty};
 use schema::Schema;
 use sql_ast::Query;

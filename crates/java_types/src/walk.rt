@@ -7,16 +7,15 @@ ghost use Rattle.java_mean.specs.Places.{around, in_expression, in_expressions, 
 ghost use Rattle.java_mean.specs.Rules as rules;
 ghost use Rattle.java_mean.specs.Visible.{after, declared_in, with_params};
 ghost use Rattle.java_mean.specs.WellTyped.{faults_in};
-ghost use Rattle.java_types.specs.Least.{least};
+ghost use Rattle.java_mean.specs.Least.{least};
 ghost use Rattle.java_types.specs.Texts.{read_by};
 
-use crate::scope::Scope;
 use crate::steps::{at_method, at_param, at_step};
 use crate::types::type_spelled;
 use crate::values::at_value;
 use crate::walked::Walked;
 use java_ast::{Expr, ExprNode, JTy, Method, Param, Stmt, StmtNode};
-use java_mean::TypeFault;
+use java_mean::{Scope, TypeFault};
 use qbs_base::{NoMemory, Span, boxed};
 use schema::Schema;
 use std::alloc::Global;

@@ -6,11 +6,10 @@ ghost use Rattle.java_mean.specs.declared.types.Kindred.{Kindred};
 ghost use Rattle.java_mean.specs.Rules as rules;
 ghost use Rattle.java_mean.specs.WellTyped.{marked};
 ghost use Rattle.java_mean.specs.declared.rule.TypeRule.TheVariants as broken;
-ghost use Rattle.java_types.specs.Least.{least};
+ghost use Rattle.java_mean.specs.Least.{least};
 
-use crate::keeping::note_if;
 use crate::types::{column_in, may_be, same_type};
-use java_mean::{JavaType, Kindred, Single, TypeFault, TypeRule};
+use java_mean::{JavaType, Kindred, Single, TypeFault, TypeRule, note_if};
 use qbs_base::{Name, Span, Ty, same_ty};
 use schema::Schema;
 

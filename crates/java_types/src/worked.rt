@@ -3,7 +3,7 @@ ghost use Rattle.std.specs.Prelude.{◌≡◌, [], ◌∷◌, Some, None};
 ghost use Rattle.java_mean.specs.Numbers.{NumbersFit};
 ghost use Rattle.java_mean.specs.declared.rule.TypeRule.TheVariants as rules;
 ghost use Rattle.java_types.specs.Broken.{breaks, faults_of, right, past_its_block, less_than_true, one_and_true, row_printed, declared_again, named_again, text_by_identity, list_of_another, added_while_walked, list_for_a_number, without_order, returned_early, nothing_returned, argument_too_many, break_alone, break_in_the_middle};
-ghost use Rattle.java_types.specs.Least.{least};
+ghost use Rattle.java_mean.specs.Least.{least};
 
 /// Each rule at its place, and no fault in a program that is right.
 pub fn rules_are_broken_at_their_places()

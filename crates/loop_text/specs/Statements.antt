@@ -1,8 +1,6 @@
 pub mod Fragment
 pub mod KeptStatements
 pub mod Loops
-pub mod Names
-pub mod Seen
 pub mod Setting
 pub mod Updated
 pub mod Walking

@@ -17,7 +17,7 @@ use Rattle.java_parser.specs.declared.fault.ParseFault.{ParseFault}
 use Rattle.java_grammar.specs.Grammar.{HasProgram, IsReadable}
 use Rattle.java_parser.specs.Kept.{IsKept}
 use Rattle.java_parser.specs.Parsed.{parsed}
-use Rattle.java_types.specs.Least.{least as kept_of}
+use Rattle.java_mean.specs.Least.{least as kept_of}
 use Rattle.java_types.specs.Texts.{read_by}
 use Rattle.schema.specs.declared.fault.SchemaFault.{SchemaFault}
 use Rattle.schema.specs.Schemas.{schema_of}

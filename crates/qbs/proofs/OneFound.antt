@@ -21,7 +21,7 @@ use Rattle.java_mean.specs.WellTyped.{all_faults}
 use Rattle.java_parser.specs.declared.fault.ParseFault.{ParseFault}
 use Rattle.java_parser.specs.Parsed.{parsed}
 use Rattle.java_parser.proofs.ParsedLaws.{program_is_parsed}
-use Rattle.java_types.specs.Least.{least as kept_of}
+use Rattle.java_mean.specs.Least.{least as kept_of}
 use Rattle.java_types.specs.Texts.{read_by}
 use Rattle.java_types.proofs.Found.{found_exactly}
 use Rattle.schema.specs.Schemas.{schema_of}

@@ -29,7 +29,7 @@ use Rattle.java_mean.specs.Statement.{State}
 use Rattle.java_mean.specs.Typing.{IsWorld}
 use Rattle.java_mean.specs.World.{World}
 use Rattle.loop_text.specs.Sites.Sites.{place_of}
-use Rattle.loop_text.specs.Statements.Names.{Names}
+use Rattle.java_ast.specs.Names.{Names}
 use Rattle.java_loops.specs.Kernel.Kernel.{lowering}
 use Rattle.java_loops.specs.Kernel.Setting.{Setting}
 use Rattle.java_loops.specs.Lowering.Lowered.{needed_in_order}

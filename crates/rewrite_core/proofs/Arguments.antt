@@ -15,8 +15,7 @@ use Rattle.java_mean.specs.Expression.{value_of, scalars_of, as_scalar}
 use Rattle.java_mean.specs.Store.{Store}
 use Rattle.java_mean.specs.World.{World}
 use Rattle.java_mean.proofs.Placing.{value_kept}
-use Rattle.loop_text.specs.Statements.Names.{is_among, names_in}
-use Rattle.java_loops.specs.Lowering.Lowered.{names_read}
+use Rattle.java_ast.specs.Names.{is_among, names_in, names_read}
 use Rattle.java_loops.specs.Meant.Means.{AreMatched, HasScalar}
 use Rattle.java_loops.specs.Walks.Reads.{Set, Reads, AllRead}
 use Rattle.java_loops.proofs.Walks.Named.{reads_named}

@@ -13,10 +13,9 @@ use Rattle.sql_parts.specs.Numbered.{Emission, in_order, emission}
 use Rattle.sql_parts.specs.Scopes.{ground}
 use Rattle.java_ast.specs.Tree.{Spelled, Expressions}
 use Rattle.loop_text.specs.Sites.Sites.{place_of}
-use Rattle.loop_text.specs.Statements.Names.{Names, is_among}
+use Rattle.java_ast.specs.Names.{Names, is_among, names_read}
 use Rattle.java_loops.specs.Kernel.Kernel.{lowering}
 use Rattle.java_loops.specs.Kernel.Setting.{Setting}
-use Rattle.java_loops.specs.Lowering.Lowered.{names_read}
 use Rattle.java_loops.specs.Meant.Asking.{IsForStarted}
 use Rattle.java_loops.specs.Meant.Members.{AreMatched}
 use Rattle.java_loops.specs.Walks.Reads.{Set, Reads, AllRead}

@@ -16,7 +16,7 @@ use Rattle.java_mean.specs.Visible.{Visible, is_visible, declared_in, after}
 use Rattle.java_mean.specs.WellTyped.{faults_at, faults_in}
 use Rattle.java_mean.proofs.Faultless.{none_both, none_in, fine, only_none, neither, new_visible}
 use Rattle.java_mean.proofs.Puts.{name_same}
-use Rattle.loop_text.specs.Statements.Names.{Names, is_among, names_in, names_among, names_of_returned, mentioned_in, mentioned_among}
+use Rattle.java_ast.specs.Names.{Names, is_among, names_in, names_among, names_of_returned, mentioned_in, mentioned_among}
 use Rattle.java_loops.proofs.Nested.NestNames.{among_left, among_right}
 
 -- ---- Mentioned names

@@ -17,7 +17,7 @@ use Rattle.loop_text.specs.Statements.Loops.{loops_of}
 use Rattle.java_loops.specs.Kernel.Kernel as kernel
 use Rattle.java_loops.specs.Kernel.Kernel.{broken, lowering}
 use Rattle.java_loops.specs.Kernel.Setting.{Setting, setting_of}
-use Rattle.java_loops.specs.Lowering.Lowered.{names_read}
+use Rattle.java_ast.specs.Names.{names_read}
 use Rattle.java_loops.specs.Meant.Asking.{rewritten_at}
 use Rattle.java_loops.specs.Meant.KeptNumbers.{kept_set, kept_numbers}
 use Rattle.java_loops.specs.Walks.Replacing.{Ask, replacement, run_and_loop}

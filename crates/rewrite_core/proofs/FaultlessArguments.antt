@@ -25,9 +25,9 @@ use Rattle.java_mean.specs.Visible.{Visible, is_visible, type_at}
 use Rattle.java_mean.specs.WellTyped.{marked, faults_in}
 use Rattle.java_mean.proofs.Puts.{name_same}
 use Rattle.java_types.proofs.Kept.{faults_in-append}
-use Rattle.loop_text.specs.Statements.Names.{is_among, names_in}
+use Rattle.java_ast.specs.Names.{is_among, names_in, names_read}
 use Rattle.java_loops.specs.Kernel.Setting.{Setting}
-use Rattle.java_loops.specs.Lowering.Lowered.{type_of_column, column_type, type_of_scalar, type_of_entry, names_read}
+use Rattle.java_loops.specs.Lowering.Lowered.{type_of_column, column_type, type_of_scalar, type_of_entry}
 use Rattle.java_loops.specs.Lowering.Numbering.{found_number}
 use Rattle.java_loops.proofs.Known.KnownEntries.{IsColumn, FieldKnown}
 use Rattle.java_loops.proofs.Known.KnownNumbers.{IsGoodEntry}

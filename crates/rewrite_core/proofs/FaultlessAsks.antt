@@ -42,7 +42,7 @@ use Rattle.java_mean.specs.Types.{single_spelled, type_spelled}
 use Rattle.java_mean.specs.Visible.{Visible}
 use Rattle.java_mean.specs.WellTyped.{faults_in}
 use Rattle.loop_text.specs.Sites.Sites.{place_of}
-use Rattle.loop_text.specs.Statements.Names.{Names}
+use Rattle.java_ast.specs.Names.{Names}
 use Rattle.java_loops.specs.Kernel.Kernel.{lowering}
 use Rattle.java_loops.specs.Kernel.Setting.{Setting, setting_of}
 use Rattle.java_loops.specs.Lowering.Collected.{row_of_list, scalar_in_column, element_type, collected_type}

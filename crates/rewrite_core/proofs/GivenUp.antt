@@ -20,10 +20,10 @@ use Rattle.java_mean.specs.Types.{Types}
 use Rattle.java_mean.specs.WellTyped.{IsWellTyped}
 use Rattle.loop_text.specs.Statements.Fragment.{Fragment, fragment_at}
 use Rattle.loop_text.specs.Statements.KeptStatements.{AreKept, first_at, with_numbers}
-use Rattle.loop_text.specs.Statements.Names.{Names}
+use Rattle.java_ast.specs.Names.{Names, names_read}
 use Rattle.java_loops.specs.Kernel.Kernel.{broken, lowering, types_at, setting_there, setting_at}
 use Rattle.java_loops.specs.Kernel.Setting.{Setting, setting_of}
-use Rattle.java_loops.specs.Lowering.Lowered.{Lowering, names_read}
+use Rattle.java_loops.specs.Lowering.Lowered.{Lowering}
 use Rattle.java_loops.specs.Meant.KeptNumbers.{kept_numbers}
 use Rattle.java_loops.specs.Meant.LoopStands.{LoopStands}
 use Rattle.java_loops.specs.Meant.Lowers.{IsLowered}

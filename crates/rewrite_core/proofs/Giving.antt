@@ -11,7 +11,7 @@ use Rattle.sql_parts.specs.Numbered.{Emission}
 use Rattle.java_ast.specs.Path.{and_then}
 use Rattle.java_ast.specs.Tree.{Spelled, Expressions, Statements, Nothing, Then}
 use Rattle.loop_text.specs.Sites.Sites.{place_of}
-use Rattle.loop_text.specs.Statements.Names.{Names}
+use Rattle.java_ast.specs.Names.{Names}
 use Rattle.java_loops.specs.Kernel.Kernel.{lowering}
 use Rattle.java_loops.specs.Kernel.Setting.{Setting}
 use Rattle.java_loops.specs.Lowering.Collected.{IsForNeeded, AreForNeeded}

@@ -8,7 +8,7 @@ use Rattle.java_mean.specs.Queries.{Reader}
 use Rattle.java_mean.specs.WellTyped.{IsWellTyped}
 use Rattle.loop_text.specs.Statements.KeptStatements.{first_at}
 use Rattle.java_loops.specs.Kernel.Kernel.{lowering}
-use Rattle.java_loops.specs.Lowering.Lowered.{names_read}
+use Rattle.java_ast.specs.Names.{names_read}
 use Rattle.java_loops.specs.Meant.Asking.{rewritten_at}
 use Rattle.java_loops.specs.Meant.KeptNumbers.{kept_numbers}
 use Rattle.java_loops.proofs.Kept.KeptPath.{loops_give_way}

@@ -17,7 +17,7 @@ use Rattle.java_mean.specs.Statement.{State}
 use Rattle.java_mean.specs.Store.{Store}
 use Rattle.java_mean.specs.World.{World}
 use Rattle.loop_text.specs.Kernel.KernelConditions.{Asked, asked_for}
-use Rattle.loop_text.specs.Statements.Names.{Names}
+use Rattle.java_ast.specs.Names.{Names}
 use Rattle.java_loops.specs.Kernel.Setting.{Setting}
 use Rattle.java_loops.specs.Lowering.Lowered.{query_asked, numbers_of_arguments}
 use Rattle.java_loops.specs.Lowering.Numbering.{arguments, arguments_asked, entries_of}

@@ -17,7 +17,7 @@ use Rattle.sql_parts.specs.Given.{IsHeld, QueryIsCounted}
 use Rattle.sql_parts.specs.Numbered.{Emission, emission}
 use Rattle.sql_parts.proofs.Queries.{grammatical}
 use Rattle.java_ast.specs.Tree.{PlainProgram}
-use Rattle.loop_text.specs.Statements.Names.{Names}
+use Rattle.java_ast.specs.Names.{Names}
 use Rattle.loop_text.specs.Statements.Fragment as source
 use Rattle.java_mean.specs.Types.{Types}
 use Rattle.java_loops.specs.Kernel.Kernel.{broken, lowering}

@@ -16,7 +16,7 @@ use Rattle.java_mean.specs.Numbers.{expression_fits, expressions_fit, statement_
 use Rattle.java_mean.specs.Refines.{Hole, Here, Past, InIf, InThen, InElse, InEach, InWhile, fill, followed_by, with_part}
 use Rattle.loop_text.specs.Sites.Sites.{place_of}
 use Rattle.loop_text.specs.Statements.Fragment.{set_by}
-use Rattle.loop_text.specs.Statements.Names.{Names}
+use Rattle.java_ast.specs.Names.{Names}
 use Rattle.java_loops.specs.Kernel.Kernel.{lowering}
 use Rattle.java_loops.specs.Kernel.Setting.{Setting}
 use Rattle.java_loops.specs.Walks.Reads.{Set}

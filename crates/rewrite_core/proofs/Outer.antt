@@ -24,7 +24,7 @@ use Rattle.java_mean.specs.Typing.{Frame, HasType, TypedStatements}
 use Rattle.loop_text.specs.Kernel.KernelStarts.{Numbered, update_of, update_of_flag, form_found}
 use Rattle.loop_text.specs.Sites.Sites.{Round, Site, declared_name}
 use Rattle.loop_text.specs.Statements.Fragment.{Fragment, accumulators, needed_of}
-use Rattle.loop_text.specs.Statements.Names.{Names}
+use Rattle.java_ast.specs.Names.{Names}
 use Rattle.loop_text.specs.Statements.Setting.{first_touching}
 use Rattle.java_loops.specs.Kernel.Kernel.{broken, lowering}
 use Rattle.java_loops.specs.Kernel.Setting.{Setting, setting_of}

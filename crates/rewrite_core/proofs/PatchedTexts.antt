@@ -27,7 +27,7 @@ use Rattle.loop_text.specs.Statements.Loops.{loops_of}
 use Rattle.java_loops.specs.Kernel.Kernel as kernel
 use Rattle.java_loops.specs.Kernel.Kernel.{broken, lowering, setting_at}
 use Rattle.java_loops.specs.Kernel.Setting.{Setting}
-use Rattle.java_loops.specs.Lowering.Lowered.{names_read}
+use Rattle.java_ast.specs.Names.{names_read}
 use Rattle.java_loops.specs.Meant.KeptNumbers.{kept_numbers}
 use Rattle.java_loops.specs.Meant.LoopStands.{LoopStands}
 use Rattle.java_loops.specs.Walks.Replacing.{Ask, asking, asked}

@@ -7,7 +7,7 @@ use Rattle.java_ast.specs.declared.tree.Stmt.{Stmt}
 use Rattle.java_ast.specs.Path.{and_then}
 use Rattle.java_ast.specs.Reading.{statement, statements}
 use Rattle.java_ast.specs.Tree.{Statement, Statements, Nothing, Then}
-use Rattle.loop_text.specs.Statements.Names.{Names}
+use Rattle.java_ast.specs.Names.{Names}
 use Rattle.rewrite_core.specs.Looped.{Looped, outermost, statement_for, emitted_in, asked_with, asked_at, asked_from, IsValidAt, AreValidFrom}
 use Rattle.rewrite_core.proofs.Giving.{and_nothing, and_then_joined}
 

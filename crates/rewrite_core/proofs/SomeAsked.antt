@@ -15,7 +15,7 @@ use Rattle.java_ast.specs.Tree.{Spelled, Expression, Statement, Statements, Noth
 use Rattle.loop_text.specs.Kernel.KernelStatements.{broken_update, is_idle_flag, is_none}
 use Rattle.loop_text.specs.Sites.Sites.{any_site, place_where, first_broken}
 use Rattle.loop_text.specs.Statements.Fragment.{Fragment, accumulators, needed_of, set_by, is_simple, are_simple}
-use Rattle.loop_text.specs.Statements.Names.{Names, is_among}
+use Rattle.java_ast.specs.Names.{Names, is_among}
 use Rattle.loop_text.specs.Statements.Setting.{first_touching}
 use Rattle.java_mean.specs.Refines.{followed_by}
 use Rattle.java_mean.proofs.Puts.{name_same}

@@ -19,7 +19,7 @@ use Rattle.java_mean.specs.Visible.{Visible, is_visible, after}
 use Rattle.java_mean.specs.WellTyped.{marked, faults_at, faults_in}
 use Rattle.java_mean.proofs.Faultless.{Both, none_both, none_in, fine, only_none, neither, Sees, unseen}
 use Rattle.loop_text.specs.Statements.Fragment.{set_by}
-use Rattle.loop_text.specs.Statements.Names.{Names, is_among, mentioned_in}
+use Rattle.java_ast.specs.Names.{Names, is_among, mentioned_in}
 use Rattle.loop_text.specs.Statements.Setting.{touches, first_touching}
 use Rattle.java_loops.specs.Kernel.Setting.{Setting}
 use Rattle.java_loops.specs.Meant.Asking.{spelled_by, IsForStarted}

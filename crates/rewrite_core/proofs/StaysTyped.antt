@@ -27,11 +27,11 @@ use Rattle.java_mean.proofs.Fitting.{IsFinePlace, faults_joined, ends_too, sees_
 use Rattle.java_mean.proofs.TypedRuns.{extends_statements}
 use Rattle.loop_text.specs.Statements.Fragment.{Fragment, accumulators, needed_of, mentioned_behind, is_live, fragment_in, fragment_at, before_run}
 use Rattle.loop_text.specs.Statements.KeptStatements.{how_many, first_in, first_at}
-use Rattle.loop_text.specs.Statements.Names.{Names, is_among, with_names, mentioned_among, declared_among, walking, names_of_params}
+use Rattle.java_ast.specs.Names.{Names, is_among, with_names, mentioned_among, declared_among, walking, names_of_params, names_read}
 use Rattle.java_loops.specs.Kernel.Kernel as kernel
 use Rattle.java_loops.specs.Kernel.Kernel.{broken, lowering}
 use Rattle.java_loops.specs.Kernel.Setting.{Setting, setting_of}
-use Rattle.java_loops.specs.Lowering.Lowered.{needed_in_order, names_read}
+use Rattle.java_loops.specs.Lowering.Lowered.{needed_in_order}
 use Rattle.java_loops.specs.Meant.Asking.{AskForNeeded, rewritten_at}
 use Rattle.java_loops.specs.Meant.KeptNumbers.{kept_set, kept_numbers}
 use Rattle.java_loops.specs.Walks.Reads.{Set}
@@ -42,7 +42,7 @@ use Rattle.java_loops.proofs.Kept.KeptPath.{rewritten_is, setting_fragment}
 use Rattle.java_loops.proofs.Kept.KeptRuns.{kept_numbers_kept}
 use Rattle.java_loops.proofs.Known.KnownNumbers.{IsGoodEntry, entries_good}
 use Rattle.java_loops.proofs.Listed.ListedRows.{fragment_seen}
-use Rattle.java_loops.proofs.Lists.Sets.{among_set}
+use Rattle.java_mean.proofs.Sets.{among_set}
 use Rattle.java_loops.proofs.Lowering.LowerChains.{at_setting}
 use Rattle.java_loops.proofs.Meant.MeanChains.{IsNeeded, all_needed}
 use Rattle.java_loops.proofs.Meant.MeanReplaced.{with_statements}

@@ -14,9 +14,9 @@ use Rattle.java_mean.specs.Types.{Types}
 use Rattle.java_mean.specs.Typing as typing
 use Rattle.java_mean.specs.Typing.{Frame, HasType, HaveTypes}
 use Rattle.java_mean.proofs.Puts.{name_same}
-use Rattle.loop_text.specs.Statements.Names.{is_among, names_in}
+use Rattle.java_ast.specs.Names.{is_among, names_in, names_read}
 use Rattle.java_loops.specs.Kernel.Setting.{Setting}
-use Rattle.java_loops.specs.Lowering.Lowered.{type_of_column, column_type, type_of_scalar, type_of_entry, names_read}
+use Rattle.java_loops.specs.Lowering.Lowered.{type_of_column, column_type, type_of_scalar, type_of_entry}
 use Rattle.java_loops.specs.Lowering.Numbering.{found_number}
 use Rattle.java_loops.proofs.Known.KnownEntries.{IsColumn, FieldKnown}
 use Rattle.java_loops.proofs.Known.KnownNumbers.{IsGoodEntry}

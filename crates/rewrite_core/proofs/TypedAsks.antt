@@ -33,7 +33,7 @@ use Rattle.java_mean.specs.Types.{Types}
 use Rattle.java_mean.specs.Typing as typing
 use Rattle.java_mean.specs.Typing.{QueryType, Frame, HasType, HaveTypes}
 use Rattle.loop_text.specs.Sites.Sites.{place_of}
-use Rattle.loop_text.specs.Statements.Names.{Names}
+use Rattle.java_ast.specs.Names.{Names}
 use Rattle.java_loops.specs.Kernel.Kernel.{lowering}
 use Rattle.java_loops.specs.Kernel.Setting.{Setting, setting_of}
 use Rattle.java_loops.specs.Lowering.Collected.{element_type, collected_type, IsForNeeded, AreForNeeded}

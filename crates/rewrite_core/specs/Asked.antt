@@ -14,11 +14,11 @@ use Rattle.java_ast.specs.Placed.{placed}
 use Rattle.java_ast.specs.Tree.{Spelled, Table, String, Expression, Query, QueryLong, QueryBoolean, NewList, NewSetOf, Expressions, NoMore, And, Statement, PlainProgram}
 use Rattle.loop_text.specs.Sites.Sites.{place_of}
 use Rattle.loop_text.specs.Statements.KeptStatements.{first_at}
-use Rattle.loop_text.specs.Statements.Names.{Names}
+use Rattle.java_ast.specs.Names.{Names, names_read}
 use Rattle.loop_text.specs.Statements.Setting.{first_touching}
 use Rattle.java_loops.specs.Kernel.Kernel.{lowering}
 use Rattle.java_loops.specs.Kernel.Setting.{Setting}
-use Rattle.java_loops.specs.Lowering.Lowered.{needed_in_order, names_read}
+use Rattle.java_loops.specs.Lowering.Lowered.{needed_in_order}
 use Rattle.java_loops.specs.Lowering.Spelling.{spelled_at, element_spelled}
 use Rattle.java_loops.specs.Meant.Asking.{spelled_by, rewritten_at}
 use Rattle.java_loops.specs.Meant.KeptNumbers.{kept_numbers}

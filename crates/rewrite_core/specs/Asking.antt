@@ -20,10 +20,10 @@ use Rattle.java_mean.specs.Typing.{Frame, HasType, IsWorld}
 use Rattle.java_mean.specs.Visible.{Visible, is_visible, type_at}
 use Rattle.java_mean.specs.WellTyped.{faults_in}
 use Rattle.java_mean.specs.World.{World}
-use Rattle.loop_text.specs.Statements.Names.{is_among}
+use Rattle.java_ast.specs.Names.{is_among, names_read}
 use Rattle.java_loops.specs.Kernel.Kernel.{lowering}
 use Rattle.java_loops.specs.Kernel.Setting.{Setting}
-use Rattle.java_loops.specs.Lowering.Lowered.{needed_in_order, names_read}
+use Rattle.java_loops.specs.Lowering.Lowered.{needed_in_order}
 use Rattle.java_loops.specs.Lowering.Numbering.{numbers_of}
 use Rattle.java_loops.specs.Meant.Means.{AreMatched, HasScalar, IsWholeAnswer}
 use Rattle.java_loops.specs.Walks.Reads.{Set}

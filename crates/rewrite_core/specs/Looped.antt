@@ -20,7 +20,7 @@ use Rattle.sql_parts.specs.Scopes.{def_of, table_name}
 use Rattle.java_ast.specs.Path.{and_then}
 use Rattle.java_ast.specs.Reading.{expression, statements, program}
 use Rattle.java_ast.specs.Tree.{Spelled, Table, Expression, Query, QueryLong, QueryBoolean, NewSetOf, Expressions, Statement, Statements, Nothing, Then, PlainProgram}
-use Rattle.loop_text.specs.Statements.Names.{Names}
+use Rattle.java_ast.specs.Names.{Names}
 use Rattle.loop_text.specs.Statements.Setting.{first_touching}
 use Rattle.java_loops.specs.Lowering.Spelling.{spelled_at, element_spelled}
 use Rattle.java_loops.specs.Walks.Replacing.{asking}

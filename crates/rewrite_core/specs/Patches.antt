@@ -10,7 +10,7 @@ pub use Rattle.java_stretches.specs.Lines.{is_blank, joined_lines}
 pub use Rattle.java_stretches.specs.Stretch.{sibling}
 use Rattle.loop_text.specs.Statements.KeptStatements.{with_numbers}
 use Rattle.java_loops.specs.Kernel.Kernel.{lowering}
-use Rattle.java_loops.specs.Lowering.Lowered.{names_read}
+use Rattle.java_ast.specs.Names.{names_read}
 use Rattle.java_loops.specs.Meant.KeptNumbers.{kept_numbers}
 use Rattle.java_loops.specs.Walks.Replacing.{asked}
 use Rattle.query_search.specs.Verdicts.{Found, NoneOf, Budget}

@@ -10,7 +10,8 @@ ghost use Rattle.rewrite_core.specs.Asked as specs;
 ghost use Rattle.rewrite_core.specs.Looped as looped;
 
 use crate::spelling::copy_spelled;
-use java_ast::{Expr, ExprNode, JTy, copy_placed};
+use java_ast::{Expr, ExprNode, JTy};
+use java_copies::copy_placed;
 use kernel_lang::{KFragment, Update};
 use qbs_base::{Name, NoMemory, Span, Table, Text};
 use std::alloc::Global;

@@ -5,10 +5,8 @@ use crate::places::put_span;
 use crate::programs::put_program;
 use crate::repeats::count_of;
 use crate::tokens::put_fault;
-use java_ast::{
-    Expr, ExprNode, Path, Program, Stmt, StmtNode, Stmts, at_path, copy_placed, copy_program,
-    put_at, replace_at,
-};
+use java_ast::{Expr, ExprNode, Path, Program, Stmt, StmtNode, Stmts, at_path};
+use java_copies::{copy_placed, copy_program, put_at};
 use java_lex::{Tokens, lex};
 use java_parser::parse;
 use qbs_base::{Fail, NoMemory, Span, held};
@@ -49,20 +47,6 @@ fn put_made(
     put_program(out, alloc, &program, false)
 }
 
-// A `break` stands in place of the statements of a block up to the one that the path leads to.
-fn put_replaced(
-    out: &mut String,
-    alloc: Global,
-    program: &Program,
-    path: &Path,
-) -> Result<(), NoMemory> {
-    if at_path(program, path).is_none() {
-        return Ok(out.push_str("no such statement")?);
-    }
-    let with = one_break(alloc)?;
-    put_made(out, alloc, replace_at(alloc, program, path, 0, &with))
-}
-
 fn put_put(
     out: &mut String,
     alloc: Global,
@@ -77,7 +61,7 @@ fn put_put(
     )
 }
 
-// The same, in a copy of the program.
+// A `break` stands in place of the statements of a block up to the one that the path leads to, in a copy of the program.
 fn put_in_place(
     out: &mut String,
     alloc: Global,
@@ -139,7 +123,6 @@ fn put_of_program(
 ) -> Result<(), NoMemory> {
     match kind {
         "copied" => put_made(out, alloc, copy_program(alloc, program)),
-        "replaced" => put_replaced(out, alloc, program, path),
         "put" => put_in_place(out, alloc, program, path),
         _ => put_placed(out, alloc, program, path),
     }

@@ -18,7 +18,7 @@ use Rattle.kernel_lang.specs.Typed.{atom_is_typed, members_agree, update_is_type
 use Rattle.tor_terms.specs.declared.term.Atom.{Atom}
 use Rattle.loop_text.specs.Kernel.KernelConditions.{asked_for}
 use Rattle.loop_text.specs.Statements.Fragment.{Fragment}
-use Rattle.loop_text.specs.Statements.Names.{Names}
+use Rattle.java_ast.specs.Names.{Names}
 use Rattle.java_loops.specs.Kernel.Kernel.{broken, lowering}
 use Rattle.java_loops.specs.Kernel.Setting.{Setting, setting_of}
 use Rattle.java_loops.specs.Lowering.Numbering.{arguments_asked, entries_of, known_of}

@@ -11,7 +11,7 @@ use Rattle.loop_text.specs.Kernel.KernelConditions.{Asked}
 use Rattle.java_loops.specs.Kernel.KernelConditions.{is_column_query}
 use Rattle.java_loops.specs.Lowering.Lowered.{query_asked}
 use Rattle.fragments.specs.Helping.LoweredInCode.{has_query}
-use Rattle.loop_text.specs.Statements.Names.{Names}
+use Rattle.java_ast.specs.Names.{Names}
 use Rattle.java_loops.specs.Lowering.Numbering.{numbers_of}
 use Rattle.java_loops.specs.Kernel.Setting.{Setting, setting_of}
 use Rattle.loop_text.specs.Statements.Setting.{is_found}

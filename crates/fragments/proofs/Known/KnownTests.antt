@@ -7,7 +7,7 @@ use Rattle.sql_ast.specs.Typing.{ty_of_col}
 use Rattle.kernel_lang.specs.Typed.{atom_is_typed}
 use Rattle.tor_terms.specs.declared.term.Atom.{Atom}
 use Rattle.tor_terms.specs.declared.term.Atom.TheVariants as atoms
-use Rattle.loop_text.specs.Statements.Names.{Names}
+use Rattle.java_ast.specs.Names.{Names}
 use Rattle.java_loops.specs.Walks.ChainStarts.{StandsForCondition}
 use Rattle.java_loops.specs.Kernel.Kernel.{lowering}
 use Rattle.java_loops.specs.Kernel.Setting.{Setting}

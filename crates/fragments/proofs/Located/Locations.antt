@@ -7,18 +7,17 @@ use Rattle.java_ast.specs.Path.{found_in, numbered, branch_of, first_of, behind_
 use Rattle.java_ast.specs.Reading.{statement, statements}
 use Rattle.java_ast.specs.Tree.{Statement, Statements, Nothing, Then, PlainParam, PlainMethod, PlainProgram}
 use Rattle.java_ast.specs.Tree as plain
-use Rattle.java_mean.specs.Visible.{Visible, declared_in}
+use Rattle.java_mean.specs.Visible.{Visible, declared_in, names_seen}
 use Rattle.loop_text.specs.Statements.Fragment.{Fragment, is_simple, are_simple, before_run, run_of, fragment_of, fragment_where, fragment_here, fragment_in}
 use Rattle.loop_text.specs.Statements.KeptStatements.{how_many, first_in}
 use Rattle.fragments.specs.Helping.Locating.{fragment_located, fragment_spotted, IsFoundIn, IsSpottedIn, IsSeenIn, IsFoundAt}
 use Rattle.loop_text.specs.Statements.Loops.{is_loop}
-use Rattle.loop_text.specs.Statements.Names.{Names, with_name, with_names, declared_by, declared_among, walking, names_of_params}
+use Rattle.java_ast.specs.Names.{Names, with_name, with_names, declared_by, declared_among, walking, names_of_params}
 use Rattle.java_loops.specs.Lowering.Placing.{type_under, scope_after, scope_past, scope_inside, scope_within, scope_in, scope_of_params, scope_in_method, fragment_in_method}
-use Rattle.java_loops.specs.Lowering.Seen.{names_seen}
 use Rattle.fragments.specs.declared.places.position.Located.{Located}
 use Rattle.fragments.specs.declared.places.position.Spot.{Spot}
 use Rattle.java_loops.proofs.Kept.Longest.{run_splits}
-use Rattle.java_loops.proofs.Lists.Sets.{seen_declared}
+use Rattle.java_mean.proofs.Sets.{seen_declared}
 use Rattle.loop_text.proofs.Trees.Walked.{next_item}
 use Rattle.loop_text.proofs.Trees.Locations.{next_of}
 

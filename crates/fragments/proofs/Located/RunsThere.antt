@@ -7,7 +7,7 @@ use Rattle.java_ast.specs.Reading.{statement, statements}
 use Rattle.java_ast.specs.Tree.{Statement, Statements, Nothing, Then, PlainMethod, PlainProgram}
 use Rattle.loop_text.specs.Statements.Fragment.{Fragment, run_of, fragment_of, fragment_where, fragment_here, fragment_in, fragment_at}
 use Rattle.loop_text.specs.Statements.Loops.{is_loop}
-use Rattle.loop_text.specs.Statements.Names.{Names, with_names, declared_among, walking, names_of_params}
+use Rattle.java_ast.specs.Names.{Names, with_names, declared_among, walking, names_of_params}
 use Rattle.loop_text.proofs.Trees.Walked.{next_item}
 use Rattle.fragments.specs.Helping.Locating.{run_where, run_here, run_in, run_at}
 use Rattle.fragments.specs.RunsThere.{run_of_fragment}

@@ -9,7 +9,7 @@ use Rattle.java_mean.proofs.Puts.{names_equal}
 use Rattle.loop_text.specs.Statements.Fragment.{set_by}
 use Rattle.java_loops.specs.Lowering.Lowered.{Lowering, found_name, set_in_order}
 use Rattle.fragments.specs.Helping.LoweredInCode.{set_among}
-use Rattle.loop_text.specs.Statements.Names.{Names, is_among}
+use Rattle.java_ast.specs.Names.{Names, is_among}
 
 -- ---- The whole
 

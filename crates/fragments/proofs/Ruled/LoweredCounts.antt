@@ -17,7 +17,7 @@ use Rattle.java_loops.specs.Kernel.Kernel.{broken_counts, has_small_pool, is_sma
 use Rattle.loop_text.specs.Kernel.KernelLists.{count_loops}
 use Rattle.loop_text.specs.Kernel.KernelStarts.{Numbered, update_of, update_of_flag}
 use Rattle.java_loops.specs.Lowering.Lowered.{accumulator_of, accumulators_of, conditions_of, flag_here, flags_from, fragment_with, lists_of, outer_accumulators, type_of_entry}
-use Rattle.loop_text.specs.Statements.Names.{Names}
+use Rattle.java_ast.specs.Names.{Names}
 use Rattle.java_loops.specs.Lowering.Numbering.{Numbers, numbers_of, count_flags}
 use Rattle.java_loops.specs.Kernel.Setting.{Setting}
 use Rattle.loop_text.specs.Sites.Sites.{Site, Round, declared_name, place_of, place_where}

@@ -4,11 +4,9 @@ use Rattle.std.specs.Option.{option_map}
 use Rattle.std.specs.Prelude.{ℕ, Bool, true, false, ◌||◌, List, [], ◌∷◌, ◌++◌, Some, slice_get}
 use Rattle.std.proofs.Common.{◌≡◌, ◌<◌, length, get_or, refl, sym, ap, ◌∙◌}
 use Rattle.std.proofs.lemmas.Option.{slice_get-map, slice_get-get_or}
-use Rattle.java_mean.specs.Visible.{Visible, is_visible}
-use Rattle.loop_text.specs.Statements.Names.{Names, is_among, with_name, with_names}
-use Rattle.java_loops.specs.Lowering.Seen.{names_seen}
-use Rattle.loop_text.specs.Statements.Seen.{names_lent}
-use Rattle.java_loops.proofs.Lists.Sets.{among_seen}
+use Rattle.java_mean.specs.Visible.{Visible, is_visible, names_seen}
+use Rattle.java_ast.specs.Names.{Names, is_among, with_name, with_names, names_lent}
+use Rattle.java_mean.proofs.Sets.{among_seen}
 
 pub names_both : (xs ys zs : Names) → with_names xs (ys ++ zs) ≡ with_names (with_names xs ys) zs
 names_both xs [] zs = refl

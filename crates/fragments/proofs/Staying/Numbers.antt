@@ -7,17 +7,17 @@ use Rattle.java_ast.specs.declared.tree.Stmt.{Stmt}
 use Rattle.java_ast.specs.Path.{and_then, numbered}
 use Rattle.java_ast.specs.Reading.{statement, statements}
 use Rattle.java_ast.specs.Tree.{Statement, Statements, Nothing, Then, PlainProgram}
-use Rattle.java_ast.proofs.Ranges.{appended}
+use Rattle.java_ast.proofs.Joined.{appended}
 use Rattle.java_loops.specs.Kernel.Kernel.{setting_at, types_at}
 use Rattle.java_loops.specs.Kernel.Setting.{Setting}
-use Rattle.java_loops.specs.Lowering.Lowered.{Lowering, names_read}
+use Rattle.java_loops.specs.Lowering.Lowered.{Lowering}
+use Rattle.java_ast.specs.Names.{names_read, Names}
 use Rattle.java_loops.specs.Meant.Lowers.{IsLowered}
 use Rattle.java_loops.proofs.Kept.KeptPath.{setting_fragment}
 use Rattle.java_loops.proofs.Kept.KeptRuns.{AreFrom, numbers_from, none_there, earlier_number}
 use Rattle.loop_text.specs.Sites.Sites.{has_number}
 use Rattle.loop_text.specs.Statements.Fragment.{Fragment, fragment_at}
 use Rattle.loop_text.specs.Statements.KeptStatements.{AreKept, none, keeps, drops, with_numbers}
-use Rattle.loop_text.specs.Statements.Names.{Names}
 use Rattle.fragments.specs.Helping.AtNumbers.{alone, at_numbers}
 use Rattle.fragments.specs.RunsThere.{run_of_fragment}
 

@@ -5,12 +5,11 @@ use Rattle.std.proofs.Common.{◌≡◌, refl, sym, ap, ◌∙◌}
 use Rattle.std.proofs.lemmas.List.Elements.{filter-append}
 use Rattle.qbs_base.specs.declared.span.Span.{Span}
 use Rattle.java_ast.specs.Tree.{Expression, IfElse, Statement, Statements, Then}
-use Rattle.java_mean.specs.Visible.{Visible, is_visible}
+use Rattle.java_mean.specs.Visible.{Visible, is_visible, names_seen}
 use Rattle.loop_text.specs.Statements.Fragment.{Fragment, is_outer, declared_in_run, counter}
-use Rattle.loop_text.specs.Statements.Names.{Names, is_among, with_name, with_names, declared_among, updated_in, updated_among}
-use Rattle.java_loops.specs.Lowering.Seen.{names_seen}
+use Rattle.java_ast.specs.Names.{Names, is_among, with_name, with_names, declared_among, updated_in, updated_among}
 use Rattle.loop_text.specs.Statements.Updated.{outer_with}
-use Rattle.java_loops.proofs.Lists.Sets.{among_set, among_with, among_seen}
+use Rattle.java_mean.proofs.Sets.{among_set, among_with, among_seen}
 
 names_behind : (xs ys zs : Names) → with_names xs (ys ++ zs) ≡ with_names (with_names xs ys) zs
 names_behind xs [] zs = refl

@@ -7,7 +7,7 @@ use Rattle.loop_text.specs.Statements.Fragment.{accumulators}
 use Rattle.loop_text.specs.Kernel.KernelLists.{count_loops}
 use Rattle.java_loops.specs.Lowering.Numbering.{Numbers, numbers_of, count_flags}
 use Rattle.loop_text.specs.Sites.Reading.{exprs_lent}
-use Rattle.loop_text.specs.Statements.Seen.{names_lent}
+use Rattle.java_ast.specs.Names.{names_lent}
 use Rattle.java_loops.specs.Kernel.Setting.{Setting}
 use Rattle.fragments.specs.declared.numbering.numbers.Numbers as code
 

@@ -1,8 +1,8 @@
 -- Names that a list holds and finds.
 use Rattle.std.specs.Prelude.{◌≡◌}
 use Rattle.fragments.specs.declared.kept.name_list.NameList.{NameList}
-use Rattle.java_loops.specs.Lowering.Seen.{names_seen}
-use Rattle.loop_text.specs.Statements.Seen.{names_lent}
+use Rattle.java_mean.specs.Visible.{names_seen}
+use Rattle.java_ast.specs.Names.{names_lent}
 
 -- the names that are found are those that are held
 abbrev pub IsListed : NameList → Type 0

@@ -6,13 +6,12 @@ use Rattle.qbs_base.specs.Values.{Schema}
 use Rattle.java_ast.specs.Reading.{statement, statements}
 use Rattle.java_ast.specs.Path.{found_in, numbered, branch_of, first_of, behind_of}
 use Rattle.java_ast.specs.Tree.{Statements, Nothing, Then, PlainProgram}
-use Rattle.java_mean.specs.Visible.{Visible}
+use Rattle.java_mean.specs.Visible.{Visible, names_seen}
 use Rattle.loop_text.specs.Statements.Fragment.{Fragment, run_of, fragment_in}
 use Rattle.loop_text.specs.Statements.KeptStatements.{first_in, first_at}
 use Rattle.loop_text.specs.Statements.Loops.{is_loop}
-use Rattle.loop_text.specs.Statements.Names.{with_names, declared_among}
+use Rattle.java_ast.specs.Names.{with_names, declared_among}
 use Rattle.java_loops.specs.Lowering.Placing.{scope_in, scope_at, fragment_once_at}
-use Rattle.java_loops.specs.Lowering.Seen.{names_seen}
 use Rattle.fragments.specs.declared.places.position.Located.{Located}
 use Rattle.fragments.specs.declared.places.position.Spot.{Spot}
 

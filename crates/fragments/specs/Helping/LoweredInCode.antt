@@ -11,7 +11,7 @@ use Rattle.java_loops.specs.Kernel.Kernel.{broken_counts}
 use Rattle.loop_text.specs.Kernel.KernelConditions.{asked_for}
 use Rattle.loop_text.specs.Kernel.KernelStarts.{Numbered}
 use Rattle.java_loops.specs.Lowering.Lowered.{query_asked}
-use Rattle.loop_text.specs.Statements.Names.{Names, is_among}
+use Rattle.java_ast.specs.Names.{Names, is_among}
 use Rattle.java_loops.specs.Lowering.Numbering.{Numbers}
 use Rattle.loop_text.specs.Sites.Reading.{site_of}
 use Rattle.java_loops.specs.Kernel.Setting.{Setting}

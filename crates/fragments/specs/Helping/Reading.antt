@@ -6,8 +6,8 @@ use Rattle.fragments.specs.declared.places.setting.Setting as settings
 use Rattle.java_mean.specs.Visible.{type_at}
 use Rattle.java_types.specs.Texts.{read_by}
 use Rattle.loop_text.specs.Statements.Fragment.{Fragment}
-pub use Rattle.java_loops.specs.Lowering.Seen.{names_seen}
-pub use Rattle.loop_text.specs.Statements.Seen.{names_lent}
+pub use Rattle.java_mean.specs.Visible.{names_seen}
+pub use Rattle.java_ast.specs.Names.{names_lent}
 use Rattle.java_loops.specs.Kernel.Setting.{Setting}
 use Rattle.loop_text.specs.Sites.Reading.{site_of}
 

@@ -15,7 +15,8 @@ use Rattle.java_loops.specs.Kernel.KernelLoop.{broken_loop}
 use Rattle.java_loops.specs.Kernel.KernelStarts.{broken_starts}
 use Rattle.java_loops.specs.Kernel.KernelStatements.{broken_statements, broken_updates}
 use Rattle.loop_text.specs.Statements.KeptStatements.{AreKept}
-use Rattle.java_loops.specs.Lowering.Lowered.{Lowering, names_read}
+use Rattle.java_loops.specs.Lowering.Lowered.{Lowering}
+use Rattle.java_ast.specs.Names.{names_read}
 use Rattle.fragments.specs.Asked.{HasQueriesOf}
 use Rattle.fragments.specs.Helping.LoweredInCode.{has_query}
 use Rattle.fragments.specs.Lowers.{broken_in_code}

@@ -5,11 +5,11 @@ ghost use Rattle.std.specs.Option.{option_map};
 ghost use Rattle.java_ast.specs.Reading.{statement, statements};
 ghost use Rattle.loop_text.specs.Statements.Fragment as fragment;
 ghost use Rattle.fragments.specs.Helping.Listed.{IsListed};
-ghost use Rattle.loop_text.specs.Statements.Names as specs;
+ghost use Rattle.java_ast.specs.Names as specs;
 ghost use Rattle.loop_text.specs.Statements.Updated.{outer_with};
 ghost use Rattle.fragments.specs.Helping.Reading.{fragment_in_code};
-ghost use Rattle.java_loops.specs.Lowering.Seen.{names_seen};
-ghost use Rattle.loop_text.specs.Statements.Seen.{names_lent};
+ghost use Rattle.java_mean.specs.Visible.{names_seen};
+ghost use Rattle.java_ast.specs.Names.{names_lent};
 
 use crate::kept::live::is_live;
 use crate::kept::name_list::NameList;

@@ -4,11 +4,9 @@ ghost use Rattle.java_ast.specs.Reading.{statement, statements};
 ghost use Rattle.loop_text.specs.Statements.Fragment as fragment;
 ghost use Rattle.loop_text.specs.Statements.KeptStatements.{AreKept};
 ghost use Rattle.fragments.specs.Helping.Listed.{IsListed};
-ghost use Rattle.java_loops.specs.Lowering.Lowered.{names_read};
-ghost use Rattle.loop_text.specs.Statements.Names.{Names, with_names};
+ghost use Rattle.java_ast.specs.Names.{names_read, Names, with_names, names_lent};
 ghost use Rattle.loop_text.specs.Sites.Reading.{exprs_lent};
 ghost use Rattle.fragments.specs.Helping.Reading.{fragment_in_code};
-ghost use Rattle.loop_text.specs.Statements.Seen.{names_lent};
 ghost use Rattle.fragments.specs.Helping.Wanted as specs;
 
 use crate::kept::accumulators::{accumulators, counter};
@@ -132,7 +130,7 @@ fn put_names_read<'a>(entries: &[&'a Expr], list: &mut NameList<'a>) -> Result<(
 
 // Puts what a statement that sets this variable mentions behind the names of a list, where it is kept since the variable is
 // visible before the run.
-#[tactic(auto, using(java_loops::proofs::Lists::Sets::sets))]
+#[tactic(auto, using(java_mean::proofs::Sets::sets))]
 fn put_where_visible<'a>(
     f: &Fragment,
     accumulators: &NameList,
@@ -223,7 +221,7 @@ fn wanted_of<'a>(
 }
 
 // Whether the statements that set this variable are kept.
-#[tactic(auto, using(java_loops::proofs::Lists::Sets::sets))]
+#[tactic(auto, using(java_mean::proofs::Sets::sets))]
 fn keeps_setting(f: &Fragment, accumulators: &NameList, wanted: &NameList, x: &Name) -> bool
     requires accumulators_listed { IsListed accumulators.now }
     requires accumulators { names_lent accumulators.now.names ≡ fragment.accumulators (fragment_in_code f.now) }

@@ -8,7 +8,7 @@ use loop_text::statements::names::block_mentions;
 use qbs_base::Name;
 
 /// Whether a variable is live: visible before the run, or mentioned behind the loop.
-#[tactic(auto, using(java_loops::proofs::Lists::Sets::sets))]
+#[tactic(auto, using(java_mean::proofs::Sets::sets))]
 pub fn is_live(f: &Fragment, x: &Name) -> bool
     ensures { result ≡ fragment.is_live (fragment_in_code f.now) x.now }
 {

@@ -2,8 +2,8 @@
 ghost use Rattle.std.specs.Prelude.{◌≡◌, ◌∷◌, OnOk};
 ghost use Rattle.java_ast.specs.Reading.{expression, expressions, statement, statements};
 ghost use Rattle.fragments.specs.Helping.Listed.{IsListed};
-ghost use Rattle.loop_text.specs.Statements.Names as specs;
-ghost use Rattle.loop_text.specs.Statements.Seen.{names_lent};
+ghost use Rattle.java_ast.specs.Names as specs;
+ghost use Rattle.java_ast.specs.Names.{names_lent};
 
 use crate::kept::name_list::NameList;
 use java_ast::{Expr, ExprNode, Stmt, StmtNode};

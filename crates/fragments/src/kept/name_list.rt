@@ -1,10 +1,9 @@
 // Names, each once.
 ghost use Rattle.std.specs.Prelude.{◌≡◌, [], OnOk};
 ghost use Rattle.fragments.specs.Helping.Listed.{IsListed};
-ghost use Rattle.loop_text.specs.Statements.Names.{with_name};
-ghost use Rattle.loop_text.specs.Statements.Seen.{names_lent};
+ghost use Rattle.java_ast.specs.Names.{with_name, names_lent};
 
-use java_types::Scope;
+use java_mean::Scope;
 use qbs_base::{Items, Name, NoMemory};
 use std::alloc::Global;
 
@@ -28,7 +27,7 @@ impl<'a> NameList<'a> {
     }
 
     /// Puts a name behind the others, where it isn't among them. Where memory runs out the list is of no use.
-    #[tactic(auto, using(java_loops::proofs::Lists::Sets::sets))]
+    #[tactic(auto, using(java_mean::proofs::Sets::sets))]
     pub fn put(&mut self, name: &'a Name) -> Result<(), NoMemory>
         requires { IsListed self.old }
         ensures names { OnOk result (names_lent self.new.names ≡ with_name (names_lent self.old.names) name.now) }

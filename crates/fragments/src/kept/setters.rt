@@ -4,8 +4,7 @@ ghost use Rattle.std.specs.Str.{bytes_eq};
 ghost use Rattle.java_ast.specs.Reading.{statement, statements};
 ghost use Rattle.loop_text.specs.Statements.Fragment as fragment;
 ghost use Rattle.fragments.specs.Helping.Listed.{IsListed};
-ghost use Rattle.loop_text.specs.Statements.Names.{with_names};
-ghost use Rattle.loop_text.specs.Statements.Seen.{names_lent};
+ghost use Rattle.java_ast.specs.Names.{with_names, names_lent};
 ghost use Rattle.fragments.specs.Helping.Wanted.{under};
 ghost use Rattle.loop_text.specs.Statements.Wanted.{one_where, setting, mentioned_in_all};
 

@@ -15,7 +15,8 @@ ghost use Rattle.fragments.specs.Helping.AtNumbers as specs;
 
 use crate::lowering::lowered::Lowered;
 use crate::places::run::run_at;
-use java_ast::{Path, Program, Stmt, copy_statement};
+use java_ast::{Path, Program, Stmt};
+use java_copies::copy_statement;
 use qbs_base::NoMemory;
 use std::alloc::Global;
 

@@ -11,7 +11,7 @@ ghost use Rattle.java_loops.specs.Lowering.Lowered as specs;
 ghost use Rattle.fragments.specs.Helping.LoweredInCode.{update_in_code};
 ghost use Rattle.java_loops.specs.Lowering.Numbering.{loop_number};
 ghost use Rattle.loop_text.specs.Sites.Reading.{column_in_code, form_in_code, round_of, site_of, taken_in_code};
-ghost use Rattle.loop_text.specs.Statements.Seen.{names_lent};
+ghost use Rattle.java_ast.specs.Names.{names_lent};
 ghost use Rattle.fragments.specs.Helping.Reading.{setting_in_code};
 ghost use Rattle.loop_text.specs.Sites.Sites as sites;
 

@@ -18,7 +18,7 @@ ghost use Rattle.fragments.specs.Lowers.{lowering_in_code};
 ghost use Rattle.java_loops.specs.Lowering.Numbering as numbering;
 ghost use Rattle.loop_text.specs.Sites.Reading.{asked_in_code, exprs_lent};
 ghost use Rattle.fragments.specs.Helping.Reading.{fragment_in_code, setting_in_code};
-ghost use Rattle.loop_text.specs.Statements.Seen.{names_lent};
+ghost use Rattle.java_ast.specs.Names.{names_lent};
 ghost use Rattle.loop_text.specs.Sites.Sites as sites;
 
 use crate::lowering::lowered::Lowered;
@@ -26,7 +26,8 @@ use crate::lowering::parts::fragment_with;
 use crate::numbering::numbers::{Numbers, entry_number};
 use crate::places::setting::Setting;
 use crate::rules::k7_known::asked_for;
-use java_ast::{Expr, Exprs, Stmt, copy_expression};
+use java_ast::{Expr, Exprs, Stmt};
+use java_copies::copy_expression;
 use java_types::read_query;
 use kernel_lang::{KFragment, Parts};
 use loop_text::conditions::asked::Asked;

@@ -8,7 +8,7 @@ ghost use Rattle.fragments.specs.Helping.Counted.{numbers_in_code, HasFewLoops, 
 ghost use Rattle.loop_text.specs.Statements.Fragment.{needed_of};
 ghost use Rattle.java_loops.specs.Lowering.Lowered as specs;
 ghost use Rattle.loop_text.specs.Sites.Reading.{exprs_lent};
-ghost use Rattle.loop_text.specs.Statements.Seen.{names_lent};
+ghost use Rattle.java_ast.specs.Names.{names_lent};
 ghost use Rattle.fragments.specs.Helping.Reading.{setting_in_code};
 
 use crate::lowering::accumulated::accumulators_of;

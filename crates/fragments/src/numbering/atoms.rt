@@ -6,7 +6,7 @@ ghost use Rattle.java_ast.specs.Reading.{expression, statement};
 ghost use Rattle.fragments.specs.Helping.Numbered.{leaf_in_code, reading_in_code};
 ghost use Rattle.java_loops.specs.Lowering.Numbering as specs;
 ghost use Rattle.loop_text.specs.Sites.Reading.{exprs_lent};
-ghost use Rattle.loop_text.specs.Statements.Seen.{names_lent};
+ghost use Rattle.java_ast.specs.Names.{names_lent};
 ghost use Rattle.fragments.specs.Helping.Reading.{setting_in_code};
 ghost use Rattle.fragments.specs.Helping.Tallied.{AreCountsOf};
 ghost use Rattle.java_loops.specs.Lowering.UpTo.{AreFew, IsUpTo};

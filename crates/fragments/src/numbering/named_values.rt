@@ -9,7 +9,7 @@ ghost use Rattle.fragments.specs.Helping.Listed.{IsListed};
 ghost use Rattle.fragments.specs.Helping.Numbered.{leaf_in_code};
 ghost use Rattle.java_loops.specs.Lowering.Numbering as specs;
 ghost use Rattle.loop_text.specs.Sites.Reading.{exprs_lent};
-ghost use Rattle.loop_text.specs.Statements.Seen.{names_lent};
+ghost use Rattle.java_ast.specs.Names.{names_lent};
 ghost use Rattle.fragments.specs.Helping.Reading.{setting_in_code};
 ghost use Rattle.java_loops.specs.Lowering.UpTo.{AreFew, IsUpTo};
 

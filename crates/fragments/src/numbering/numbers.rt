@@ -7,7 +7,7 @@ ghost use Rattle.loop_text.specs.Statements.Fragment.{needed_of};
 ghost use Rattle.fragments.specs.Helping.Numbered.{leaf_in_code};
 ghost use Rattle.java_loops.specs.Lowering.Numbering as specs;
 ghost use Rattle.loop_text.specs.Sites.Reading.{column_in_code, exprs_lent};
-ghost use Rattle.loop_text.specs.Statements.Seen.{names_lent};
+ghost use Rattle.java_ast.specs.Names.{names_lent};
 ghost use Rattle.fragments.specs.Helping.Reading.{setting_in_code};
 ghost use Rattle.java_loops.specs.Lowering.UpTo.{AreFew};
 

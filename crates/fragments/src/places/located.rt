@@ -14,7 +14,7 @@ use crate::places::scopes::{declare_all, declare_params, declare_within};
 use crate::places::setting::Fragment;
 use crate::rules::k5_updates::live_among;
 use java_ast::{Method, Path, Program, Stmt, branch};
-use java_types::Scope;
+use java_mean::Scope;
 use loop_text::loops::limits::is_loop;
 use loop_text::statements::block_parts::{before_number, numbered, split_run};
 use loop_text::statements::runs::behind_number;

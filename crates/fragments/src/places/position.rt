@@ -1,11 +1,11 @@
 // A loop where it stands in a program.
 ghost use Rattle.std.specs.Prelude.{◌≡◌};
 ghost use Rattle.java_ast.specs.Reading.{statements};
-ghost use Rattle.loop_text.specs.Statements.Names.{with_names, declared_among};
-ghost use Rattle.java_loops.specs.Lowering.Seen.{names_seen};
+ghost use Rattle.java_ast.specs.Names.{with_names, declared_among};
+ghost use Rattle.java_mean.specs.Visible.{names_seen};
 
 use java_ast::Stmt;
-use java_types::Scope;
+use java_mean::Scope;
 
 /// A loop and the run before it, with the names that are visible before the run and those that are visible at the loop, what
 /// stands behind the loop in its block, and the number of the run's first statement in the block, or of the loop where the run

@@ -4,8 +4,8 @@ ghost use Rattle.java_ast.specs.Reading.{spelled, statement, statements, param a
 ghost use Rattle.java_loops.specs.Lowering.Placing as specs;
 
 use java_ast::{JTy, Param, Stmt, StmtNode};
-use java_mean::JavaType;
-use java_types::{Scope, type_spelled};
+use java_mean::{JavaType, Scope};
+use java_types::type_spelled;
 use qbs_base::NoMemory;
 use schema::Schema;
 

@@ -1,11 +1,11 @@
 // A fragment in its program.
 ghost use Rattle.std.specs.Prelude.{◌≡◌};
 ghost use Rattle.java_ast.specs.Reading.{statements};
-ghost use Rattle.loop_text.specs.Statements.Names.{with_names, declared_among};
-ghost use Rattle.java_loops.specs.Lowering.Seen.{names_seen};
+ghost use Rattle.java_ast.specs.Names.{with_names, declared_among};
+ghost use Rattle.java_mean.specs.Visible.{names_seen};
 
 use java_ast::Stmt;
-use java_types::Scope;
+use java_mean::Scope;
 use loop_text::sites::list::Sites;
 use schema::Schema;
 

@@ -5,7 +5,7 @@ ghost use Rattle.fragments.specs.Helping.Counted.{numbers_in_code};
 ghost use Rattle.loop_text.specs.Statements.Fragment as fragment;
 ghost use Rattle.fragments.specs.Lowers.{broken_in_code};
 ghost use Rattle.fragments.specs.Helping.Reading.{fragment_in_code, setting_in_code};
-ghost use Rattle.loop_text.specs.Statements.Seen.{names_lent};
+ghost use Rattle.java_ast.specs.Names.{names_lent};
 ghost use Rattle.fragments.specs.Helping.Verdicts.{first_rules, middle_rules, BreaksNone, BreaksFirst};
 
 use crate::lowering::lowered::Outside;

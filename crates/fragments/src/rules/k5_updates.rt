@@ -5,7 +5,7 @@ ghost use Rattle.loop_text.specs.Statements.Fragment as fragment;
 ghost use Rattle.java_loops.specs.Kernel.KernelStatements as specs;
 ghost use Rattle.fragments.specs.Helping.Listed.{IsListed};
 ghost use Rattle.fragments.specs.Helping.Reading.{fragment_in_code, setting_in_code};
-ghost use Rattle.loop_text.specs.Statements.Seen.{names_lent};
+ghost use Rattle.java_ast.specs.Names.{names_lent};
 
 use crate::kept::mentioned::put_all_mentioned;
 use crate::kept::name_list::NameList;
@@ -16,7 +16,7 @@ use qbs_base::{Items, Name, NoMemory, Span, boxed};
 use std::alloc::Global;
 
 // Whether a variable is visible before the run, or among those that are mentioned behind the loop.
-#[tactic(auto, using(java_loops::proofs::Lists::Sets::sets))]
+#[tactic(auto, using(java_mean::proofs::Sets::sets))]
 fn is_live_beside(f: &Fragment, mentioned: &NameList, x: &Name) -> bool
     requires listed { IsListed mentioned.now }
     requires names { names_lent mentioned.now.names ≡ fragment.mentioned_behind (fragment_in_code f.now) }

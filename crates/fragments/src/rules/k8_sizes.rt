@@ -10,7 +10,7 @@ ghost use Rattle.java_loops.specs.Lowering.Lowered.{fragment_with};
 ghost use Rattle.fragments.specs.Helping.LoweredInCode.{IsCounted};
 ghost use Rattle.java_loops.specs.Lowering.Numbering as numbering;
 ghost use Rattle.fragments.specs.Helping.Reading.{fragment_in_code, setting_in_code};
-ghost use Rattle.loop_text.specs.Statements.Seen.{names_lent};
+ghost use Rattle.java_ast.specs.Names.{names_lent};
 ghost use Rattle.loop_text.specs.Sites.Reading.{site_of};
 
 use crate::lowering::accumulated::accumulators_of;

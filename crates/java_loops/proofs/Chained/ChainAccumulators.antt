@@ -18,7 +18,7 @@ use Rattle.loop_text.specs.Statements.Fragment.{needed_of}
 use Rattle.loop_text.specs.Kernel.KernelStarts.{Numbered, update_of, update_of_flag, form_found}
 use Rattle.loop_text.specs.Statements.Loops.{is_loop}
 use Rattle.java_loops.specs.Lowering.Lowered.{accumulator_with, accumulator_of, outer_accumulators, flag_here, flags_from, fragment_with, conditions_of}
-use Rattle.loop_text.specs.Statements.Names.{Names}
+use Rattle.java_ast.specs.Names.{Names}
 use Rattle.java_loops.specs.Lowering.Numbering.{Numbers}
 use Rattle.java_loops.specs.Kernel.Setting.{Setting}
 use Rattle.loop_text.specs.Sites.Sites.{Round, Site, in_loop, outside, kernel_body, declared_name}

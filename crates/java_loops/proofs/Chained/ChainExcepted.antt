@@ -11,7 +11,7 @@ use Rattle.loop_text.specs.Kernel.Counting.{is_and}
 use Rattle.loop_text.specs.Kernel.KernelConditions.{condition_of, leaves, is_excepted, compares, best_under, all_best_under, name_where, is_taking}
 use Rattle.loop_text.specs.Kernel.KernelForms.{Form, adds, counts, sums, takes, marks, other, Claim, claim, claims, is_or, is_joined, mentions, Found, found_at, mentioning, best_claims, best_way, only_way, way_found, is_way, has_other_update, takes_best, fits_local, form_of}
 use Rattle.java_loops.specs.Kernel.KernelForms.{fits, fits_target, fits_outer}
-use Rattle.loop_text.specs.Statements.Names.{is_among, names_in}
+use Rattle.java_ast.specs.Names.{is_among, names_in}
 use Rattle.java_loops.specs.Kernel.Setting.{Setting}
 use Rattle.loop_text.specs.declared.sites.bindings.Binding.{Binding}
 use Rattle.loop_text.specs.declared.sites.bindings.Binding.TheVariants.{Row, Local, Outer}
@@ -21,7 +21,7 @@ use Rattle.java_loops.proofs.Chained.ChainQuiet.{under_way}
 use Rattle.java_loops.proofs.Chained.ChainSight.{or_left, or_right}
 use Rattle.java_loops.proofs.Chained.ChainSteady.{PlainBut}
 use Rattle.java_loops.proofs.Chained.ChainSteps.{Step, round_down}
-use Rattle.loop_text.proofs.Trees.Mentions.{among_both}
+use Rattle.java_ast.proofs.Among.{among_both}
 use Rattle.java_loops.proofs.Nested.NestRules.{Unbroken, formed_at, false_from_not}
 use Rattle.java_loops.proofs.Standing.Standing.{site_of}
 use Rattle.java_loops.proofs.Standing.StandingKnown.{Tested, Known}

@@ -28,7 +28,7 @@ use Rattle.tor_terms.specs.declared.term.Operand.TheVariants as operands
 use Rattle.java_loops.specs.Kernel.KernelConditions.{is_operand, broken_operand, broken_comparison, broken_leaf, is_known}
 use Rattle.loop_text.specs.Kernel.KernelConditions.{is_compared, is_row_column, is_in_its_loops, updates_flag_under, may_read, reads_flag}
 use Rattle.loop_text.specs.Kernel.KernelStatements.{updates_local}
-use Rattle.loop_text.specs.Statements.Names.{is_among}
+use Rattle.java_ast.specs.Names.{is_among}
 use Rattle.java_loops.specs.Lowering.Numbering.{same_entry, entry_operand, entries_of, known_of, operand_of, operand_of_column, column_of, loop_number, operand_before, reading_of, bound_reading, flag_reading, starts_true, flag_number, number_where}
 use Rattle.java_loops.specs.Kernel.Setting.{Setting}
 use Rattle.loop_text.specs.Statements.Setting.{is_found}

@@ -25,7 +25,7 @@ use Rattle.tor_terms.specs.Plain.{Form}
 use Rattle.loop_text.specs.Kernel.KernelConditions.{leaves, is_comparing, all_best_under, is_excepted}
 use Rattle.loop_text.specs.Kernel.KernelForms.{Claim, claim, claims, mentions, way_of, turned_where, way_between, way_in, way_found}
 use Rattle.java_loops.specs.Lowering.Lowered.{found_form}
-use Rattle.loop_text.specs.Statements.Names.{is_among, names_in}
+use Rattle.java_ast.specs.Names.{is_among, names_in}
 use Rattle.java_loops.specs.Lowering.Numbering.{loop_number, column_of, both_of, leaf_form, numbers_of, form_of_condition, reading_of, said}
 use Rattle.java_loops.specs.Kernel.Setting.{Setting}
 use Rattle.loop_text.specs.Statements.Setting.{is_variable}

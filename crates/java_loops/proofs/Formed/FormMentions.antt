@@ -11,7 +11,7 @@ use Rattle.java_ast.specs.Tree.{Expression}
 use Rattle.loop_text.specs.Kernel.Counting.{is_and}
 use Rattle.loop_text.specs.Kernel.KernelConditions.{leaves, compares, all_best_under, is_excepted}
 use Rattle.loop_text.specs.Kernel.KernelForms.{is_or, is_joined, Claim, claim, claims, mentions}
-use Rattle.loop_text.specs.Statements.Names.{is_among, names_in}
+use Rattle.java_ast.specs.Names.{is_among, names_in}
 use Rattle.loop_text.specs.Sites.Sites.{Site}
 
 -- ---- Conjuncts and leaves

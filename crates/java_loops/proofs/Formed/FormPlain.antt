@@ -9,7 +9,7 @@ use Rattle.java_mean.proofs.Members.{all_filtered}
 use Rattle.loop_text.specs.Kernel.KernelConditions.{leaves, name_where, is_taking, best_under, all_best_under, compares, is_excepted, condition_of}
 use Rattle.loop_text.specs.Kernel.KernelForms.{form_of, Claim, claims, mentions, Found, found_at, mentioning, best_claims}
 use Rattle.java_loops.specs.Kernel.KernelForms.{broken_forms}
-use Rattle.loop_text.specs.Statements.Names.{is_among, names_in}
+use Rattle.java_ast.specs.Names.{is_among, names_in}
 use Rattle.java_loops.specs.Kernel.Setting.{Setting}
 use Rattle.loop_text.specs.Sites.Sites.{Test, Site, RowColumn, is_under, inner_tests, target_of, is_update}
 use Rattle.java_loops.proofs.Formed.FormExcepted.{any_at, TakesBest, takes_best_at, OnlyFound, found_of, other_under, best_under_is}

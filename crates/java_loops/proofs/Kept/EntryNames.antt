@@ -2,8 +2,7 @@
 use Rattle.std.specs.Prelude.{ℕ, zero, suc, List, [], ◌∷◌, slice_get}
 use Rattle.std.proofs.Common.{◌≡◌, Some, true, ap, ◌∙◌}
 use Rattle.java_ast.specs.Tree.{Expression}
-use Rattle.loop_text.specs.Statements.Names.{is_among, names_in}
-use Rattle.java_loops.specs.Lowering.Lowered.{names_read}
+use Rattle.java_ast.specs.Names.{is_among, names_in, names_read}
 use Rattle.java_loops.specs.Walks.Reads.{Reads}
 use Rattle.java_loops.proofs.Walks.Named.{among_front, among_back, reads_named}
 

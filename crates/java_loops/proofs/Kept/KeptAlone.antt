@@ -12,7 +12,7 @@ use Rattle.java_loops.proofs.Walks.Walks.{closed_reads}
 use Rattle.loop_text.specs.Statements.Fragment.{Fragment, accumulators, counter, is_name, is_live, set_by, StandsIn, first, after, drops, live_or}
 use Rattle.loop_text.specs.Kernel.KernelLoop.{starts_at_zero}
 use Rattle.java_loops.specs.Kernel.KernelLoop.{broken_loop}
-use Rattle.loop_text.specs.Statements.Names.{Names, is_among, mentioned_in}
+use Rattle.java_ast.specs.Names.{Names, is_among, mentioned_in}
 use Rattle.java_loops.specs.Kernel.Setting.{Setting}
 use Rattle.loop_text.specs.Statements.Setting.{touches, first_touching, is_found, given_by}
 use Rattle.java_loops.specs.Meant.KeptNumbers.{kept_set}

@@ -23,9 +23,9 @@ use Rattle.java_loops.specs.Meant.Asking.{spelled_by, IsForStarted, AskForNeeded
 use Rattle.loop_text.specs.Statements.Fragment.{Fragment, are_simple, accumulators, needed_of, mentioned_behind, is_live, counter, is_name, set_by, drops}
 use Rattle.java_loops.specs.Meant.GivesWay.{AnswersItsFragment, MayStandForLoop}
 use Rattle.java_loops.specs.Kernel.Kernel.{broken, lowering}
-use Rattle.java_loops.specs.Lowering.Lowered.{set_in_order, needed_in_order, names_read}
+use Rattle.java_loops.specs.Lowering.Lowered.{set_in_order, needed_in_order}
+use Rattle.java_ast.specs.Names.{names_read, Names, is_among, names_in, mentioned_in, updated_in}
 use Rattle.java_loops.specs.Meant.Members.{AreMatched}
-use Rattle.loop_text.specs.Statements.Names.{Names, is_among, names_in, mentioned_in, updated_in}
 use Rattle.java_loops.specs.Lowering.Numbering.{entries_of}
 use Rattle.java_loops.specs.Kernel.Setting.{Setting, setting_of}
 use Rattle.loop_text.specs.Statements.Setting.{touches, first_touching, is_found}

@@ -19,10 +19,10 @@ use Rattle.java_loops.proofs.Walks.Passing.{same_state}
 use Rattle.loop_text.specs.Statements.Fragment.{Fragment, are_simple, accumulators, counter, is_name, is_live}
 use Rattle.java_loops.specs.Kernel.Kernel.{broken, lowering, setting_at}
 use Rattle.loop_text.specs.Statements.KeptStatements.{AreKept, with_numbers}
-use Rattle.java_loops.specs.Lowering.Lowered.{Lowering, names_read}
+use Rattle.java_loops.specs.Lowering.Lowered.{Lowering}
+use Rattle.java_ast.specs.Names.{names_read, Names, is_among}
 use Rattle.java_loops.specs.Meant.Lowers.{IsLowered, StandForTheRest, IsMeant}
 use Rattle.java_loops.specs.Meant.Means.{GoesOnAsItsFragment, MeansItsLoop, MeansItsLoopThere}
-use Rattle.loop_text.specs.Statements.Names.{Names, is_among}
 use Rattle.java_loops.specs.Kernel.Setting.{Setting, setting_of}
 use Rattle.java_loops.proofs.Kept.KeptAlone.{kept_read, live_uncounted}
 use Rattle.java_loops.specs.Meant.KeptNumbers.{kept_set}

@@ -8,7 +8,7 @@ use Rattle.java_mean.proofs.Puts.{name_same}
 use Rattle.loop_text.specs.Statements.Fragment.{Fragment, IsWanted, IsKept, IsClosed, mentioned, live_or, StandsIn, first, after, is_live, set_by}
 use Rattle.loop_text.specs.Statements.KeptStatements as kept
 use Rattle.loop_text.specs.Statements.KeptStatements.{AreKept}
-use Rattle.loop_text.specs.Statements.Names.{Names, is_among, with_names, mentioned_in, mentioned_among}
+use Rattle.java_ast.specs.Names.{Names, is_among, with_names, mentioned_in, mentioned_among}
 use Rattle.loop_text.specs.Statements.Wanted.{one_where, setting, mentioned_in_all, drops, keeps_visible, mentioned_where, mentioned_by_visible, wanted_first, AreWanted, HasAll, HasFollowing, keeps_setting, kept_numbers}
 use Rattle.java_loops.proofs.Lists.Following.{either, or_left, or_right, among_left, among_right, from_both, with_left, with_right, from_with}
 use Rattle.java_loops.proofs.Kept.Least.{live_wanted, read_wanted}

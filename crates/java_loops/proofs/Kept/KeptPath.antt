@@ -22,8 +22,7 @@ use Rattle.java_loops.specs.Kernel.Kernel.{broken, lowering, setting_there, sett
 use Rattle.java_loops.specs.Kernel.Kernel as kernel
 use Rattle.loop_text.specs.Statements.KeptStatements.{how_many, first_in, first_at, AreKept, with_numbers}
 use Rattle.loop_text.specs.Statements.Loops.{is_loop}
-use Rattle.java_loops.specs.Lowering.Lowered.{names_read}
-use Rattle.loop_text.specs.Statements.Names.{Names, with_names, declared_among, walking, names_of_params}
+use Rattle.java_ast.specs.Names.{names_read, Names, with_names, declared_among, walking, names_of_params}
 use Rattle.java_loops.specs.Kernel.Setting.{Setting, setting_of}
 use Rattle.java_loops.proofs.Kept.KeptAsks.{asks_stand}
 use Rattle.java_loops.specs.Meant.KeptNumbers.{kept_set}

@@ -11,7 +11,7 @@ use Rattle.java_loops.proofs.Walks.EnoughWalks.{all_needed, needed_found}
 use Rattle.loop_text.specs.Statements.Fragment.{Fragment, live_or, set_by, IsWanted, IsKept}
 use Rattle.loop_text.specs.Statements.Fragment as fragment
 use Rattle.loop_text.specs.Statements.KeptStatements.{AreKept, none, keeps, drops, with_numbers}
-use Rattle.loop_text.specs.Statements.Names.{Names}
+use Rattle.java_ast.specs.Names.{Names}
 use Rattle.loop_text.specs.Sites.Sites.{has_number}
 use Rattle.java_loops.proofs.Nested.NestRules.{false_from_not}
 

@@ -2,7 +2,7 @@
 use Rattle.std.specs.Prelude.{ℕ, List, true}
 use Rattle.std.proofs.Common.{◌≡◌}
 use Rattle.std.proofs.lemmas.Bool.{or_left, or_right}
-use Rattle.loop_text.specs.Statements.Names.{Names, is_among}
+use Rattle.java_ast.specs.Names.{Names, is_among}
 use Rattle.loop_text.specs.Statements.Fragment.{Fragment, is_live, IsWanted, based}
 
 pub live_wanted : (f : Fragment) (further : Names) (x : List ℕ) → is_live f x ≡ true → IsWanted f further x

@@ -12,15 +12,14 @@ use Rattle.java_ast.specs.Tree.{Spelled, Statement, Statements, Nothing, Then, P
 use Rattle.java_mean.specs.Places.{param, whole, in_params, in_statements, in_method, in_body}
 use Rattle.java_mean.specs.Rules.{taken}
 use Rattle.java_mean.specs.Types.{type_spelled}
-use Rattle.java_mean.specs.Visible.{Visible, is_visible, declared_in, with_params}
+use Rattle.java_mean.specs.Visible.{Visible, is_visible, declared_in, with_params, names_seen}
 use Rattle.java_mean.specs.WellTyped.{faults_in, faults_in_methods, IsWellTyped}
 use Rattle.java_mean.proofs.Faultless.{none_both, none_in, none_at, only_none, neither, declared_new}
 use Rattle.loop_text.specs.Statements.Fragment.{Fragment, is_name, fragment_of, fragment_where, fragment_here, fragment_in, fragment_at, before_run, counter, needed_of, needed_there, needed_at}
 use Rattle.loop_text.specs.Statements.Loops.{is_loop}
-use Rattle.loop_text.specs.Statements.Names.{Names, is_among, with_names, declared_among, mentioned_among, updated_in, walking, names_of_params}
+use Rattle.java_ast.specs.Names.{Names, is_among, with_names, declared_among, mentioned_among, updated_in, walking, names_of_params}
 use Rattle.java_loops.specs.Lowering.Placing.{fragment_in_method, fragment_once_at}
-use Rattle.java_loops.specs.Lowering.Seen.{names_seen}
-use Rattle.java_loops.proofs.Lists.Sets.{among_with, among_set, seen_declared}
+use Rattle.java_mean.proofs.Sets.{among_with, among_set, seen_declared}
 
 -- ---- Names with the same members
 

@@ -51,7 +51,7 @@ use Rattle.java_loops.proofs.Walks.Visibility.{TypedNext, next_of, TypedParts, t
 use Rattle.loop_text.specs.Statements.Fragment.{is_simple, are_simple, set_by}
 use Rattle.java_loops.specs.Kernel.KernelConditions.{is_scalar_type, is_row_type, is_column_item, is_column_query}
 use Rattle.loop_text.specs.Kernel.KernelConditions.{Asked, behind_setting}
-use Rattle.loop_text.specs.Statements.Names.{is_among, names_among}
+use Rattle.java_ast.specs.Names.{is_among, names_among}
 use Rattle.java_loops.specs.Kernel.Setting.{Setting}
 use Rattle.loop_text.specs.Statements.Setting.{is_found}
 use Rattle.java_loops.proofs.Known.KnownLists.{AsksBy, as_list, as_set, IsAskedFor, IsKnownList, unset_names, arguments_single}

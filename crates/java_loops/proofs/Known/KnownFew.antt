@@ -11,7 +11,7 @@ use Rattle.tor_terms.specs.declared.term.Atom.{Atom}
 use Rattle.tor_terms.specs.declared.term.Atom.TheVariants as atoms
 use Rattle.tor_terms.specs.declared.term.Operand.{Operand}
 use Rattle.tor_terms.specs.Truth.{same_operand}
-use Rattle.loop_text.specs.Statements.Names.{Names, is_among}
+use Rattle.java_ast.specs.Names.{Names, is_among}
 use Rattle.java_loops.specs.Lowering.Numbering.{with_new, number_where, Leaf, all_leaves, known_with, known_among, known_of, entries_of, operand_of, flag_reading, bound_reading, reading_of, compared, same_of, same_atom, atoms_among, numbers_of}
 use Rattle.java_loops.specs.Kernel.Setting.{Setting}
 use Rattle.loop_text.specs.declared.sites.bindings.Binding.{Binding}

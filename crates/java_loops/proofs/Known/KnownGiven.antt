@@ -26,7 +26,7 @@ use Rattle.loop_text.specs.Statements.Fragment.{Fragment, are_simple}
 use Rattle.java_loops.specs.Kernel.KernelConditions.{is_entry, broken_conditions}
 use Rattle.loop_text.specs.Kernel.KernelConditions.{asked_for}
 use Rattle.java_loops.specs.Lowering.Lowered.{numbers_of_arguments}
-use Rattle.loop_text.specs.Statements.Names.{Names}
+use Rattle.java_ast.specs.Names.{Names}
 use Rattle.java_loops.specs.Lowering.Numbering.{with_new, with_all_new, number_where, Leaf, all_leaves, same_entry, entries_in, entries_among, arguments, arguments_asked, with_arguments, known_of, entries_of, entry_number}
 use Rattle.java_loops.specs.Kernel.Setting.{Setting, setting_of}
 use Rattle.loop_text.specs.Sites.Sites.{sites_of}

@@ -15,7 +15,7 @@ use Rattle.java_loops.specs.Walks.Runs.{is_set_in, Gives, declares, assigns}
 use Rattle.loop_text.specs.Statements.Fragment.{set_by, is_simple, are_simple}
 use Rattle.java_loops.specs.Kernel.KernelConditions.{is_scalar_type, is_row_type, is_steady, is_entry, is_column_query, are_entries, is_known_query, is_known}
 use Rattle.loop_text.specs.Kernel.KernelConditions.{Asked, asked_by_query, asked_by, asked_in, first_setting, behind_setting, sets_some, sets_one, asked_in_found, asked_for}
-use Rattle.loop_text.specs.Statements.Names.{Names, is_among, names_in, names_among}
+use Rattle.java_ast.specs.Names.{Names, is_among, names_in, names_among}
 use Rattle.java_loops.specs.Kernel.Setting.{Setting}
 use Rattle.loop_text.specs.Statements.Setting.{is_found}
 use Rattle.java_loops.proofs.Nested.NestRules.{false_from_not}

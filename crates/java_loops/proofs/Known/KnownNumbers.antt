@@ -23,7 +23,7 @@ use Rattle.java_loops.proofs.Walks.Visibility.{past_followed}
 use Rattle.loop_text.specs.Statements.Fragment.{Fragment}
 use Rattle.loop_text.specs.Kernel.KernelConditions.{is_literal, is_row_column, is_compared, Asked, asked_for, behind_setting}
 use Rattle.java_loops.specs.Kernel.KernelConditions.{is_entry, is_operand, broken_operand, broken_comparison, broken_leaf, broken_conditions, is_known, are_entries}
-use Rattle.loop_text.specs.Statements.Names.{Names, is_among}
+use Rattle.java_ast.specs.Names.{Names, is_among}
 use Rattle.java_loops.specs.Lowering.Numbering.{with_new, with_all_new, Leaf, all_leaves, same_entry, entry_operand, entries_in, entries_among, known_with, known_among, arguments, arguments_asked, with_arguments, known_of, entries_of}
 use Rattle.java_loops.specs.Kernel.Setting.{Setting, setting_of}
 use Rattle.loop_text.specs.Sites.Sites.{first_place, place_where, sites_of}

@@ -7,10 +7,10 @@ use Rattle.std.proofs.lemmas.List.{take-append-le}
 use Rattle.java_ast.specs.Tree.{Statement, Statements, Nothing, Then}
 use Rattle.java_mean.proofs.Puts.{names_equal, name_same}
 use Rattle.loop_text.specs.Statements.Fragment.{Fragment, IsWanted, mentioned, StandsIn, first, after, set_by}
-use Rattle.loop_text.specs.Statements.Names.{Names, is_among, with_name, with_names, mentioned_in, mentioned_among}
+use Rattle.java_ast.specs.Names.{Names, is_among, with_name, with_names, mentioned_in, mentioned_among}
 use Rattle.loop_text.specs.Statements.Wanted.{one_where, setting, mentioned_in_all, drops, following, AreWanted, HasAll, HasFollowing}
-use Rattle.loop_text.proofs.Trees.Mentions.{among_both}
-use Rattle.java_loops.proofs.Lists.Sets.{among_with}
+use Rattle.java_ast.proofs.Among.{among_both}
+use Rattle.java_mean.proofs.Sets.{among_with}
 
 -- ---- Tests
 

@@ -4,7 +4,7 @@ use Rattle.std.specs.List.{list_any}
 use Rattle.java_ast.specs.Tree.{Expression, Statements}
 use Rattle.tor_terms.specs.declared.term.Atom.{Atom}
 use Rattle.loop_text.specs.Kernel.KernelConditions.{asked_for}
-use Rattle.loop_text.specs.Statements.Names.{Names}
+use Rattle.java_ast.specs.Names.{Names}
 use Rattle.java_loops.specs.Lowering.Numbering.{with_new, with_all_new, Leaf, same_entry, entries_in, entries_among, arguments_asked, with_arguments, reading_of, same_atom, atoms_among}
 use Rattle.java_loops.specs.Kernel.Setting.{Setting}
 use Rattle.loop_text.specs.Sites.Sites.{Site}

@@ -15,7 +15,7 @@ use Rattle.java_loops.specs.Kernel.Kernel as paths
 use Rattle.loop_text.specs.Kernel.KernelStarts.{Numbered, update_of}
 use Rattle.java_loops.specs.Lowering.Lowered.{conditions_of, needed_in_order}
 use Rattle.java_loops.specs.Meant.Means.{MeansItsLoopThere}
-use Rattle.loop_text.specs.Statements.Names.{is_among}
+use Rattle.java_ast.specs.Names.{is_among}
 use Rattle.java_loops.specs.Lowering.Numbering.{numbers_of}
 use Rattle.java_loops.specs.Kernel.Setting.{Setting, setting_of}
 use Rattle.loop_text.specs.Sites.Sites.{is_some}

@@ -14,7 +14,7 @@ use Rattle.loop_text.specs.Statements.Fragment.{needed_of}
 use Rattle.loop_text.specs.Kernel.KernelForms.{Taken, whole, Form, adds, other, adds_taken, sums_column, takes_column, literal_form, assigned_form, form_of, counts}
 use Rattle.java_loops.specs.Kernel.KernelForms.{is_distinct}
 use Rattle.loop_text.specs.Kernel.KernelStarts.{Numbered, update_of, form_found, may_start}
-use Rattle.loop_text.specs.Statements.Names.{is_among}
+use Rattle.java_ast.specs.Names.{is_among}
 use Rattle.java_loops.specs.Kernel.Setting.{Setting}
 use Rattle.loop_text.specs.Statements.Setting.{is_add, is_variable, is_literal_number}
 use Rattle.loop_text.specs.declared.sites.bindings.Binding.TheVariants.{Outer}

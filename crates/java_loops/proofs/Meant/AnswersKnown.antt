@@ -15,7 +15,7 @@ use Rattle.java_mean.specs.World.{World}
 use Rattle.java_loops.proofs.Walks.Passing.{Went, went, same_ok}
 use Rattle.java_loops.specs.Meant.Members.{AreMatched, HaveSameMembers}
 use Rattle.java_loops.specs.Meant.Means.{HasScalar, HasScalars, IsAnswered}
-use Rattle.loop_text.specs.Statements.Names.{Names}
+use Rattle.java_ast.specs.Names.{Names}
 use Rattle.java_loops.specs.Lowering.Numbering.{arguments}
 use Rattle.java_loops.specs.Kernel.Setting.{Setting}
 use Rattle.java_loops.proofs.Known.KnownAnswers.{kept_once, HoldsKnown}

@@ -12,7 +12,7 @@ use Rattle.java_loops.specs.Meant.GivesWay.{AnswersItsFragment, AnswersWithAnswe
 use Rattle.java_loops.specs.Kernel.Kernel.{lowering}
 use Rattle.java_loops.specs.Meant.Members.{AreMatched, HaveSameMembers, SameButForOrder}
 use Rattle.java_loops.specs.Meant.Means.{IsAnswered, IsWholeAnswer}
-use Rattle.loop_text.specs.Statements.Names.{Names}
+use Rattle.java_ast.specs.Names.{Names}
 use Rattle.java_loops.specs.Lowering.Numbering.{numbers_of}
 use Rattle.java_loops.specs.Kernel.Setting.{Setting}
 use Rattle.java_loops.proofs.Meant.MembersWorlds.{members_decide, members_fit}

@@ -21,7 +21,7 @@ use Rattle.loop_text.specs.Statements.Fragment.{Fragment, accumulators, needed_o
 use Rattle.java_loops.specs.Kernel.Kernel.{lowering}
 use Rattle.loop_text.specs.Kernel.KernelStarts.{Numbered, update_of, update_of_flag, form_found}
 use Rattle.java_loops.specs.Lowering.Lowered.{conditions_of, accumulator_with, accumulator_of, outer_accumulators, flag_here, flags_from, set_in_order, needed_in_order}
-use Rattle.loop_text.specs.Statements.Names.{Names, is_among}
+use Rattle.java_ast.specs.Names.{Names, is_among}
 use Rattle.java_loops.specs.Lowering.Numbering.{numbers_of}
 use Rattle.java_loops.specs.Kernel.Setting.{Setting}
 use Rattle.loop_text.specs.Sites.Sites.{Round, Site, in_loop, in_branch, with_site, outside, is_some, walk, walk_all, kernel_body, declared_name, sites_of}

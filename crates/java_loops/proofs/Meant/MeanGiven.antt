@@ -25,7 +25,7 @@ use Rattle.java_loops.specs.Walks.Matched.{entry_value, HoldsScalar, HoldsScalar
 use Rattle.java_loops.specs.Lowering.Lowered.{type_of_entry}
 use Rattle.java_loops.specs.Meant.Members.{AreMatched}
 use Rattle.java_loops.specs.Meant.Means.{HasScalar, HasScalars}
-use Rattle.loop_text.specs.Statements.Names.{Names}
+use Rattle.java_ast.specs.Names.{Names}
 use Rattle.java_loops.specs.Lowering.Numbering.{number_where, same_entry, entries_of, known_of}
 use Rattle.java_loops.specs.Kernel.Setting.{Setting}
 use Rattle.java_loops.proofs.Known.KnownAnswers.{many_of, scalars_are, HoldsKnown}

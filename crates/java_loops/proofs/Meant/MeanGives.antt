@@ -24,7 +24,7 @@ use Rattle.java_loops.specs.Meant.GivesWay.{AreAnswers, MayStandForLoop}
 use Rattle.java_loops.specs.Lowering.Lowered.{needed_in_order}
 use Rattle.java_loops.specs.Meant.Members.{AreMatched}
 use Rattle.java_loops.specs.Meant.Means.{HasValue, EndsAsItsFragment, GoesOnAsItsFragment, MeansItsLoop}
-use Rattle.loop_text.specs.Statements.Names.{Names}
+use Rattle.java_ast.specs.Names.{Names}
 use Rattle.java_loops.specs.Kernel.Setting.{Setting}
 
 -- ---- Types behind the loop

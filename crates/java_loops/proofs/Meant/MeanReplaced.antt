@@ -23,7 +23,7 @@ use Rattle.loop_text.specs.Statements.Fragment.{Fragment, accumulators, needed_o
 use Rattle.java_loops.specs.Meant.GivesWay.{MayStandForLoop}
 use Rattle.java_loops.specs.Kernel.Kernel.{broken}
 use Rattle.java_loops.specs.Lowering.Lowered.{needed_in_order}
-use Rattle.loop_text.specs.Statements.Names.{Names}
+use Rattle.java_ast.specs.Names.{Names}
 use Rattle.java_loops.specs.Kernel.Setting.{Setting, setting_of}
 use Rattle.loop_text.specs.Sites.Sites.{is_some}
 use Rattle.java_loops.proofs.Meant.MeanChains.{HasChains, IsNeeded, all_needed}

@@ -5,7 +5,7 @@ use Rattle.java_loops.specs.Walks.ChainLaws.{IsTurned}
 use Rattle.loop_text.specs.Statements.Fragment.{needed_of}
 use Rattle.java_loops.specs.Kernel.Kernel.{lowering}
 use Rattle.loop_text.specs.Kernel.KernelStarts.{Numbered, update_of}
-use Rattle.loop_text.specs.Statements.Names.{is_among}
+use Rattle.java_ast.specs.Names.{is_among}
 use Rattle.java_loops.specs.Lowering.Numbering.{numbers_of}
 use Rattle.java_loops.specs.Kernel.Setting.{Setting}
 use Rattle.loop_text.specs.Sites.Sites.{kernel_body}

@@ -37,7 +37,7 @@ use Rattle.loop_text.specs.Kernel.Counting.{Counting, counting}
 use Rattle.loop_text.specs.Kernel.KernelLoop.{counting_in, limit_of}
 use Rattle.loop_text.specs.Statements.Loops.{is_loop}
 use Rattle.java_loops.specs.Lowering.Lowered.{list_of, lists_of}
-use Rattle.loop_text.specs.Statements.Names.{is_among, updated_in}
+use Rattle.java_ast.specs.Names.{is_among, updated_in}
 use Rattle.java_loops.specs.Kernel.Setting.{Setting}
 use Rattle.loop_text.specs.Sites.Sites.{Site, outside, is_some, counted_row, without_first, without_last, kernel_body, sites_of}
 use Rattle.java_loops.proofs.Typing.BoundTyping.{TypedNext, typed_next, TypedWhile, typed_while, TypedDeclare, typed_declare, seen_with, swapped}
@@ -49,7 +49,7 @@ use Rattle.java_loops.proofs.Nested.NestNames.{among_filtered}
 use Rattle.java_loops.proofs.Nested.NestRules.{Unbroken, false_from_not}
 use Rattle.java_loops.proofs.Nested.NestSight.{is_set_outside}
 use Rattle.java_loops.proofs.Placing.PlaceLoop.{CountsRightly, IsEstablished}
-use Rattle.java_loops.proofs.Lists.Sets.{among_set}
+use Rattle.java_mean.proofs.Sets.{among_set}
 use Rattle.java_loops.proofs.Standing.Standing.{site_of}
 use Rattle.java_loops.proofs.Standing.StandingSites.{loop_first}
 use Rattle.java_loops.proofs.Starts.StartCounting.{IsCountingBody}

@@ -24,7 +24,7 @@ use Rattle.java_loops.specs.Kernel.Kernel.{broken, lowering, setting_there, sett
 use Rattle.java_loops.specs.Kernel.Kernel as paths
 use Rattle.java_loops.specs.Lowering.Lowered.{needed_in_order}
 use Rattle.java_loops.specs.Meant.Means.{GoesOnAsItsFragment, MeansItsLoop, MeansItsLoopThere}
-use Rattle.loop_text.specs.Statements.Names.{is_among}
+use Rattle.java_ast.specs.Names.{is_among}
 use Rattle.java_loops.specs.Kernel.Setting.{Setting, setting_of}
 use Rattle.loop_text.specs.Sites.Sites.{kernel_body, is_some}
 use Rattle.java_loops.proofs.Listed.ListedRows.{IsSeenFragment, fragment_seen}

@@ -19,8 +19,8 @@ use Rattle.loop_text.specs.Statements.Fragment.{Fragment, accumulators, declared
 use Rattle.loop_text.specs.Kernel.KernelLists.{source_counted, source_past}
 use Rattle.loop_text.specs.Kernel.Counting.{Counting, counting}
 use Rattle.loop_text.specs.Kernel.KernelLoop.{is_table, is_item, is_while, takes_row, begins, ends}
-use Rattle.loop_text.specs.Statements.Names as names
-use Rattle.loop_text.specs.Statements.Names.{updated_in}
+use Rattle.java_ast.specs.Names as names
+use Rattle.java_ast.specs.Names.{updated_in}
 use Rattle.java_loops.specs.Kernel.Setting.{Setting}
 use Rattle.loop_text.specs.Statements.Setting.{is_found, is_variable}
 use Rattle.loop_text.specs.declared.sites.bindings.Binding.TheVariants.{Row, Local, Outer}
@@ -36,7 +36,7 @@ use Rattle.java_loops.proofs.Nested.NestRules.{Unbroken, listed_at, false_from_n
 use Rattle.java_loops.proofs.Nested.NestSight.{is_set_outside, Sight, Binds, row_sight}
 use Rattle.java_loops.proofs.Nested.NestStatements.{row_sets, new_unlisted, each_binds, first_no_break, nests_of}
 use Rattle.java_loops.proofs.Nested.NestUpdates.{all_set_updated, updated_accumulates}
-use Rattle.java_loops.proofs.Lists.Sets.{among_set}
+use Rattle.java_mean.proofs.Sets.{among_set}
 use Rattle.java_loops.proofs.Standing.Standing.{site_of, AllStand}
 use Rattle.java_loops.proofs.Standing.StandingKnown.{Known, site_known}
 use Rattle.java_loops.proofs.Standing.StandingSites.{body_stands, loop_first}

@@ -21,7 +21,7 @@ use Rattle.loop_text.specs.Kernel.Counting.{is_and}
 use Rattle.loop_text.specs.Kernel.KernelConditions.{leaves, name_where, is_taking, best_under, all_best_under, compares, is_excepted, condition_of}
 use Rattle.loop_text.specs.Kernel.KernelForms.{Form, adds, counts, sums, takes, marks, other, form_of, is_or, Claim, claims, mentions, Found, found_at, mentioning, best_claims, way_of, turned_where, way_between, way_in, way_found, only_way, best_way, has_other_update, is_way, takes_best, fits_local}
 use Rattle.java_loops.specs.Kernel.KernelForms.{fits, fits_outer, fits_target}
-use Rattle.loop_text.specs.Statements.Names.{is_among, names_in}
+use Rattle.java_ast.specs.Names.{is_among, names_in}
 use Rattle.java_loops.specs.Kernel.Setting.{Setting}
 use Rattle.loop_text.specs.Statements.Setting.{is_variable, is_found}
 use Rattle.loop_text.specs.declared.sites.bindings.Binding.{Binding}

@@ -17,7 +17,7 @@ use Rattle.tor_terms.specs.Same.{same_numbers}
 use Rattle.java_loops.specs.Kernel.KernelConditions.{is_scalar_type, is_row_type, is_steady, is_entry_row, is_entry, is_operand, broken_operand, broken_comparison, is_known, broken_leaf}
 use Rattle.loop_text.specs.Kernel.KernelConditions.{is_outer, is_literal, is_row_column, reads_flag, updates_flag_under, is_in_its_loops, is_compared}
 use Rattle.loop_text.specs.Kernel.KernelStatements.{updates_local}
-use Rattle.loop_text.specs.Statements.Names.{is_among, updated_in}
+use Rattle.java_ast.specs.Names.{is_among, updated_in}
 use Rattle.java_loops.specs.Kernel.Setting.{Setting}
 use Rattle.loop_text.specs.Statements.Setting.{is_found}
 use Rattle.loop_text.specs.declared.sites.bindings.Binding.{Binding}

@@ -11,14 +11,14 @@ use Rattle.loop_text.specs.Statements.Fragment.{Fragment, accumulators, declared
 use Rattle.java_loops.specs.Kernel.KernelConditions.{is_known}
 use Rattle.loop_text.specs.Kernel.KernelLists.{source_of}
 use Rattle.loop_text.specs.Kernel.KernelLoop.{begins, ends, goes_on, counts_in, starts_at_zero, counts_rightly, is_kernel_loop}
-use Rattle.loop_text.specs.Statements.Names.{is_among, mentioned_among, updated_in, updated_among}
+use Rattle.java_ast.specs.Names.{is_among, mentioned_among, updated_in, updated_among}
 use Rattle.java_loops.specs.Kernel.Setting.{Setting}
 use Rattle.loop_text.specs.Statements.Setting.{is_next_of, is_found}
 use Rattle.loop_text.specs.Sites.Sites.{without_first, without_last}
 use Rattle.java_loops.proofs.Nested.NestNames.{among_filtered, among_left, among_right}
 use Rattle.java_loops.proofs.Nested.NestRules.{Unbroken, loop_parts}
 use Rattle.java_loops.proofs.Nested.NestSight.{is_set_outside}
-use Rattle.java_loops.proofs.Lists.Sets.{among_set}
+use Rattle.java_mean.proofs.Sets.{among_set}
 use Rattle.java_loops.proofs.Nested.NestStarts.{Starts, accumulator_starts, counter_starts, source_not_started, known_not_started}
 
 -- ---- Loops

@@ -14,7 +14,7 @@ use Rattle.loop_text.specs.Kernel.Counting.{is_and}
 use Rattle.loop_text.specs.Kernel.KernelConditions.{leaves}
 use Rattle.java_loops.specs.Kernel.KernelConditions.{broken_leaves, broken_unless_excepted}
 use Rattle.loop_text.specs.Kernel.KernelForms.{is_or, is_joined, Claim, claim, claims}
-use Rattle.loop_text.specs.Statements.Names.{is_among, names_in}
+use Rattle.java_ast.specs.Names.{is_among, names_in}
 use Rattle.java_loops.specs.Kernel.Setting.{Setting}
 use Rattle.java_loops.proofs.Nested.NestConditions.{typed_binary, typed_not}
 use Rattle.java_loops.proofs.Nested.NestNames.{among_left, among_right}

@@ -3,8 +3,8 @@ use Rattle.std.proofs.Common.{◌≡◌, ℕ, Bool, true, false, ◌||◌, List,
 use Rattle.std.specs.List.{filter, list_any}
 use Rattle.std.proofs.lemmas.Bool.{or_cases, or_parts, or_left, or_right}
 use Rattle.java_mean.proofs.Puts.{names_equal}
-use Rattle.loop_text.specs.Statements.Names.{Names, is_among}
-use Rattle.loop_text.proofs.Trees.Mentions.{among_both}
+use Rattle.java_ast.specs.Names.{Names, is_among}
+use Rattle.java_ast.proofs.Among.{among_both}
 
 -- ---- Filters
 

@@ -13,7 +13,7 @@ use Rattle.java_loops.specs.Walks.Nests.{with_name, is_among, seen, set_here, ac
 use Rattle.java_loops.specs.Walks.Reads.{Set}
 use Rattle.loop_text.specs.Statements.Fragment.{accumulators, counter, is_name}
 use Rattle.loop_text.specs.Statements.Loops.{is_loop}
-use Rattle.loop_text.specs.Statements.Names as names
+use Rattle.java_ast.specs.Names as names
 use Rattle.java_loops.specs.Kernel.Setting.{Setting}
 use Rattle.loop_text.specs.declared.sites.bindings.Binding.{Binding}
 use Rattle.loop_text.specs.declared.sites.bindings.Binding.TheVariants.{Row, Local, Outer}

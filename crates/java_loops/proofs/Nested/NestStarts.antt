@@ -13,7 +13,7 @@ use Rattle.loop_text.specs.Kernel.KernelLists.{Source, fetched, source_after, so
 use Rattle.loop_text.specs.Kernel.KernelLoop.{is_zero_given, sets_zero, starts_at_zero}
 use Rattle.loop_text.specs.Kernel.KernelStarts.{may_start, may_start_so, form_found, update_of, starts, broken_starts_of, broken_flag_start}
 use Rattle.loop_text.specs.Kernel.KernelStatements.{is_none}
-use Rattle.loop_text.specs.Statements.Names.{Names, is_among, mentioned_in}
+use Rattle.java_ast.specs.Names.{Names, is_among, mentioned_in}
 use Rattle.java_loops.specs.Kernel.Setting.{Setting}
 use Rattle.loop_text.specs.Statements.Setting.{touches, first_touching, behind_touching, touched_again, given_by, is_found, is_literal_number}
 use Rattle.loop_text.specs.Sites.Sites.{Site, place_of, place_where, first_broken}

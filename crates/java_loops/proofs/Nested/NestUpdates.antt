@@ -9,12 +9,12 @@ use Rattle.java_loops.specs.Walks.Effects.{sets, all_set}
 use Rattle.loop_text.specs.Statements.Fragment.{Fragment, accumulators, declared_in_run, counter, is_outer, is_name}
 use Rattle.loop_text.specs.Kernel.KernelLoop.{begins, ends}
 use Rattle.loop_text.specs.Kernel.KernelStatements.{is_allowed}
-use Rattle.loop_text.specs.Statements.Names.{is_among, names_in, mentioned_in, mentioned_among, updated_in, updated_among}
+use Rattle.java_ast.specs.Names.{is_among, names_in, mentioned_in, mentioned_among, updated_in, updated_among}
 use Rattle.java_loops.specs.Kernel.Setting.{Setting}
 use Rattle.loop_text.specs.Sites.Sites.{Round, Site, without_first, before_last, without_last, kernel_body}
 use Rattle.java_loops.proofs.Nested.NestCounter.{Kind, each, counts, counted_name, behind_first_updated}
 use Rattle.java_loops.proofs.Nested.NestNames.{among_filter, among_left, among_right, among_either}
-use Rattle.java_loops.proofs.Lists.Sets.{among_set}
+use Rattle.java_mean.proofs.Sets.{among_set}
 use Rattle.java_loops.proofs.Nested.NestRules.{Unbroken, allowed_at, false_from_not}
 use Rattle.java_loops.proofs.Standing.Standing.{is_single, site_of, Stands, single, when, choose, walks, repeats, AllStand, nothing, next}
 

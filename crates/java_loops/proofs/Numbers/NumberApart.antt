@@ -24,7 +24,7 @@ use Rattle.loop_text.specs.Kernel.KernelConditions.{leaves, is_excepted, conditi
 use Rattle.java_loops.specs.Kernel.KernelConditions.{is_known}
 use Rattle.loop_text.specs.Kernel.KernelLists.{source_of, source_in}
 use Rattle.loop_text.specs.Statements.Loops.{is_loop}
-use Rattle.loop_text.specs.Statements.Names.{Names, is_among, updated_in}
+use Rattle.java_ast.specs.Names.{Names, is_among, updated_in}
 use Rattle.java_loops.specs.Lowering.Numbering.{Leaf, leaves_kept, leaves_of, all_leaves, loop_number, same_entry, number_where, known_with, known_among, known_of, entries_of}
 use Rattle.java_loops.specs.Kernel.Setting.{Setting, setting_of}
 use Rattle.loop_text.specs.Statements.Setting.{is_found}
@@ -48,7 +48,7 @@ use Rattle.java_loops.specs.Walks.Effects.{all_set}
 use Rattle.java_loops.proofs.Numbers.NumberEntries.{IsEntryFrom, from_variable, from_field, entry_from, all_leaves_by}
 use Rattle.java_loops.proofs.Numbers.NumberLists.{found_where, filtered_at}
 use Rattle.java_loops.proofs.Numbers.NumberSame.{NamesVariable, named, entry_variable, NamesField, named_field, entry_field_named}
-use Rattle.java_loops.proofs.Lists.Sets.{among_set}
+use Rattle.java_mean.proofs.Sets.{among_set}
 use Rattle.java_loops.proofs.Numbers.Numberings.{loop_sites, source_of_list, source_of_loop, source_of_site, nowhere, entry_named, numbering, Sighted}
 
 -- ---- None of a list

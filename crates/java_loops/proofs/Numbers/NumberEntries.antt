@@ -12,7 +12,7 @@ use Rattle.java_mean.specs.declared.types.JavaType.TheVariants.{Of, Listed, Dist
 use Rattle.java_mean.specs.declared.types.Single.TheVariants.{ScalarOf, RowOf}
 use Rattle.java_loops.specs.Kernel.KernelConditions.{is_entry, is_entry_row, is_row_type, is_scalar_type, is_steady}
 use Rattle.loop_text.specs.Kernel.KernelConditions.{is_outer, condition_of}
-use Rattle.loop_text.specs.Statements.Names.{is_among, updated_in}
+use Rattle.java_ast.specs.Names.{is_among, updated_in}
 use Rattle.java_loops.specs.Lowering.Numbering.{Leaf, leaves_of, leaves_from, all_leaves}
 use Rattle.java_loops.specs.Kernel.Setting.{Setting}
 use Rattle.loop_text.specs.Sites.Sites.{Site, binding_at}

@@ -9,7 +9,7 @@ use Rattle.java_mean.proofs.Puts.{name_same}
 use Rattle.tor_terms.specs.declared.term.Atom.{Atom}
 use Rattle.loop_text.specs.Kernel.KernelConditions.{leaves, asked_for, is_excepted, condition_of}
 use Rattle.java_loops.specs.Kernel.KernelConditions.{broken_leaf, broken_unless_excepted, broken_leaves, broken_condition, broken_condition_at, broken_conditions}
-use Rattle.loop_text.specs.Statements.Names.{Names, is_among}
+use Rattle.java_ast.specs.Names.{Names, is_among}
 use Rattle.java_loops.specs.Lowering.Numbering.{with_new, with_all_new, Leaf, leaves_kept, leaves_of, leaves_from, all_leaves, same_entry, entries_in, entries_among, known_with, known_among, arguments_asked, with_arguments, known_of, entries_of, reading_of, same_atom, atoms_among, numbers_of}
 use Rattle.java_loops.specs.Kernel.Setting.{Setting}
 use Rattle.loop_text.specs.Sites.Sites.{Site}

@@ -11,7 +11,7 @@ use Rattle.java_ast.specs.Tree as tree
 use Rattle.loop_text.specs.Statements.Fragment.{Fragment, fragment_of, fragment_where, fragment_here, fragment_in, fragment_at, before_run}
 use Rattle.loop_text.specs.Statements.KeptStatements.{how_many, first_in, first_at}
 use Rattle.loop_text.specs.Statements.Loops.{is_loop, loops_in, loops_among, loops_of_methods, loops_of}
-use Rattle.loop_text.specs.Statements.Names.{Names, with_names, declared_among, walking, names_of_params}
+use Rattle.java_ast.specs.Names.{Names, with_names, declared_among, walking, names_of_params}
 use Rattle.loop_text.specs.Statements.Walking.{IsLoopOf}
 use Rattle.java_loops.proofs.Valid.ValidNumbers.{numbers_self, numbers_true}
 

@@ -11,7 +11,7 @@ use Rattle.java_loops.specs.Walks.Places.{past, inside, place_in, of_branch, bra
 use Rattle.java_loops.specs.Walks.Replacing.{run_and_loop}
 use Rattle.loop_text.specs.Statements.Fragment.{Fragment, are_simple, before_run, run_of, fragment_of, fragment_where, fragment_here, fragment_in, fragment_at}
 use Rattle.loop_text.specs.Statements.Loops.{is_loop}
-use Rattle.loop_text.specs.Statements.Names.{Names, with_name, with_names, declared_by, declared_among, walking, names_of_params}
+use Rattle.java_ast.specs.Names.{Names, with_name, with_names, declared_by, declared_among, walking, names_of_params}
 use Rattle.java_loops.proofs.Kept.Longest.{run_splits, run_is_simple}
 
 -- ---- Places

@@ -28,7 +28,7 @@ use Rattle.java_loops.specs.Kernel.KernelLists.{broken_lists, broken_depth}
 use Rattle.java_loops.specs.Kernel.KernelLoop.{broken_loop}
 use Rattle.java_loops.specs.Kernel.KernelStarts.{broken_starts}
 use Rattle.java_loops.specs.Kernel.KernelStatements.{broken_statements, broken_updates}
-use Rattle.loop_text.specs.Statements.Names.{is_among}
+use Rattle.java_ast.specs.Names.{is_among}
 use Rattle.java_loops.specs.Kernel.Setting.{Setting, setting_of}
 use Rattle.loop_text.specs.Sites.Sites.{Site, outside}
 use Rattle.java_loops.proofs.Known.KnownGiven.{AreGiven, fragment_is_given}

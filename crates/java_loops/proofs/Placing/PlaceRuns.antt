@@ -7,7 +7,7 @@ use Rattle.java_mean.proofs.Puts.{names_equal}
 use Rattle.java_loops.specs.Walks.Runs.{is_set_in, Gives, declares, assigns}
 use Rattle.std.proofs.lemmas.Bool.{or_parts}
 use Rattle.loop_text.specs.Statements.Fragment.{set_by}
-use Rattle.loop_text.specs.Statements.Names.{is_among, mentioned_in}
+use Rattle.java_ast.specs.Names.{is_among, mentioned_in}
 use Rattle.loop_text.specs.Statements.Setting.{touches, first_touching, given_by}
 
 -- ---- Statements that mention a variable

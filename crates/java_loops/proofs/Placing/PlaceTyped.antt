@@ -24,10 +24,10 @@ use Rattle.java_loops.proofs.Walks.Visibility.{TypedNext, next_of, TypedParts, t
 use Rattle.loop_text.specs.Statements.Fragment.{Fragment, fragment_at, declared_in_run}
 use Rattle.java_loops.specs.Kernel.Kernel as kernel
 use Rattle.java_loops.specs.Kernel.Kernel.{types_in_method}
-use Rattle.loop_text.specs.Statements.Names.{Names, is_among, declared_among, names_of_params}
+use Rattle.java_ast.specs.Names.{Names, is_among, declared_among, names_of_params}
 use Rattle.loop_text.specs.Sites.Sites.{is_some}
 use Rattle.java_loops.proofs.Placing.Place.{behind_all, fill_behind, IsPlaced, IsPlacedIn, placed_at}
-use Rattle.java_loops.proofs.Lists.Sets.{among_set}
+use Rattle.java_mean.proofs.Sets.{among_set}
 use Rattle.java_loops.proofs.Typing.Visible.{AreNamed, typed_past_named, named_at, params_named}
 
 -- ---- Types by the number of a place

@@ -32,7 +32,7 @@ use Rattle.loop_text.specs.Kernel.KernelStarts.{update_of, update_of_flag, form_
 use Rattle.java_loops.specs.Kernel.KernelStarts.{broken_starts}
 use Rattle.loop_text.specs.Kernel.KernelStatements.{is_none}
 use Rattle.java_loops.specs.Lowering.Lowered.{literal_given, literal_by}
-use Rattle.loop_text.specs.Statements.Names.{Names, is_among}
+use Rattle.java_ast.specs.Names.{Names, is_among}
 use Rattle.java_loops.specs.Kernel.Setting.{Setting}
 use Rattle.loop_text.specs.Statements.Setting.{touches, first_touching, is_found, given_by, is_number, is_literal_number}
 use Rattle.loop_text.specs.Sites.Sites.{Site, place_of, place_where, first_broken}

@@ -22,7 +22,7 @@ use Rattle.java_mean.proofs.Puts.{names_equal}
 use Rattle.java_loops.specs.Walks.Counting.{below_size, below_count, Counts, by_size, size_first, count_first, CountPlaces, counting_body}
 use Rattle.loop_text.specs.Kernel.Counting.{is_and, is_less, Counting, Cap, counting_of, counted_below, counted, cap_of_number, cap_of, capped_below, capped, both_bound, either_counting, counting}
 use Rattle.loop_text.specs.Kernel.KernelLoop.{is_table, is_item, takes_row, goes_on, ends, counts_in}
-use Rattle.loop_text.specs.Statements.Names.{is_among, mentioned_among}
+use Rattle.java_ast.specs.Names.{is_among, mentioned_among}
 use Rattle.loop_text.specs.Statements.Setting.{is_add, is_literal_number, is_variable, is_next_of}
 use Rattle.loop_text.specs.Sites.Sites.{without_first, without_last, before_last}
 use Rattle.java_loops.proofs.Nested.NestRules.{false_from_not}

@@ -17,7 +17,7 @@ use Rattle.java_mean.proofs.Puts.{names_equal, name_same}
 use Rattle.java_mean.proofs.TypedRuns.{extends_statement}
 use Rattle.java_mean.specs.Mentions.{EachReturned}
 use Rattle.java_loops.specs.Walks.Reads.{other_than, Reads, Within, AllWithin, touches, all_touch}
-use Rattle.loop_text.specs.Statements.Names.{Names, is_among, names_in, names_of_returned, mentioned_in, mentioned_among}
+use Rattle.java_ast.specs.Names.{Names, is_among, names_in, names_of_returned, mentioned_in, mentioned_among}
 use Rattle.java_loops.proofs.Walks.Named.{reads_named}
 use Rattle.java_loops.proofs.Starts.StartCounting.{AreCounted}
 

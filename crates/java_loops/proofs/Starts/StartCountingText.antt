@@ -27,12 +27,12 @@ use Rattle.loop_text.specs.Kernel.KernelStarts.{update_of, form_found}
 use Rattle.java_loops.specs.Kernel.KernelStarts.{broken_starts}
 use Rattle.loop_text.specs.Kernel.Counting.{Counting, counting, either_counting}
 use Rattle.loop_text.specs.Kernel.KernelStatements.{is_allowed}
-use Rattle.loop_text.specs.Statements.Names.{Names, is_among, updated_in, updated_among}
+use Rattle.java_ast.specs.Names.{Names, is_among, updated_in, updated_among}
 use Rattle.java_loops.specs.Kernel.Setting.{Setting}
 use Rattle.loop_text.specs.Statements.Setting.{touches as mentions, first_touching, given_by}
 use Rattle.loop_text.specs.Sites.Sites.{Site, Round, in_loop, outside, is_some, sites_of, without_first, without_last, kernel_body}
 use Rattle.java_loops.proofs.Nested.NestRules.{Unbroken, allowed_at}
-use Rattle.java_loops.proofs.Lists.Sets.{among_set}
+use Rattle.java_mean.proofs.Sets.{among_set}
 use Rattle.java_loops.proofs.Standing.Standing.{is_single, site_of, Stands, single, when as at_when, choose as at_choose, walks, repeats, AllStand, nothing as none_stand, next as one_stands}
 use Rattle.java_loops.proofs.Standing.StandingSites.{body_stands}
 use Rattle.java_loops.proofs.Starts.Start.{IsStarted, accumulator_started, IsStart, start_of}

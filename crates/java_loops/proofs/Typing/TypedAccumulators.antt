@@ -15,7 +15,7 @@ use Rattle.java_mean.specs.WellTyped.{IsWellTyped}
 use Rattle.kernel_lang.specs.Plain.{Accumulator}
 use Rattle.loop_text.specs.Kernel.KernelStarts.{Numbered, update_of, update_of_flag, form_found, may_start}
 use Rattle.loop_text.specs.Statements.Fragment.{Fragment, needed_of}
-use Rattle.loop_text.specs.Statements.Names.{Names, is_among}
+use Rattle.java_ast.specs.Names.{Names, is_among}
 use Rattle.loop_text.specs.Sites.Sites.{Site, declared_name}
 use Rattle.java_loops.specs.Kernel.Kernel.{broken, setting_at}
 use Rattle.java_loops.specs.Kernel.Setting.{Setting, setting_of}

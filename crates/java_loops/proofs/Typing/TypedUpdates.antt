@@ -32,7 +32,7 @@ use Rattle.loop_text.specs.Kernel.KernelStarts.{Numbered, update_of, form_found,
 use Rattle.java_loops.specs.Lowering.Collected.{row_of_list, scalar_in_column, element_type, collected_type}
 use Rattle.java_loops.specs.Lowering.Lowered.{added, lists_of, update_with}
 use Rattle.java_loops.specs.Lowering.Lowered as lowered
-use Rattle.loop_text.specs.Statements.Names.{is_among}
+use Rattle.java_ast.specs.Names.{is_among}
 use Rattle.java_loops.specs.Lowering.Numbering.{loop_number, table_of_loop, table_of_site, column_of, operand_of_column}
 use Rattle.java_loops.specs.Kernel.Setting.{Setting}
 use Rattle.loop_text.specs.Statements.Setting.{is_add, is_variable, is_literal_number, is_found}

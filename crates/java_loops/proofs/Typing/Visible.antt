@@ -13,7 +13,7 @@ use Rattle.java_mean.specs.Typing.{Frame, TypedStatement, declare, assign, add, 
 use Rattle.java_mean.specs.Visible.{Visible, is_visible, declared_in, with_params}
 use Rattle.java_mean.proofs.Faultless.{Got, Sees, seen, unseen}
 use Rattle.java_mean.proofs.Puts.{names_equal, name_same}
-use Rattle.loop_text.specs.Statements.Names.{Names, is_among, with_name, with_names, declared_by, declared_among, names_of_params}
+use Rattle.java_ast.specs.Names.{Names, is_among, with_name, with_names, declared_by, declared_among, names_of_params}
 use Rattle.loop_text.specs.Sites.Sites.{is_some}
 use Rattle.java_loops.proofs.Placing.Place.{names_at}
 

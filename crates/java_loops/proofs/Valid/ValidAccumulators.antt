@@ -19,7 +19,7 @@ use Rattle.loop_text.specs.Kernel.KernelLoop.{is_kernel_loop}
 use Rattle.loop_text.specs.Kernel.KernelStarts.{Numbered, update_of, update_of_flag, form_found}
 use Rattle.java_loops.specs.Lowering.Lowered.{added, update_with, is_opposite, accumulator_in, accumulator_with, accumulator_of, outer_accumulators, flag_here, flags_from, accumulators_of, set_in_order, needed_in_order, conditions_of, lists_of}
 use Rattle.java_loops.specs.Lowering.Lowered as lowered
-use Rattle.loop_text.specs.Statements.Names.{Names, is_among}
+use Rattle.java_ast.specs.Names.{Names, is_among}
 use Rattle.java_loops.specs.Lowering.Numbering.{numbers_of, loop_number}
 use Rattle.java_loops.specs.Kernel.Setting.{Setting}
 use Rattle.loop_text.specs.Sites.Sites.{Site, Round, declared_name, target_of, in_loop, outside, sites_of}

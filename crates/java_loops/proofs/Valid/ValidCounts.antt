@@ -13,7 +13,7 @@ use Rattle.loop_text.specs.Statements.Fragment.{Fragment, accumulators, needed_o
 use Rattle.java_loops.specs.Kernel.Kernel.{lowering, has_small_pool, is_small as is_small_with}
 use Rattle.loop_text.specs.Kernel.KernelStarts.{broken_starts_of, broken_flag_start, Numbered, update_of, update_of_flag}
 use Rattle.java_loops.specs.Lowering.Lowered.{accumulator_of, outer_accumulators, flag_here, flags_from, needed_in_order, conditions_of, fragment_with}
-use Rattle.loop_text.specs.Statements.Names.{Names, is_among, updated_in}
+use Rattle.java_ast.specs.Names.{Names, is_among, updated_in}
 use Rattle.java_loops.specs.Lowering.Numbering.{numbers_of, count_flags}
 use Rattle.java_loops.specs.Kernel.Setting.{Setting}
 use Rattle.loop_text.specs.Sites.Sites.{Site, Round, place_of, place_where, declared_name}

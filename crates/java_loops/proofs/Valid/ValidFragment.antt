@@ -9,7 +9,7 @@ use Rattle.kernel_lang.proofs.Sentences.{valid_none}
 use Rattle.loop_text.specs.Statements.Fragment.{needed_of}
 use Rattle.java_loops.specs.Kernel.Kernel.{lowering}
 use Rattle.loop_text.specs.Kernel.KernelStarts.{Numbered, update_of}
-use Rattle.loop_text.specs.Statements.Names.{is_among}
+use Rattle.java_ast.specs.Names.{is_among}
 use Rattle.java_loops.specs.Kernel.Setting.{Setting}
 use Rattle.java_loops.proofs.Valid.ValidAccumulators.{Comes, needed, flagged, all_come, UpdateStands, update_stands, names_there, chain_read, chain_valid, base_of_needed, update_inside}
 use Rattle.java_loops.proofs.Valid.ValidBegins.{TakesColumns, start_of_needed, start_of_flag}

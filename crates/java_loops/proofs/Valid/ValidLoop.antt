@@ -21,7 +21,7 @@ use Rattle.java_loops.specs.Kernel.KernelLoop.{broken_loop}
 use Rattle.java_loops.specs.Kernel.KernelStarts.{broken_starts}
 use Rattle.java_loops.specs.Kernel.KernelStatements.{broken_statements, broken_updates}
 use Rattle.loop_text.specs.Statements.Loops.{is_loop}
-use Rattle.loop_text.specs.Statements.Names.{is_among, mentioned_among}
+use Rattle.java_ast.specs.Names.{is_among, mentioned_among}
 use Rattle.java_loops.specs.Kernel.Setting.{Setting}
 use Rattle.loop_text.specs.declared.sites.bindings.Binding.TheVariants.{Row}
 use Rattle.loop_text.specs.Sites.Sites.{Site, binding_at, place_of, depth, in_loop, outside, without_first, without_last, before_last, sites_of}

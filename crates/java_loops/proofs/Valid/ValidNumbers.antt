@@ -14,7 +14,7 @@ use Rattle.tor_terms.specs.Same.{same_numbers}
 use Rattle.tor_terms.specs.Truth.{same_operand}
 use Rattle.tor_terms.proofs.Identical.{same_operand-true}
 use Rattle.tor_terms.proofs.Scalars.{scalar_same-self}
-use Rattle.loop_text.specs.Statements.Names.{Names}
+use Rattle.java_ast.specs.Names.{Names}
 use Rattle.java_loops.specs.Lowering.Numbering.{with_new, with_all_new, number_where, Leaf, reading_of, same_atom, atoms_among}
 use Rattle.java_loops.specs.Kernel.Setting.{Setting}
 

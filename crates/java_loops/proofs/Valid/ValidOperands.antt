@@ -15,7 +15,7 @@ use Rattle.tor_terms.specs.declared.term.Operand.{Operand}
 use Rattle.tor_terms.specs.Truth.{has_loop, has_loops, operand_within, atom_within}
 use Rattle.java_loops.specs.Kernel.Kernel.{lowering}
 use Rattle.loop_text.specs.Kernel.KernelConditions.{is_row_column, is_comparing}
-use Rattle.loop_text.specs.Statements.Names.{Names}
+use Rattle.java_ast.specs.Names.{Names}
 use Rattle.java_loops.specs.Lowering.Numbering.{Leaf, all_leaves, loop_number, operand_of, operand_of_column, operand_of_literal, operand_before, same_of, compared, flag_reading, bound_reading, reading_of, numbers_of, entries_of, known_of}
 use Rattle.java_loops.specs.Kernel.Setting.{Setting}
 use Rattle.loop_text.specs.Sites.Sites.{Site, Round, RowColumn, row_column_at}

@@ -7,7 +7,7 @@ use Rattle.java_ast.specs.Tree.{Statement, Statements, Nothing, Then}
 use Rattle.java_mean.proofs.Puts.{names_equal, name_same}
 use Rattle.loop_text.specs.Statements.Fragment.{set_by}
 use Rattle.java_loops.specs.Lowering.Lowered.{set_in_order}
-use Rattle.loop_text.specs.Statements.Names.{Names, is_among, with_name, with_names, mentioned_in}
+use Rattle.java_ast.specs.Names.{Names, is_among, with_name, with_names, mentioned_in}
 use Rattle.loop_text.specs.Statements.Setting.{touches, first_touching}
 use Rattle.java_loops.proofs.Valid.ValidLoop.{bytes_back}
 use Rattle.java_loops.proofs.Valid.ValidStarts.{among_filter, filter_among, false_not, SetOnce}

@@ -16,7 +16,7 @@ use Rattle.loop_text.specs.Kernel.KernelLoop.{is_kernel_loop}
 use Rattle.loop_text.specs.Kernel.KernelStarts.{Numbered, first_site, update_of, update_of_flag, form_found, may_start}
 use Rattle.loop_text.specs.Kernel.KernelStatements.{is_declaration, is_idle_flag, is_none, broken_update, updates_local}
 use Rattle.java_loops.specs.Lowering.Lowered.{accumulator_of, flag_here, flags_from, needed_in_order, conditions_of, update_with}
-use Rattle.loop_text.specs.Statements.Names.{Names, is_among}
+use Rattle.java_ast.specs.Names.{Names, is_among}
 use Rattle.java_loops.specs.Lowering.Numbering.{numbers_of, count_flags, flag_number, flag_reading, bound_reading, reading_of, entries_of, known_of, loop_number, operand_of}
 use Rattle.java_loops.specs.Kernel.Setting.{Setting}
 use Rattle.loop_text.specs.Sites.Sites.{Site, any_site, place_of, place_where, first_broken, declared_name, outside}

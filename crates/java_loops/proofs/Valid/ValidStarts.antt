@@ -9,7 +9,7 @@ use Rattle.java_mean.proofs.Puts.{names_equal}
 use Rattle.loop_text.specs.Statements.Fragment.{set_by}
 use Rattle.loop_text.specs.Kernel.KernelStarts.{form_found, update_of, may_start, may_start_so, starts, broken_starts_of}
 use Rattle.loop_text.specs.Kernel.KernelStatements.{is_none}
-use Rattle.loop_text.specs.Statements.Names.{Names, is_among}
+use Rattle.java_ast.specs.Names.{Names, is_among}
 use Rattle.loop_text.specs.Statements.Setting.{touches, first_touching, given_by, is_found}
 use Rattle.loop_text.specs.Sites.Sites.{Site, place_of, place_where}
 use Rattle.java_loops.proofs.Nested.NestRules.{true_from_not, and_second}

@@ -17,7 +17,7 @@ use Rattle.java_loops.specs.Kernel.Kernel.{lowering}
 use Rattle.java_loops.specs.Kernel.KernelConditions.{is_operand, is_entry, is_entry_row}
 use Rattle.loop_text.specs.Kernel.KernelConditions.{is_row_column, is_literal, asked_for}
 use Rattle.java_loops.specs.Lowering.Lowered.{type_of_entry}
-use Rattle.loop_text.specs.Statements.Names.{Names, is_among, with_name}
+use Rattle.java_ast.specs.Names.{Names, is_among, with_name}
 use Rattle.java_loops.specs.Lowering.Numbering.{Leaf, all_leaves, with_all_new, number_where, same_entry, entry_operand, entries_in, entries_among, known_with, known_among, arguments_asked, with_arguments, known_of, entries_of, numbers_of, entry_number, operand_of, operand_of_column, operand_of_literal, bound_reading, flag_reading, reading_of, loop_number}
 use Rattle.java_loops.specs.Kernel.Setting.{Setting}
 use Rattle.loop_text.specs.Statements.Setting.{is_found}

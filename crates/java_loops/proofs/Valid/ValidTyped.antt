@@ -28,7 +28,7 @@ use Rattle.java_loops.specs.Kernel.KernelConditions.{is_operand, is_entry, is_en
 use Rattle.loop_text.specs.Kernel.KernelConditions.{is_literal, is_outer, is_comparing}
 use Rattle.loop_text.specs.Kernel.KernelLoop.{is_table}
 use Rattle.java_loops.specs.Lowering.Lowered.{type_of_entry, type_of_scalar, type_of_column, column_type}
-use Rattle.loop_text.specs.Statements.Names.{is_among, updated_in}
+use Rattle.java_ast.specs.Names.{is_among, updated_in}
 use Rattle.java_loops.specs.Lowering.Numbering.{Leaf, all_leaves, same_entry, entry_operand, entries_in, entries_of, known_of, numbers_of, entry_number, found_number, table_spelled, table_of_site, operand_of, operand_of_column, operand_of_literal, bound_reading, flag_reading, reading_of}
 use Rattle.java_loops.specs.Kernel.Setting.{Setting}
 use Rattle.loop_text.specs.Statements.Setting.{is_found}

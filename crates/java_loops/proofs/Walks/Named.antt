@@ -6,7 +6,7 @@ use Rattle.std.proofs.lemmas.List.Folds.{list_any-append}
 use Rattle.java_ast.specs.Tree as tree
 use Rattle.java_ast.specs.Tree.{Expression, Expressions, NoMore, And}
 use Rattle.java_mean.proofs.Puts.{name_same}
-use Rattle.loop_text.specs.Statements.Names.{Names, is_among, names_in, names_among}
+use Rattle.java_ast.specs.Names.{Names, is_among, names_in, names_among}
 use Rattle.java_loops.specs.Walks.Reads.{Set, Reads, AllRead}
 
 pub among_front : (xs ys : Names) (x : List ℕ) → is_among xs x ≡ true → is_among (xs ++ ys) x ≡ true

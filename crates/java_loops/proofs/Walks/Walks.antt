@@ -6,7 +6,7 @@ use Rattle.java_loops.specs.Walks.Reads.{Set}
 use Rattle.loop_text.specs.Statements.Fragment.{set_by, StandsIn, first, after, IsNeeded, based, mentioned, IsClosed}
 use Rattle.java_loops.specs.Walks.Runs.{StepReads, KeptRead}
 use Rattle.java_loops.specs.Walks.Needed.{mentions, AreNeeded, keeping, joined, walked, KeptAlone}
-use Rattle.loop_text.specs.Statements.Names.{names_in}
+use Rattle.java_ast.specs.Names.{names_in}
 use Rattle.java_loops.proofs.Walks.Named.{among_more, reads_named}
 use Rattle.java_loops.proofs.Walks.Truth.{and_true, not_true, or_left, or_right, and_both}
 

@@ -12,7 +12,7 @@ use Rattle.java_mean.specs.Rules.{at_of}
 use Rattle.sql_ast.specs.declared.tree.SqlItem.{SqlItem}
 use Rattle.sql_ast.specs.declared.tree.SqlItem.TheVariants as items
 use Rattle.sql_ast.specs.Tree.{PlainQuery, Listing}
-use Rattle.loop_text.specs.Statements.Names.{is_among, names_among, updated_in}
+use Rattle.java_ast.specs.Names.{is_among, names_among, updated_in}
 use Rattle.java_loops.specs.Kernel.Setting.{Setting}
 use Rattle.loop_text.specs.Statements.Setting.{is_found}
 use Rattle.loop_text.specs.Sites.Sites.{Site, binding_at, place_where, first_place, first_broken}

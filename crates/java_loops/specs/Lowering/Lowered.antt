@@ -38,7 +38,7 @@ use Rattle.loop_text.specs.Kernel.KernelLists.{Source, source_in}
 use Rattle.loop_text.specs.Kernel.KernelLoop.{counting_in, limit_of}
 use Rattle.loop_text.specs.Kernel.KernelStarts.{Numbered, update_of, update_of_flag, form_found}
 use Rattle.loop_text.specs.Statements.Loops.{is_loop}
-use Rattle.loop_text.specs.Statements.Names.{Names, is_among, names_in}
+use Rattle.java_ast.specs.Names.{Names, is_among, names_in}
 use Rattle.java_loops.specs.Lowering.Numbering.{Numbers, loop_number, table_of_loop, found_number, column_of, arguments_asked, entry_number, both_of, form_of_condition}
 use Rattle.java_loops.specs.Kernel.Setting.{Setting}
 use Rattle.loop_text.specs.Statements.Setting.{first_touching, given_by}
@@ -255,7 +255,3 @@ lowering_with w t xs =
       known = map (λ x. query_asked w.read (asked_for w.fragment.run x)) t.known;
       arguments = map (λ x. numbers_of_arguments t.entries (arguments_asked (asked_for w.fragment.run x))) t.known;
     }
-
--- the variables that the queries of a rewrite read
-abbrev pub names_read : List Expression → Names
-names_read entries = flat_map names_in entries

@@ -25,7 +25,7 @@ use Rattle.loop_text.specs.Kernel.KernelForms.{is_or, is_joined}
 use Rattle.loop_text.specs.Kernel.KernelLists.{count_loops}
 use Rattle.loop_text.specs.Kernel.KernelStarts.{is_truth_of}
 use Rattle.loop_text.specs.Kernel.KernelStatements.{is_declaration}
-use Rattle.loop_text.specs.Statements.Names.{Names, with_name}
+use Rattle.java_ast.specs.Names.{Names, with_name}
 use Rattle.java_loops.specs.Kernel.Setting.{Setting}
 use Rattle.loop_text.specs.declared.sites.bindings.Binding.{Binding}
 use Rattle.loop_text.specs.declared.sites.bindings.Binding.TheVariants.{Local}

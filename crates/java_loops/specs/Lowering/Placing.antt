@@ -11,7 +11,7 @@ use Rattle.java_mean.specs.Types.{type_spelled}
 use Rattle.java_mean.specs.Visible.{Visible, declared_in}
 use Rattle.java_mean.specs.declared.types.JavaType.{JavaType}
 use Rattle.loop_text.specs.Statements.Fragment.{Fragment, fragment_in}
-use Rattle.loop_text.specs.Statements.Names.{with_names, names_of_params}
+use Rattle.java_ast.specs.Names.{with_names, names_of_params}
 
 -- the type that is spelled so, where a schema is given
 abbrev pub type_under : Option Schema → Spelled → Option JavaType

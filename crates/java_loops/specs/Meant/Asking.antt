@@ -13,10 +13,10 @@ use Rattle.java_loops.specs.Walks.Replacing.{Ask, asked, seen_at}
 use Rattle.java_loops.specs.Meant.GivesWay.{AnswersItsFragment}
 use Rattle.java_loops.specs.Kernel.Kernel.{lowering}
 use Rattle.loop_text.specs.Statements.KeptStatements.{with_numbers}
-use Rattle.java_loops.specs.Lowering.Lowered.{needed_in_order, names_read}
+use Rattle.java_loops.specs.Lowering.Lowered.{needed_in_order}
+use Rattle.java_ast.specs.Names.{names_read, is_among}
 use Rattle.java_loops.specs.Meant.Members.{AreMatched}
 use Rattle.java_loops.specs.Meant.Means.{MeansItsLoopThere}
-use Rattle.loop_text.specs.Statements.Names.{is_among}
 use Rattle.java_loops.specs.Kernel.Setting.{Setting}
 use Rattle.loop_text.specs.Statements.Setting.{first_touching}
 

@@ -21,7 +21,7 @@ use Rattle.java_loops.specs.Kernel.Kernel.{lowering}
 use Rattle.java_loops.specs.Lowering.Lowered.{needed_in_order}
 use Rattle.java_loops.specs.Meant.Members.{AreMatched}
 use Rattle.java_loops.specs.Meant.Means.{HasScalar, HasScalars, IsAnswered, IsWholeAnswer}
-use Rattle.loop_text.specs.Statements.Names.{Names, is_among}
+use Rattle.java_ast.specs.Names.{Names, is_among}
 use Rattle.java_loops.specs.Lowering.Numbering.{numbers_of}
 use Rattle.java_loops.specs.Kernel.Setting.{Setting}
 

@@ -4,7 +4,7 @@ use Rattle.java_ast.specs.Tree.{Statements, Nothing, Then}
 use Rattle.java_loops.specs.Walks.Needed.{needed, keeping}
 use Rattle.java_loops.specs.Walks.Reads.{Set}
 use Rattle.loop_text.specs.Statements.Fragment.{Fragment, drops, live_or, set_by}
-use Rattle.loop_text.specs.Statements.Names.{Names}
+use Rattle.java_ast.specs.Names.{Names}
 
 -- the needed variables whose statements aren't dropped
 abbrev pub kept_set : Fragment → Names → Set

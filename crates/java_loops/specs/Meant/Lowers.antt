@@ -16,9 +16,9 @@ use Rattle.java_loops.specs.Walks.Replacing.{seen_at}
 use Rattle.loop_text.specs.Statements.Fragment.{accumulators, is_live}
 use Rattle.java_loops.specs.Kernel.Kernel.{broken, lowering, setting_at}
 use Rattle.loop_text.specs.Statements.KeptStatements.{first_at, AreKept}
-use Rattle.java_loops.specs.Lowering.Lowered.{Lowering, names_read}
+use Rattle.java_loops.specs.Lowering.Lowered.{Lowering}
+use Rattle.java_ast.specs.Names.{names_read, is_among}
 use Rattle.java_loops.specs.Meant.Means.{MeansItsLoopThere}
-use Rattle.loop_text.specs.Statements.Names.{is_among}
 use Rattle.java_loops.specs.Kernel.Setting.{Setting}
 
 -- The lowered fragment is that of the loop to which the path leads, which breaks no rule; the number is that of the first

@@ -29,7 +29,7 @@ use Rattle.loop_text.specs.Kernel.KernelConditions.{Asked, asked_for}
 use Rattle.java_loops.specs.Lowering.Lowered.{needed_in_order}
 pub use Rattle.java_loops.specs.Meant.Members.{AreMatched}
 use Rattle.java_loops.specs.Meant.Members.{HaveSameMembers}
-use Rattle.loop_text.specs.Statements.Names.{is_among}
+use Rattle.java_ast.specs.Names.{is_among}
 use Rattle.java_loops.specs.Lowering.Numbering.{numbers_of, arguments}
 use Rattle.java_loops.specs.Kernel.Setting.{Setting}
 

@@ -4,7 +4,7 @@ use Rattle.std.specs.Prelude.{◌≡◌, ℕ, zero, suc, Bool, true, false, not,
 use Rattle.java_ast.specs.Tree.{Statement, Statements, Nothing, Then}
 use Rattle.java_loops.specs.Walks.Reads.{Set}
 use Rattle.loop_text.specs.Statements.Fragment.{StandsIn, set_by, IsNeeded}
-use Rattle.loop_text.specs.Statements.Names.{is_among, mentioned_in}
+use Rattle.java_ast.specs.Names.{is_among, mentioned_in}
 
 -- the names that a statement mentions, other than to declare them
 abbrev pub mentions : Statement → Set

@@ -7,11 +7,11 @@ use Rattle.loop_text.specs.Sites.Indexed.{with_number, passing, takes_there, tak
 use Rattle.loop_text.specs.Kernel.KernelConditions.{name_where, is_taking, best_under, all_best_under}
 use Rattle.loop_text.specs.Kernel.KernelForms.{form_of}
 use Rattle.loop_text.specs.Kernel.KernelStarts.{updates_name}
-use Rattle.loop_text.specs.Statements.Names.{Names, is_among}
+use Rattle.java_ast.specs.Names.{Names, is_among}
 use Rattle.loop_text.specs.Sites.Sites.{Test, Site, inner_tests, target_of}
 use Rattle.loop_text.proofs.Indexed.GroupedNames.{same_both}
 use Rattle.loop_text.proofs.Indexed.IndexedFirst.{Stand, stand_further, stands_here, all_stand}
-use Rattle.loop_text.proofs.Trees.Mentions.{among_both}
+use Rattle.java_ast.proofs.Among.{among_both}
 
 or_false : (b : Bool) → (b || false) ≡ b
 or_false true = refl

@@ -1,19 +1,15 @@
--- What is among names that stand one behind the other.
+-- What the first branch of an `if` mentions and updates.
 use Rattle.std.specs.Prelude.{ℕ, Bool, true, false, ◌||◌, List, ◌++◌, Vec, Option, Some}
-use Rattle.std.specs.Str.{bytes_eq}
 use Rattle.std.specs.declared.alloc.Global.{Global}
 use Rattle.std.proofs.Common.{◌≡◌, refl, ap, ◌∙◌}
-use Rattle.std.proofs.lemmas.List.Folds.{list_any-append}
 use Rattle.java_ast.specs.declared.tree.Expr.{Expr}
 use Rattle.java_ast.specs.declared.tree.Stmt.{Stmt, out-Stmt}
 use Rattle.java_ast.specs.declared.tree.StmtNode.{If}
 use Rattle.java_ast.specs.Reading.{expression, statement, statements}
 use Rattle.java_ast.specs.Tree.{Statement}
-use Rattle.loop_text.specs.Statements.Names.{Names, is_among, names_in, mentioned_in, mentioned_among, updated_in, updated_among}
+use Rattle.java_ast.specs.Names.{is_among, names_in, mentioned_in, mentioned_among, updated_in, updated_among}
+use Rattle.java_ast.proofs.Among.{among_both}
 use Rattle.java_ast.proofs.Nodes.{if_else_is}
-
-pub among_both : (xs ys : Names) (x : List ℕ) → is_among (xs ++ ys) x ≡ (is_among xs x || is_among ys x)
-among_both xs ys x = list_any-append (bytes_eq x) xs ys
 
 or_true : (b : Bool) → (b || true) ≡ true
 or_true true = refl
@@ -37,5 +33,3 @@ in_first_updated s cond v w o x is some h =
     ∙ ap (λ (b : Bool). b || is_among (updated_among (statements w.items)) x) h
 
 pub ruleset mentions = (among_both, in_first_branch)
-
-pub ruleset both = (among_both)

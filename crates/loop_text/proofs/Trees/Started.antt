@@ -5,7 +5,7 @@ use Rattle.std.proofs.Common.{◌≡◌, sym, ap, ◌∙◌}
 use Rattle.qbs_base.specs.declared.span.Span.{Span}
 use Rattle.java_ast.specs.Tree.{Statement, Statements, Then}
 use Rattle.loop_text.specs.Kernel.KernelStarts.{starts, broken_starts_of}
-use Rattle.loop_text.specs.Statements.Names.{Names}
+use Rattle.java_ast.specs.Names.{Names}
 use Rattle.loop_text.specs.Statements.Setting.{touches}
 use Rattle.loop_text.specs.Sites.Sites.{Site, place_of, place_where, first_place}
 

@@ -13,7 +13,7 @@ use Rattle.loop_text.specs.Kernel.Counting.{is_and}
 use Rattle.loop_text.specs.Statements.Fragment.{set_by}
 use Rattle.loop_text.specs.Kernel.KernelForms.{Form, takes, form_of, is_or}
 use Rattle.loop_text.specs.Kernel.KernelStatements.{updates_local, target_bound}
-use Rattle.loop_text.specs.Statements.Names.{Names, is_among, names_in}
+use Rattle.java_ast.specs.Names.{Names, is_among, names_in}
 use Rattle.loop_text.specs.Statements.Setting.{is_found}
 use Rattle.loop_text.specs.Sites.Sites.{Test, Site, Binding, Local, Outer, row_column_at, any_site, is_under, inner_tests, target_of, is_update}
 

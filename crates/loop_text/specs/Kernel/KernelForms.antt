@@ -12,7 +12,7 @@ use Rattle.java_ast.specs.Tree as plain
 use Rattle.tor_terms.specs.declared.term.Way.{Way}
 use Rattle.tor_terms.specs.declared.term.Way.TheVariants as ways
 use Rattle.loop_text.specs.Kernel.Counting.{is_and}
-use Rattle.loop_text.specs.Statements.Names.{is_among, names_in}
+use Rattle.java_ast.specs.Names.{is_among, names_in}
 use Rattle.loop_text.specs.Statements.Setting.{is_add, is_variable, is_literal_number}
 use Rattle.loop_text.specs.Sites.Sites.{Test, Round, Site, RowColumn, row_at, row_column_at, same_row_column, any_site, depth, is_under, inner_tests, is_update}
 

@@ -6,7 +6,7 @@ use Rattle.std.specs.declared.option.Option.{Option}
 use Rattle.std.specs.declared.option.Option.TheVariants.{Some, None}
 use Rattle.java_ast.specs.Tree.{Spelled, Expression, Statement, Statements, Nothing, Then}
 use Rattle.java_ast.specs.Tree as plain
-use Rattle.loop_text.specs.Statements.Names.{is_among, mentioned_among}
+use Rattle.java_ast.specs.Names.{is_among, mentioned_among}
 use Rattle.loop_text.specs.Kernel.Counting.{Counting, counting}
 use Rattle.loop_text.specs.Statements.Fragment.{Fragment, is_live}
 use Rattle.loop_text.specs.Statements.Setting.{first_touching, touched_again, given_by, is_literal_number, is_variable, is_next_of}

@@ -12,7 +12,7 @@ use Rattle.java_ast.specs.Tree as plain
 use Rattle.loop_text.specs.Statements.Fragment.{is_name}
 use Rattle.loop_text.specs.Kernel.KernelForms.{Form, adds, counts, sums, takes, marks, other, form_of}
 use Rattle.loop_text.specs.Kernel.KernelStatements.{is_none, updates_local}
-use Rattle.loop_text.specs.Statements.Names.{Names}
+use Rattle.java_ast.specs.Names.{Names}
 use Rattle.loop_text.specs.Statements.Setting.{touches, first_touching, given_by, is_literal_number, is_found}
 use Rattle.loop_text.specs.Sites.Sites.{Site, target_of, place_of, place_where, first_place}
 

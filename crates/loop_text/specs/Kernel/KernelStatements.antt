@@ -9,7 +9,7 @@ use Rattle.qbs_base.specs.declared.span.Span.{Span}
 use Rattle.java_ast.specs.Tree.{Spelled, Expression, Statement}
 use Rattle.java_ast.specs.Tree as plain
 use Rattle.loop_text.specs.Kernel.KernelLoop.{is_while}
-use Rattle.loop_text.specs.Statements.Names.{Names}
+use Rattle.java_ast.specs.Names.{Names}
 use Rattle.loop_text.specs.Sites.Sites.{Site, Binding, Row, Local, Outer, binding_at, same_binding, place_of, place_where, any_site, has_number, innermost, target_of, is_update}
 
 -- ---- K4

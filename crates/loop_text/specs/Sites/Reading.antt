@@ -13,7 +13,7 @@ use Rattle.loop_text.specs.declared.loops.lists.Source as sources
 use Rattle.loop_text.specs.declared.loops.counting.Counting as countings
 use Rattle.loop_text.specs.declared.loops.counting.Cap as caps
 use Rattle.loop_text.specs.Kernel.Counting.{Counting, Cap}
-pub use Rattle.loop_text.specs.Statements.Seen.{names_lent}
+pub use Rattle.java_ast.specs.Names.{names_lent}
 use Rattle.loop_text.specs.declared.updates.best.Found as found
 use Rattle.loop_text.specs.declared.conditions.asked.Asked as asked
 use Rattle.loop_text.specs.declared.updates.forms.Taken.{Taken}

@@ -9,7 +9,7 @@ use Rattle.java_ast.specs.Tree as plain
 use Rattle.java_ast.specs.Path.{found_in, numbered, branch_of, first_of, behind_of}
 use Rattle.loop_text.specs.Kernel.Counting.{Counting, counting}
 use Rattle.loop_text.specs.Statements.Loops.{is_loop}
-use Rattle.loop_text.specs.Statements.Names.{Names, is_among, with_names, mentioned_in, mentioned_among, updated_in, declared_among, walking, names_of_params}
+use Rattle.java_ast.specs.Names.{Names, is_among, with_names, mentioned_in, mentioned_among, updated_in, declared_among, walking, names_of_params}
 
 -- ---- The parts of a fragment
 

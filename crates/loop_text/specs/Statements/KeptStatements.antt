@@ -5,7 +5,7 @@ use Rattle.std.specs.declared.option.Option.TheVariants.{Some, None}
 use Rattle.java_ast.specs.Tree.{Statement, Statements, Nothing, Then, PlainProgram}
 use Rattle.java_ast.specs.Path.{found_in, numbered, branch_of, first_of}
 use Rattle.loop_text.specs.Statements.Fragment.{Fragment, IsKept, before_run}
-use Rattle.loop_text.specs.Statements.Names.{Names}
+use Rattle.java_ast.specs.Names.{Names}
 use Rattle.loop_text.specs.Sites.Sites.{has_number}
 
 -- how many statements a block has

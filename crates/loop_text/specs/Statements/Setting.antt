@@ -11,7 +11,7 @@ use Rattle.java_ast.specs.declared.tree.Op.{Op}
 use Rattle.java_ast.specs.declared.tree.Op.TheVariants as ops
 use Rattle.java_ast.specs.Tree.{Expression, Statement, Statements, Nothing, Then}
 use Rattle.java_ast.specs.Tree as plain
-use Rattle.loop_text.specs.Statements.Names.{is_among, mentioned_in}
+use Rattle.java_ast.specs.Names.{is_among, mentioned_in}
 use Rattle.loop_text.specs.Statements.Fragment.{set_by}
 
 -- ---- The run

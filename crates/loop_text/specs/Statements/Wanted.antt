@@ -7,7 +7,7 @@ use Rattle.java_ast.specs.Reading.{statement}
 use Rattle.java_ast.specs.Tree.{Statement, Statements, Nothing, Then}
 use Rattle.loop_text.specs.Statements.Fragment.{Fragment, IsWanted, set_by}
 pub use Rattle.loop_text.specs.Statements.Fragment.{drops}
-use Rattle.loop_text.specs.Statements.Names.{Names, is_among, with_names, mentioned_in, mentioned_among}
+use Rattle.java_ast.specs.Names.{Names, is_among, with_names, mentioned_in, mentioned_among}
 
 -- ---- The statements that set a variable
 

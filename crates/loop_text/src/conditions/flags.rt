@@ -4,7 +4,7 @@ ghost use Rattle.std.specs.Option.{option_map};
 ghost use Rattle.java_ast.specs.Reading.{expression, expressions, statement, statements};
 ghost use Rattle.loop_text.specs.Kernel.KernelConditions as specs;
 ghost use Rattle.loop_text.specs.Kernel.KernelStatements as updates;
-ghost use Rattle.loop_text.specs.Statements.Names.{names_among};
+ghost use Rattle.java_ast.specs.Names.{names_among};
 ghost use Rattle.loop_text.specs.Statements.Setting.{is_found};
 ghost use Rattle.loop_text.specs.Sites.Reading.{site_of};
 ghost use Rattle.loop_text.specs.Sites.Sites as sites;

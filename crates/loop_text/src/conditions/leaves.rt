@@ -5,7 +5,7 @@ ghost use Rattle.std.specs.Option.{option_map};
 ghost use Rattle.java_ast.specs.Reading.{expression, expressions, statement};
 ghost use Rattle.loop_text.specs.Sites.Indexed.{takes_at};
 ghost use Rattle.loop_text.specs.Kernel.KernelConditions as specs;
-ghost use Rattle.loop_text.specs.Statements.Names.{is_among, names_in, names_among};
+ghost use Rattle.java_ast.specs.Names.{is_among, names_in, names_among};
 ghost use Rattle.loop_text.specs.Sites.Reading.{exprs_lent, form_in_code, round_of, site_of, test_of};
 ghost use Rattle.loop_text.specs.Sites.Sites as sites;
 

@@ -2,7 +2,7 @@
 ghost use Rattle.std.specs.Prelude.{◌≡◌, map};
 ghost use Rattle.java_ast.specs.Reading.{expression, statement, statements};
 ghost use Rattle.loop_text.specs.Kernel.KernelConditions as specs;
-ghost use Rattle.loop_text.specs.Statements.Names.{is_among, updated_in, updated_among};
+ghost use Rattle.java_ast.specs.Names.{is_among, updated_in, updated_among};
 ghost use Rattle.loop_text.specs.Sites.Reading.{site_of};
 
 use crate::sites::bindings::{Binding, row_column_at};
@@ -13,7 +13,7 @@ use qbs_base::Name;
 
 /// Whether a statement assigns or adds to a variable.
 #[cycle(updates)]
-#[tactic(auto, using(crate::proofs::Trees::Mentions::both, java_ast::proofs::Nodes::nodes))]
+#[tactic(auto, using(java_ast::proofs::Among::both, java_ast::proofs::Nodes::nodes))]
 pub fn updates(s: &Stmt, x: &Name) -> bool
     ensures { result ≡ is_among (updated_in (statement s.now)) x.now }
 {
@@ -44,7 +44,7 @@ pub fn updates(s: &Stmt, x: &Name) -> bool
 }
 
 #[cycle(updates)]
-#[tactic(auto, using(crate::proofs::Trees::Mentions::both))]
+#[tactic(auto, using(java_ast::proofs::Among::both))]
 fn block_updates(block: &[Stmt], x: &Name) -> bool
     ensures { result ≡ is_among (updated_among (statements block.now)) x.now }
 {

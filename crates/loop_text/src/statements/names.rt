@@ -3,7 +3,7 @@ ghost use Rattle.std.specs.Prelude.{◌≡◌};
 ghost use Rattle.std.specs.Str.{bytes_eq};
 ghost use Rattle.java_ast.specs.Reading.{expression, expressions, statement, statements};
 ghost use Rattle.loop_text.specs.Statements.Fragment.{set_by};
-ghost use Rattle.loop_text.specs.Statements.Names as specs;
+ghost use Rattle.java_ast.specs.Names as specs;
 ghost use Rattle.loop_text.specs.Statements.Setting as setting;
 
 use java_ast::{Expr, ExprNode, Stmt, StmtNode};

@@ -8,7 +8,7 @@ ghost use Rattle.java_ast.specs.Reading.{expression, statement, statements};
 ghost use Rattle.loop_text.specs.Sites.Indexed.{form_there, form_of_first as of_first};
 ghost use Rattle.loop_text.specs.Kernel.KernelStarts as specs;
 ghost use Rattle.loop_text.specs.Sites.Reading.{form_in_code, site_of};
-ghost use Rattle.loop_text.specs.Statements.Seen.{names_lent};
+ghost use Rattle.java_ast.specs.Names.{names_lent};
 ghost use Rattle.loop_text.specs.Statements.Setting as setting;
 ghost use Rattle.loop_text.specs.Sites.Sites as sites;
 

@@ -4,7 +4,7 @@ ghost use Rattle.std.specs.List.{list_any};
 ghost use Rattle.java_ast.specs.Reading.{statement};
 ghost use Rattle.loop_text.specs.Sites.Indexed.{is_other, ends_elsewhere, repeated_by, repeated_name};
 ghost use Rattle.loop_text.specs.Kernel.KernelStatements as specs;
-ghost use Rattle.loop_text.specs.Statements.Seen.{names_lent};
+ghost use Rattle.java_ast.specs.Names.{names_lent};
 ghost use Rattle.loop_text.specs.Sites.Reading.{site_of};
 ghost use Rattle.loop_text.specs.Sites.Sites as sites;
 

@@ -33,12 +33,12 @@ use Rattle.java_mean.specs.Types.{single_spelled, type_spelled}
 use Rattle.loop_text.specs.Sites.Sites.{place_of}
 use Rattle.loop_text.specs.Statements.Fragment.{set_by, is_simple, are_simple, fragment_at}
 use Rattle.loop_text.specs.Statements.KeptStatements.{with_numbers}
-use Rattle.loop_text.specs.Statements.Names.{Names, is_among}
+use Rattle.java_ast.specs.Names.{Names, is_among, names_read}
 use Rattle.loop_text.specs.Statements.Setting.{touches, first_touching}
 use Rattle.java_loops.specs.Kernel.Kernel.{types_at, lowering}
 use Rattle.java_loops.specs.Kernel.Setting.{Setting, setting_of}
 use Rattle.java_loops.specs.Lowering.Collected.{row_of_list, element_type, collected_type}
-use Rattle.java_loops.specs.Lowering.Lowered.{set_in_order, needed_in_order, names_read}
+use Rattle.java_loops.specs.Lowering.Lowered.{set_in_order, needed_in_order}
 use Rattle.java_loops.specs.Lowering.Numbering.{entries_of, known_of}
 use Rattle.java_loops.specs.Lowering.Spelling.{spelled_at, element_spelled}
 use Rattle.java_loops.specs.Meant.Asking.{spelled_by}

@@ -7,7 +7,7 @@ use Rattle.java_ast.specs.Tree as tree
 use Rattle.loop_text.specs.Kernel.KernelConditions.{Asked, asked_by_query, asked_by, asked_in, first_setting, asked_in_found, asked_for}
 use Rattle.loop_text.specs.Sites.Sites.{sites_of}
 use Rattle.loop_text.specs.Statements.Fragment.{set_by, Fragment}
-use Rattle.loop_text.specs.Statements.Names.{Names}
+use Rattle.java_ast.specs.Names.{Names}
 use Rattle.java_loops.specs.Lowering.Numbering.{with_all_new, all_leaves, same_entry, entries_among, arguments, arguments_asked, with_arguments}
 use Rattle.rewrite_core.proofs.Writable.Given.{Holds}
 use Rattle.rewrite_core.proofs.Writable.Leaves.{all_new, entries_among_fine, fine_leaves}

@@ -21,7 +21,7 @@ use Rattle.loop_text.specs.declared.sites.bindings.Binding.TheVariants.{Row, Loc
 use Rattle.loop_text.specs.Kernel.KernelConditions.{Asked, asked_for}
 use Rattle.loop_text.specs.Sites.Sites.{Site, RowColumn, sites_of, binding_at, row_column_at}
 use Rattle.loop_text.specs.Statements.Fragment.{Fragment}
-use Rattle.loop_text.specs.Statements.Names.{Names}
+use Rattle.java_ast.specs.Names.{Names}
 use Rattle.java_loops.specs.Kernel.Setting.{Setting}
 use Rattle.java_loops.specs.Lowering.Lowered.{query_asked}
 use Rattle.java_loops.specs.Lowering.Numbering.{with_new, Leaf, all_leaves, operand_of_literal, operand_of_column, operand_of, operand_before, same_of, compared, flag_reading, bound_reading, reading_of, same_atom, atoms_among}

@@ -10,7 +10,7 @@ use Rattle.loop_text.specs.Sites.Sites.{has_number}
 use Rattle.loop_text.specs.Statements.Fragment.{are_simple, run_of, Fragment, fragment_of, fragment_where, fragment_here, fragment_in, fragment_at}
 use Rattle.loop_text.specs.Statements.KeptStatements.{with_numbers}
 use Rattle.loop_text.specs.Statements.Loops.{is_loop}
-use Rattle.loop_text.specs.Statements.Names.{Names, with_names, declared_among, walking, names_of_params}
+use Rattle.java_ast.specs.Names.{Names, with_names, declared_among, walking, names_of_params}
 use Rattle.java_loops.specs.Lowering.Spelling.{spelled_after, spelled_past, spelled_inside, spelled_in, spelled_of_param, spelled_in_method, spelled_at, element_spelled}
 use Rattle.rewrite_core.specs.Asked.{spelled_or_text}
 use Rattle.rewrite_core.proofs.Writable.Given.{Holds, found_holds, found_all}

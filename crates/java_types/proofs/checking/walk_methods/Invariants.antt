@@ -1,7 +1,7 @@
 use Rattle.std.proofs.Common.{◌≡◌, drop, map}
 use Rattle.java_ast.specs.Reading.{method as plain_method}
 use Rattle.java_mean.specs.WellTyped.{faults_in_methods}
-use Rattle.java_types.specs.Least.{least}
+use Rattle.java_mean.specs.Least.{least}
 use Rattle.java_types.specs.Texts.{read_by}
 use Rattle.java_types.proofs.checking.walk_methods.Given as goal
 

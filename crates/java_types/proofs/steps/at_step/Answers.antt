@@ -12,7 +12,7 @@ use Rattle.java_mean.specs.declared.rule.TypeRule.TheVariants as broken
 use Rattle.java_mean.specs.Places.{around, step}
 use Rattle.java_mean.specs.Rules.{type_of, at_of, of_bool, only_if, unless, unless_single, unless_scalar, unless_passes, unless_element, is_many_kindred, element_of, listed_in, walked_element, unknown_keys}
 use Rattle.java_mean.specs.WellTyped.{marked, faults_at}
-use Rattle.java_types.specs.Least.{least}
+use Rattle.java_mean.specs.Least.{least}
 use Rattle.java_types.specs.Texts.{read_by}
 use Rattle.java_ast.proofs.Nodes.{for_each_is, while_is}
 use Rattle.java_types.proofs.Passed.{for_each_noted, none_said}

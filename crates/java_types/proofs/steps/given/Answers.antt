@@ -7,7 +7,7 @@ use Rattle.java_mean.specs.declared.rule.TypeRule.TheVariants as broken
 use Rattle.java_mean.specs.Rules.{type_of, at_of, only_if, is_row, unless_both, copied_row}
 use Rattle.java_mean.specs.Visible.{type_at}
 use Rattle.java_mean.specs.WellTyped.{marked}
-use Rattle.java_types.specs.Least.{least}
+use Rattle.java_mean.specs.Least.{least}
 use Rattle.java_types.proofs.Copied.{no_copy, copy_is}
 use Rattle.java_types.proofs.Noted.{alike, alike_none}
 use Rattle.java_types.proofs.steps.given.Goals as goal

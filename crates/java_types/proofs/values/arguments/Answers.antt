@@ -5,7 +5,7 @@ use Rattle.std.specs.Slice.Iter.{iter_rest}
 use Rattle.std.proofs.lemmas.Slice.Zip.{either_empty_from_Zip}
 use Rattle.java_mean.specs.WellTyped.{marked}
 use Rattle.java_mean.specs.declared.rule.TypeRule.TheVariants as broken
-use Rattle.java_types.specs.Least.{least}
+use Rattle.java_mean.specs.Least.{least}
 use Rattle.java_types.proofs.Passed.{no_arguments}
 use Rattle.java_types.proofs.values.arguments.Goals as goal
 

@@ -5,7 +5,7 @@ use Rattle.java_ast.specs.Reading.{expressions}
 use Rattle.java_mean.specs.Rules as rules
 use Rattle.java_mean.specs.WellTyped.{marked}
 use Rattle.java_mean.specs.declared.rule.TypeRule.TheVariants as broken
-use Rattle.java_types.specs.Least.{least}
+use Rattle.java_mean.specs.Least.{least}
 use Rattle.java_types.proofs.values.arguments.Given as goal
 
 abbrev pub invariant-loop-ty : goal.invariant-loop-ty

@@ -10,7 +10,7 @@ use Rattle.sql_ast.specs.Reading.{query}
 use Rattle.java_mean.specs.Rules.{only_if}
 use Rattle.java_mean.specs.WellTyped.{marked}
 use Rattle.java_mean.specs.declared.rule.TypeRule.TheVariants as broken
-use Rattle.java_types.specs.Least.{least}
+use Rattle.java_mean.specs.Least.{least}
 use Rattle.java_types.specs.Texts.{read_by}
 use Rattle.java_types.proofs.Passed.{listing_noted, none_said}
 use Rattle.java_types.proofs.values.at_listing.Goals as goal

@@ -13,7 +13,7 @@ use Rattle.java_mean.specs.declared.rule.TypeRule.TheVariants as broken
 use Rattle.java_mean.specs.Places.{value}
 use Rattle.java_mean.specs.Rules.{type_of, at_of, only_if, unless_single, scalars_of}
 use Rattle.java_mean.specs.WellTyped.{marked, faults_at}
-use Rattle.java_types.specs.Least.{least}
+use Rattle.java_mean.specs.Least.{least}
 use Rattle.java_types.specs.Texts.{read_by}
 use Rattle.java_ast.proofs.Nodes.{query_is, query_long_is, query_boolean_is}
 use Rattle.java_types.proofs.Passed.{contains_noted}

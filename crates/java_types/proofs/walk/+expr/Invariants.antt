@@ -3,7 +3,7 @@ use Rattle.std.specs.Option.{option_map}
 use Rattle.java_ast.specs.Reading.{spelled, expressions}
 use Rattle.java_mean.specs.Places.{in_expressions}
 use Rattle.java_mean.specs.WellTyped.{faults_in}
-use Rattle.java_types.specs.Least.{least}
+use Rattle.java_mean.specs.Least.{least}
 use Rattle.java_types.specs.Texts.{read_by}
 use Rattle.java_types.proofs.walk.+expr.Given as goal
 

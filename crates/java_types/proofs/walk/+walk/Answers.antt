@@ -8,7 +8,7 @@ use Rattle.java_ast.specs.Tree as plain
 use Rattle.java_mean.specs.Places.{around, in_statements, in_parts}
 use Rattle.java_mean.specs.Visible.{declared_in, after}
 use Rattle.java_mean.specs.WellTyped.{faults_in}
-use Rattle.java_types.specs.Least.{least}
+use Rattle.java_mean.specs.Least.{least}
 use Rattle.java_types.specs.Texts.{read_by}
 use Rattle.java_types.proofs.Cut.{take-after, cut_declared, walked_cut}
 use Rattle.java_ast.proofs.Nodes.{if_is, if_else_is, for_each_is, while_is}

@@ -1,11 +1,10 @@
 use Rattle.std.proofs.Common.{◌≡◌, drop, map}
 use Rattle.std.specs.Option.{option_map}
-use Rattle.java_ast.specs.Reading.{spelled}
-use Rattle.java_ast.specs.Reading.{param as plain_param}
+use Rattle.java_ast.specs.Reading.{spelled, param as plain_param}
 use Rattle.java_mean.specs.Places.{in_params}
 use Rattle.java_mean.specs.Visible.{with_params}
 use Rattle.java_mean.specs.WellTyped.{faults_in}
-use Rattle.java_types.specs.Least.{least}
+use Rattle.java_mean.specs.Least.{least}
 use Rattle.java_types.specs.Texts.{read_by}
 use Rattle.java_types.proofs.walk.walk_params.Given as goal
 

@@ -2,7 +2,7 @@ use Rattle.std.proofs.Common.{◌≡◌, drop, Some}
 use Rattle.java_mean.specs.Rules as rules
 use Rattle.java_mean.specs.WellTyped.{marked}
 use Rattle.java_mean.specs.declared.rule.TypeRule.TheVariants as broken
-use Rattle.java_types.specs.Least.{least}
+use Rattle.java_mean.specs.Least.{least}
 use Rattle.java_types.proofs.words.note_keys.Given as goal
 
 abbrev pub invariant-loop-key : goal.invariant-loop-key

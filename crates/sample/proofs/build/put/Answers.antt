@@ -1,7 +1,7 @@
 use Rattle.std.proofs.Common.{[], ◌∷◌, ap, ◌∙◌}
 use Rattle.java_ast.specs.Path.{and_then}
 use Rattle.java_ast.specs.Reading.{statement, statements}
-use Rattle.java_ast.proofs.Ranges.{appended}
+use Rattle.java_ast.proofs.Joined.{appended}
 use Rattle.sample.specs.Class.{one}
 use Rattle.sample.proofs.build.put.Goals as goal
 

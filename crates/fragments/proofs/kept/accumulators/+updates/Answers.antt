@@ -2,9 +2,8 @@ use Rattle.std.proofs.Common.{◌∙◌, ap, List}
 use Rattle.std.proofs.lemmas.Result.{on_ok_weaker}
 use Rattle.java_ast.specs.declared.tree.Stmt.{Stmt}
 use Rattle.java_ast.specs.Reading.{expression, statement, statements}
-use Rattle.loop_text.specs.Statements.Names.{updated_among}
+use Rattle.java_ast.specs.Names.{updated_among, names_lent}
 use Rattle.fragments.specs.Helping.Reading.{fragment_in_code}
-use Rattle.loop_text.specs.Statements.Seen.{names_lent}
 use Rattle.loop_text.specs.Statements.Updated.{outer_with}
 use Rattle.java_ast.proofs.Nodes.{if_else_is}
 use Rattle.fragments.proofs.Staying.Updated.{statement_put, if_else_put}

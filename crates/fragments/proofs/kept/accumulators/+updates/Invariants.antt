@@ -1,9 +1,8 @@
 use Rattle.std.proofs.Common.{◌≡◌, drop}
 use Rattle.java_ast.specs.Reading.{statements}
 use Rattle.fragments.specs.Helping.Listed.{IsListed}
-use Rattle.loop_text.specs.Statements.Names.{updated_among}
+use Rattle.java_ast.specs.Names.{updated_among, names_lent}
 use Rattle.fragments.specs.Helping.Reading.{fragment_in_code}
-use Rattle.loop_text.specs.Statements.Seen.{names_lent}
 use Rattle.loop_text.specs.Statements.Updated.{outer_with}
 use Rattle.fragments.proofs.kept.accumulators.+updates.Given as goal
 

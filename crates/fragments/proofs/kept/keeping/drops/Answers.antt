@@ -1,8 +1,7 @@
 use Rattle.std.proofs.Common.{◌∙◌, sym, ap}
 use Rattle.loop_text.specs.Statements.Fragment.{accumulators, counter, is_name}
-use Rattle.loop_text.specs.Statements.Names.{is_among}
+use Rattle.java_ast.specs.Names.{is_among, names_lent}
 use Rattle.fragments.specs.Helping.Reading.{fragment_in_code}
-use Rattle.loop_text.specs.Statements.Seen.{names_lent}
 use Rattle.fragments.proofs.Staying.Gathered.{found_among, first_holds, second_answers}
 use Rattle.fragments.proofs.kept.keeping.drops.Goals as goal
 

@@ -1,11 +1,10 @@
 use Rattle.std.proofs.Common.{◌≡◌, ◌∙◌, ap}
 use Rattle.std.proofs.lemmas.Result.{IfOk-weaker}
 use Rattle.loop_text.specs.Statements.KeptStatements.{AreKept}
-use Rattle.java_loops.specs.Lowering.Lowered.{names_read}
+use Rattle.java_ast.specs.Names.{names_read, names_lent}
 use Rattle.loop_text.specs.Sites.Reading.{exprs_lent}
 use Rattle.fragments.specs.Helping.Reading.{fragment_in_code}
 use Rattle.fragments.specs.declared.kept.name_list.NameList.{NameList}
-use Rattle.loop_text.specs.Statements.Seen.{names_lent}
 use Rattle.loop_text.specs.Statements.Wanted.{kept_numbers}
 use Rattle.java_loops.proofs.Kept.KeptNumbers.{are_kept}
 use Rattle.fragments.proofs.kept.keeping.kept_beside.Goals as goal

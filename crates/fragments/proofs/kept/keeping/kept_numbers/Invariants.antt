@@ -1,7 +1,7 @@
 use Rattle.std.proofs.Common.{◌≡◌, ◌+◌, ◌++◌, drop}
 use Rattle.java_ast.specs.Reading.{statements}
 use Rattle.fragments.specs.Helping.Reading.{fragment_in_code}
-use Rattle.loop_text.specs.Statements.Seen.{names_lent}
+use Rattle.java_ast.specs.Names.{names_lent}
 use Rattle.loop_text.specs.Statements.Wanted as specs
 use Rattle.fragments.proofs.kept.keeping.kept_numbers.Given as goal
 

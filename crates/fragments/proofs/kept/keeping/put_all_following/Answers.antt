@@ -1,8 +1,7 @@
 use Rattle.std.proofs.Common.{◌≤◌, ◌<◌, length, arith, sym, subst}
 use Rattle.std.proofs.lemmas.List.{length-map}
-use Rattle.loop_text.specs.Statements.Names.{Names}
+use Rattle.java_ast.specs.Names.{Names, names_lent}
 use Rattle.fragments.specs.Helping.Reading.{fragment_in_code}
-use Rattle.loop_text.specs.Statements.Seen.{names_lent}
 use Rattle.loop_text.specs.Statements.Wanted.{AreWanted, HasAll, following}
 use Rattle.java_loops.proofs.Lists.Following.{less_left, still_within, wanted_step, all_step, one_looked_at, all_looked_at}
 use Rattle.fragments.proofs.kept.keeping.put_all_following.Goals as goal

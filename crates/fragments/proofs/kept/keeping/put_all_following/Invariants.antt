@@ -1,9 +1,8 @@
 use Rattle.std.proofs.Common.{◌+◌, ◌-◌, ◌≤◌, length, take}
 use Rattle.java_ast.specs.Reading.{statements}
 use Rattle.fragments.specs.Helping.Listed.{IsListed}
-use Rattle.loop_text.specs.Statements.Names.{Names, mentioned_among}
+use Rattle.java_ast.specs.Names.{Names, mentioned_among, names_lent}
 use Rattle.fragments.specs.Helping.Reading.{fragment_in_code}
-use Rattle.loop_text.specs.Statements.Seen.{names_lent}
 use Rattle.loop_text.specs.Statements.Wanted.{AreWanted, HasAll, HasFollowing}
 use Rattle.java_loops.proofs.Lists.Following.{missing}
 use Rattle.fragments.proofs.kept.keeping.put_all_following.Given as goal

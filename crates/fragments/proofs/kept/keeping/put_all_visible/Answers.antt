@@ -2,9 +2,8 @@ use Rattle.std.proofs.Common.{ap, List, ◌∙◌}
 use Rattle.java_ast.specs.declared.tree.Stmt.{Stmt}
 use Rattle.java_ast.specs.Reading.{statement, statements}
 use Rattle.loop_text.specs.Statements.Fragment.{set_by}
-use Rattle.loop_text.specs.Statements.Names.{with_names}
+use Rattle.java_ast.specs.Names.{with_names, names_lent}
 use Rattle.fragments.specs.Helping.Reading.{fragment_in_code}
-use Rattle.loop_text.specs.Statements.Seen.{names_lent}
 use Rattle.loop_text.specs.Statements.Wanted.{mentioned_by_visible, mentioned_where, keeps_visible}
 use Rattle.fragments.proofs.Staying.Gathered.{piece_put}
 use Rattle.loop_text.proofs.Trees.Walked.{next_item}

@@ -1,9 +1,8 @@
 use Rattle.std.proofs.Common.{◌≡◌, drop}
 use Rattle.java_ast.specs.Reading.{statements}
 use Rattle.fragments.specs.Helping.Listed.{IsListed}
-use Rattle.loop_text.specs.Statements.Names.{with_names}
+use Rattle.java_ast.specs.Names.{with_names, names_lent}
 use Rattle.fragments.specs.Helping.Reading.{fragment_in_code}
-use Rattle.loop_text.specs.Statements.Seen.{names_lent}
 use Rattle.loop_text.specs.Statements.Wanted.{mentioned_by_visible}
 use Rattle.fragments.proofs.kept.keeping.put_all_visible.Given as goal
 

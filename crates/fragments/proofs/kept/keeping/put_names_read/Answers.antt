@@ -2,10 +2,8 @@ use Rattle.std.specs.Borrow.{Bor}
 use Rattle.std.proofs.Common.{ap, List}
 use Rattle.java_ast.specs.declared.tree.Expr.{Expr}
 use Rattle.java_ast.specs.Reading.{expression}
-use Rattle.java_loops.specs.Lowering.Lowered.{names_read}
-use Rattle.loop_text.specs.Statements.Names.{names_in}
+use Rattle.java_ast.specs.Names.{names_read, names_in, names_lent}
 use Rattle.loop_text.specs.Sites.Reading.{exprs_lent}
-use Rattle.loop_text.specs.Statements.Seen.{names_lent}
 use Rattle.fragments.proofs.Staying.Gathered.{piece_put}
 use Rattle.loop_text.proofs.Trees.Walked.{next_item}
 use Rattle.fragments.proofs.kept.keeping.put_names_read.Goals as goal

@@ -1,9 +1,7 @@
 use Rattle.std.proofs.Common.{◌≡◌, drop}
 use Rattle.fragments.specs.Helping.Listed.{IsListed}
-use Rattle.java_loops.specs.Lowering.Lowered.{names_read}
-use Rattle.loop_text.specs.Statements.Names.{with_names}
+use Rattle.java_ast.specs.Names.{names_read, with_names, names_lent}
 use Rattle.loop_text.specs.Sites.Reading.{exprs_lent}
-use Rattle.loop_text.specs.Statements.Seen.{names_lent}
 use Rattle.fragments.proofs.kept.keeping.put_names_read.Given as goal
 
 abbrev pub invariant-loop-e : goal.invariant-loop-e

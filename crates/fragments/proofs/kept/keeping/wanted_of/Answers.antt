@@ -1,7 +1,6 @@
 use Rattle.std.proofs.Common.{◌∙◌, ap, sym, subst}
-use Rattle.java_loops.specs.Lowering.Lowered.{names_read}
+use Rattle.java_ast.specs.Names.{names_read, names_lent}
 use Rattle.loop_text.specs.Sites.Reading.{exprs_lent}
-use Rattle.loop_text.specs.Statements.Seen.{names_lent}
 use Rattle.fragments.specs.Helping.Reading.{fragment_in_code}
 use Rattle.fragments.specs.declared.kept.name_list.NameList.{NameList}
 use Rattle.loop_text.specs.Statements.Wanted.{AreWanted}

@@ -1,8 +1,7 @@
 use Rattle.std.proofs.Common.{ap, List}
 use Rattle.java_ast.specs.declared.tree.Expr.{Expr}
 use Rattle.java_ast.specs.Reading.{expression, expressions}
-use Rattle.loop_text.specs.Statements.Names.{names_in, names_among}
-use Rattle.loop_text.specs.Statements.Seen.{names_lent}
+use Rattle.java_ast.specs.Names.{names_in, names_among, names_lent}
 use Rattle.fragments.proofs.Staying.Gathered.{piece_put}
 use Rattle.loop_text.proofs.Trees.Walked.{next_item}
 use Rattle.fragments.proofs.kept.mentioned.+names.Goals as goal

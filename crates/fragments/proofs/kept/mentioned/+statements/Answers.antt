@@ -1,8 +1,7 @@
 use Rattle.std.proofs.Common.{ap, List}
 use Rattle.java_ast.specs.declared.tree.Stmt.{Stmt}
 use Rattle.java_ast.specs.Reading.{statement, statements}
-use Rattle.loop_text.specs.Statements.Names.{mentioned_in, mentioned_among}
-use Rattle.loop_text.specs.Statements.Seen.{names_lent}
+use Rattle.java_ast.specs.Names.{mentioned_in, mentioned_among, names_lent}
 use Rattle.fragments.proofs.Staying.Gathered.{piece_put}
 use Rattle.loop_text.proofs.Trees.Walked.{next_item}
 use Rattle.fragments.proofs.kept.mentioned.+statements.Goals as goal

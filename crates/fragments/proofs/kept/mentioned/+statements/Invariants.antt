@@ -1,8 +1,7 @@
 use Rattle.std.proofs.Common.{◌≡◌, drop}
 use Rattle.java_ast.specs.Reading.{statements}
 use Rattle.fragments.specs.Helping.Listed.{IsListed}
-use Rattle.loop_text.specs.Statements.Names.{with_names, mentioned_among}
-use Rattle.loop_text.specs.Statements.Seen.{names_lent}
+use Rattle.java_ast.specs.Names.{with_names, mentioned_among, names_lent}
 use Rattle.fragments.proofs.kept.mentioned.+statements.Given as goal
 
 abbrev pub invariant-put_all_mentioned-loop-s : goal.invariant-put_all_mentioned-loop-s

@@ -2,8 +2,7 @@ use Rattle.std.specs.Borrow.{Bor}
 use Rattle.std.proofs.Common.{ap, List, map}
 use Rattle.java_ast.specs.declared.tree.Stmt.{Stmt}
 use Rattle.java_ast.specs.Reading.{statement}
-use Rattle.loop_text.specs.Statements.Names.{mentioned_in}
-use Rattle.loop_text.specs.Statements.Seen.{names_lent}
+use Rattle.java_ast.specs.Names.{mentioned_in, names_lent}
 use Rattle.loop_text.specs.Statements.Wanted.{mentioned_in_all}
 use Rattle.fragments.proofs.Staying.Gathered.{piece_put}
 use Rattle.loop_text.proofs.Trees.Walked.{next_item}

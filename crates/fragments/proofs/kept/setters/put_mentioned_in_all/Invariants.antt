@@ -1,8 +1,7 @@
 use Rattle.std.proofs.Common.{◌≡◌, drop, map}
 use Rattle.java_ast.specs.Reading.{statement}
 use Rattle.fragments.specs.Helping.Listed.{IsListed}
-use Rattle.loop_text.specs.Statements.Names.{with_names}
-use Rattle.loop_text.specs.Statements.Seen.{names_lent}
+use Rattle.java_ast.specs.Names.{with_names, names_lent}
 use Rattle.loop_text.specs.Statements.Wanted.{mentioned_in_all}
 use Rattle.fragments.proofs.kept.setters.put_mentioned_in_all.Given as goal
 

@@ -3,7 +3,7 @@ use Rattle.kernel_lang.specs.Plain.{accumulator}
 use Rattle.tor_terms.specs.Plain.{forms_of}
 use Rattle.fragments.specs.Helping.Contexts.{numbers_given, setting_given}
 use Rattle.java_loops.specs.Lowering.Lowered.{outer_accumulators}
-use Rattle.loop_text.specs.Statements.Seen.{names_lent}
+use Rattle.java_ast.specs.Names.{names_lent}
 use Rattle.fragments.proofs.lowering.accumulated.push_outer.Given as goal
 
 abbrev pub invariant-loop-x : goal.invariant-loop-x

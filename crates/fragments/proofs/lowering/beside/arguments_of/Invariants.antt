@@ -3,7 +3,7 @@ use Rattle.loop_text.specs.Kernel.KernelConditions.{asked_for}
 use Rattle.java_loops.specs.Lowering.Lowered.{numbers_of_arguments}
 use Rattle.java_loops.specs.Lowering.Numbering.{arguments_asked}
 use Rattle.loop_text.specs.Sites.Reading.{exprs_lent}
-use Rattle.loop_text.specs.Statements.Seen.{names_lent}
+use Rattle.java_ast.specs.Names.{names_lent}
 use Rattle.fragments.specs.Helping.Reading.{setting_in_code}
 use Rattle.fragments.proofs.lowering.beside.arguments_of.Given as goal
 

@@ -1,5 +1,5 @@
 use Rattle.std.proofs.Common.{◌≡◌, ◌++◌, drop}
-use Rattle.loop_text.specs.Statements.Seen.{names_lent}
+use Rattle.java_ast.specs.Names.{names_lent}
 use Rattle.fragments.proofs.lowering.beside.copy_names.Given as goal
 
 abbrev pub invariant-loop-x : goal.invariant-loop-x

@@ -5,7 +5,7 @@ use Rattle.loop_text.specs.Kernel.KernelConditions.{asked_for}
 use Rattle.java_loops.specs.Lowering.Lowered.{numbers_of_arguments, query_asked}
 use Rattle.java_loops.specs.Lowering.Numbering.{arguments_asked}
 use Rattle.loop_text.specs.Sites.Reading.{exprs_lent}
-use Rattle.loop_text.specs.Statements.Seen.{names_lent}
+use Rattle.java_ast.specs.Names.{names_lent}
 use Rattle.fragments.specs.Asked.{HasQueriesOf}
 use Rattle.fragments.specs.Helping.Reading.{setting_in_code}
 use Rattle.fragments.specs.Lowers.{lowering_in_code}

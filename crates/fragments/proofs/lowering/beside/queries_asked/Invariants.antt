@@ -6,7 +6,7 @@ use Rattle.sql_ast.specs.Valid.{IsQueryOf}
 use Rattle.loop_text.specs.Kernel.KernelConditions.{asked_for}
 use Rattle.java_loops.specs.Lowering.Lowered.{query_asked}
 use Rattle.fragments.specs.Helping.LoweredInCode.{has_query}
-use Rattle.loop_text.specs.Statements.Seen.{names_lent}
+use Rattle.java_ast.specs.Names.{names_lent}
 use Rattle.fragments.specs.Helping.Reading.{setting_in_code}
 use Rattle.fragments.proofs.lowering.beside.queries_asked.Given as goal
 

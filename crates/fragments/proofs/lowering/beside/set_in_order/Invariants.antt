@@ -1,7 +1,7 @@
 use Rattle.std.proofs.Common.{◌≡◌, ◌++◌, drop}
 use Rattle.java_ast.specs.Reading.{statements}
 use Rattle.java_loops.specs.Lowering.Lowered.{set_in_order}
-use Rattle.loop_text.specs.Statements.Seen.{names_lent}
+use Rattle.java_ast.specs.Names.{names_lent}
 use Rattle.fragments.proofs.lowering.beside.set_in_order.Given as goal
 
 abbrev pub invariant-loop-s : goal.invariant-loop-s

@@ -1,7 +1,7 @@
 use Rattle.std.proofs.Common.{◌≡◌, drop}
 use Rattle.java_ast.specs.Reading.{statement}
 use Rattle.fragments.specs.Helping.LoweredInCode.{set_among}
-use Rattle.loop_text.specs.Statements.Seen.{names_lent}
+use Rattle.java_ast.specs.Names.{names_lent}
 use Rattle.fragments.proofs.lowering.beside.set_name.Given as goal
 
 abbrev pub invariant-loop-x : goal.invariant-loop-x

@@ -2,7 +2,7 @@ use Rattle.std.proofs.Common.{drop, map}
 use Rattle.fragments.specs.Helping.Numbered.{leaf_in_code}
 use Rattle.java_loops.specs.Lowering.Numbering.{atoms_among}
 use Rattle.loop_text.specs.Sites.Reading.{exprs_lent}
-use Rattle.loop_text.specs.Statements.Seen.{names_lent}
+use Rattle.java_ast.specs.Names.{names_lent}
 use Rattle.fragments.specs.Helping.Reading.{setting_in_code}
 use Rattle.java_loops.specs.Lowering.UpTo.{Reaches}
 use Rattle.fragments.proofs.numbering.atoms.put_atoms.Given as goal

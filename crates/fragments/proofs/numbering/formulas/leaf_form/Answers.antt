@@ -7,7 +7,7 @@ use Rattle.fragments.specs.Helping.Counted.{numbers_in_code}
 use Rattle.fragments.specs.Helping.Numbered.{reading_in_code}
 use Rattle.java_loops.specs.Lowering.Numbering.{number_where, reading_of, same_atom}
 use Rattle.loop_text.specs.Sites.Reading.{exprs_lent}
-use Rattle.loop_text.specs.Statements.Seen.{names_lent}
+use Rattle.java_ast.specs.Names.{names_lent}
 use Rattle.fragments.specs.Helping.Reading.{setting_in_code}
 use Rattle.java_loops.proofs.Formed.ReadLeaves.{leaf_read}
 use Rattle.fragments.proofs.numbering.formulas.leaf_form.Goals as goal

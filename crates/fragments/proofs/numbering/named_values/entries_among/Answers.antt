@@ -3,7 +3,7 @@ use Rattle.std.proofs.lemmas.List.{length-map}
 use Rattle.java_ast.specs.Reading.{expression, statements}
 use Rattle.fragments.specs.Helping.Numbered.{leaf_in_code}
 use Rattle.loop_text.specs.Sites.Reading.{exprs_lent, site_of}
-use Rattle.loop_text.specs.Statements.Seen.{names_lent}
+use Rattle.java_ast.specs.Names.{names_lent}
 use Rattle.java_loops.proofs.Lists.UpTo.{entries_found, few_found, many_found}
 use Rattle.fragments.proofs.numbering.named_values.entries_among.Goals as goal
 

@@ -2,7 +2,7 @@ use Rattle.std.proofs.Common.{◌≡◌, [], drop, map}
 use Rattle.fragments.specs.Helping.Listed.{IsListed}
 use Rattle.fragments.specs.Helping.Numbered.{leaf_in_code}
 use Rattle.java_loops.specs.Lowering.Numbering.{known_among}
-use Rattle.loop_text.specs.Statements.Seen.{names_lent}
+use Rattle.java_ast.specs.Names.{names_lent}
 use Rattle.fragments.proofs.numbering.named_values.known_found.Given as goal
 
 abbrev pub invariant-loop-leaf : goal.invariant-loop-leaf

@@ -1,6 +1,6 @@
 use Rattle.std.proofs.Common.{◌≡◌, ◌+◌, bytes_eq, drop}
 use Rattle.java_loops.specs.Lowering.Numbering.{number_where}
-use Rattle.loop_text.specs.Statements.Seen.{names_lent}
+use Rattle.java_ast.specs.Names.{names_lent}
 use Rattle.fragments.proofs.numbering.named_values.known_number.Given as goal
 
 abbrev pub invariant-loop-i : goal.invariant-loop-i

@@ -2,7 +2,7 @@ use Rattle.std.proofs.Common.{◌+◌, ap, drop, arith}
 use Rattle.std.proofs.lemmas.List.{length-map}
 use Rattle.java_ast.specs.Reading.{expression, statements}
 use Rattle.loop_text.specs.Sites.Reading.{exprs_lent}
-use Rattle.loop_text.specs.Statements.Seen.{names_lent}
+use Rattle.java_ast.specs.Names.{names_lent}
 use Rattle.java_loops.proofs.Lists.UpTo.{stopped, query_found, arguments_grow}
 use Rattle.loop_text.proofs.Trees.Walked.{next_item}
 use Rattle.fragments.proofs.numbering.named_values.put_known_arguments.Goals as goal

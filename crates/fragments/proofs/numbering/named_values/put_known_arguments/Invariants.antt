@@ -2,7 +2,7 @@ use Rattle.std.proofs.Common.{drop}
 use Rattle.java_ast.specs.Reading.{statements}
 use Rattle.java_loops.specs.Lowering.Numbering.{with_arguments}
 use Rattle.loop_text.specs.Sites.Reading.{exprs_lent}
-use Rattle.loop_text.specs.Statements.Seen.{names_lent}
+use Rattle.java_ast.specs.Names.{names_lent}
 use Rattle.java_loops.specs.Lowering.UpTo.{Reaches}
 use Rattle.fragments.proofs.numbering.named_values.put_known_arguments.Given as goal
 

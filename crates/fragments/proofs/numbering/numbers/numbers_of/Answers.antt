@@ -2,7 +2,7 @@ use Rattle.std.proofs.Common.{◌≡◌, ◌≤◌, ◌∙◌, List, [], ap, ari
 use Rattle.std.proofs.lemmas.List.{length-map}
 use Rattle.fragments.specs.Helping.Numbered.{leaf_in_code}
 use Rattle.java_loops.specs.Lowering.Numbering.{Leaf, known_among, known_of, numbers_of}
-use Rattle.loop_text.specs.Statements.Seen.{names_lent}
+use Rattle.java_ast.specs.Names.{names_lent}
 use Rattle.fragments.specs.Helping.Reading.{setting_in_code}
 use Rattle.fragments.specs.declared.numbering.leaf_list.Leaf as code
 use Rattle.java_loops.proofs.Known.KnownFew.{known_few}

@@ -1,4 +1,4 @@
-use Rattle.loop_text.specs.Statements.Seen.{names_lent}
+use Rattle.java_ast.specs.Names.{names_lent}
 use Rattle.fragments.specs.Helping.Reading.{setting_in_code}
 use Rattle.fragments.proofs.Ruled.LoweredCounts.{many_loops}
 use Rattle.fragments.proofs.rules.k8_sizes.counted.Goals as goal

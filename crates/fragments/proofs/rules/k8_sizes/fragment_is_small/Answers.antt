@@ -4,7 +4,7 @@ use Rattle.kernel_lang.specs.Plain.{accumulator}
 use Rattle.tor_terms.specs.declared.term.Formula.{Formula}
 use Rattle.tor_terms.specs.Plain.{forms_of}
 use Rattle.fragments.specs.Helping.Counted.{numbers_in_code}
-use Rattle.loop_text.specs.Statements.Seen.{names_lent}
+use Rattle.java_ast.specs.Names.{names_lent}
 use Rattle.fragments.specs.Helping.Reading.{setting_in_code}
 use Rattle.fragments.proofs.Ruled.LoweredCounts.{small_then, small_else}
 use Rattle.fragments.proofs.rules.k8_sizes.fragment_is_small.Goals as goal

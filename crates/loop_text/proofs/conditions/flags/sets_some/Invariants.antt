@@ -1,7 +1,7 @@
 use Rattle.std.proofs.Common.{◌≡◌, drop}
 use Rattle.java_ast.specs.Reading.{expressions, statements}
 use Rattle.loop_text.specs.Kernel.KernelConditions.{sets_some}
-use Rattle.loop_text.specs.Statements.Names.{names_among}
+use Rattle.java_ast.specs.Names.{names_among}
 use Rattle.loop_text.proofs.conditions.flags.sets_some.Given as goal
 
 abbrev pub invariant-loop-s : goal.invariant-loop-s

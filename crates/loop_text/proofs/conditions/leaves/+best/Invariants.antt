@@ -2,7 +2,7 @@ use Rattle.std.specs.List.{list_any}
 use Rattle.std.proofs.Common.{◌≡◌, drop, map}
 use Rattle.java_ast.specs.Reading.{expressions}
 use Rattle.loop_text.specs.Kernel.KernelConditions.{all_best_under}
-use Rattle.loop_text.specs.Statements.Names.{is_among, names_among}
+use Rattle.java_ast.specs.Names.{is_among, names_among}
 use Rattle.loop_text.specs.Sites.Reading.{site_of}
 use Rattle.loop_text.proofs.conditions.leaves.+best.Given as goal
 

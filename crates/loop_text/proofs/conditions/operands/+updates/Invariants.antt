@@ -1,6 +1,6 @@
 use Rattle.std.proofs.Common.{◌≡◌, drop}
 use Rattle.java_ast.specs.Reading.{statements}
-use Rattle.loop_text.specs.Statements.Names.{is_among, updated_among}
+use Rattle.java_ast.specs.Names.{is_among, updated_among}
 use Rattle.loop_text.proofs.conditions.operands.+updates.Given as goal
 
 abbrev pub invariant-block_updates-loop-s : goal.invariant-block_updates-loop-s

@@ -1,6 +1,6 @@
 use Rattle.std.proofs.Common.{◌≡◌, drop}
 use Rattle.java_ast.specs.Reading.{expressions}
-use Rattle.loop_text.specs.Statements.Names.{is_among, names_among}
+use Rattle.java_ast.specs.Names.{is_among, names_among}
 use Rattle.loop_text.proofs.statements.names.+mentions.Given as goal
 
 abbrev pub invariant-some_mentions-loop-e : goal.invariant-some_mentions-loop-e

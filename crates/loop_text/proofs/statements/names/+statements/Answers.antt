@@ -1,7 +1,7 @@
 use Rattle.std.proofs.Common.{◌∙◌, sym, ap, List}
 use Rattle.java_ast.specs.declared.tree.Stmt.{Stmt}
 use Rattle.java_ast.specs.Reading.{statements}
-use Rattle.loop_text.specs.Statements.Names.{is_among, mentioned_among}
+use Rattle.java_ast.specs.Names.{is_among, mentioned_among}
 use Rattle.loop_text.proofs.Trees.Mentions.{in_first_branch}
 use Rattle.loop_text.proofs.statements.names.+statements.Goals as goal
 

@@ -1,6 +1,6 @@
 use Rattle.std.proofs.Common.{◌≡◌, drop}
 use Rattle.java_ast.specs.Reading.{statements}
-use Rattle.loop_text.specs.Statements.Names.{is_among, mentioned_among}
+use Rattle.java_ast.specs.Names.{is_among, mentioned_among}
 use Rattle.loop_text.proofs.statements.names.+statements.Given as goal
 
 abbrev pub invariant-block_mentions-loop-s : goal.invariant-block_mentions-loop-s

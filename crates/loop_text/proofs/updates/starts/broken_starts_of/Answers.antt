@@ -4,9 +4,8 @@ use Rattle.std.proofs.Common.{◌∙◌, ◌+◌, ℕ, sym, ap, true, false, Lis
 use Rattle.java_ast.specs.declared.tree.Stmt.{Stmt}
 use Rattle.java_ast.specs.Reading.{statement, statements}
 use Rattle.loop_text.specs.Kernel.KernelStarts.{broken_starts_of}
-use Rattle.loop_text.specs.Statements.Names.{Names}
+use Rattle.java_ast.specs.Names.{Names, names_lent}
 use Rattle.loop_text.specs.Sites.Reading.{site_of}
-use Rattle.loop_text.specs.Statements.Seen.{names_lent}
 use Rattle.loop_text.proofs.Trees.Rounds.{place_is}
 use Rattle.loop_text.proofs.Trees.Started.{spoils, untouched, start_taken}
 use Rattle.loop_text.proofs.Trees.Walked.{next_item}

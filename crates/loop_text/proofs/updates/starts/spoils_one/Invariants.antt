@@ -5,7 +5,7 @@ use Rattle.loop_text.specs.Sites.Reading.{site_of}
 use Rattle.java_ast.specs.Reading.{statement, statements}
 use Rattle.loop_text.specs.Kernel.KernelStarts.{starts}
 use Rattle.loop_text.specs.Statements.Setting.{touches}
-use Rattle.loop_text.specs.Statements.Seen.{names_lent}
+use Rattle.java_ast.specs.Names.{names_lent}
 use Rattle.loop_text.proofs.updates.starts.spoils_one.Given as goal
 
 abbrev pub invariant-loop-x : goal.invariant-loop-x

@@ -3,7 +3,7 @@ use Rattle.std.specs.List.{filter}
 use Rattle.std.proofs.Common.{◌≡◌, ◌++◌, drop}
 use Rattle.java_ast.specs.Reading.{statement}
 use Rattle.loop_text.specs.Statements.Setting.{touches}
-use Rattle.loop_text.specs.Statements.Seen.{names_lent}
+use Rattle.java_ast.specs.Names.{names_lent}
 use Rattle.loop_text.proofs.updates.starts.untouched.Given as goal
 
 abbrev pub invariant-loop-x : goal.invariant-loop-x

@@ -1,5 +1,5 @@
 use Rattle.std.proofs.Common.{◌∙◌, sym}
-use Rattle.java_loops.proofs.Lists.Sets.{names_more}
+use Rattle.java_mean.proofs.Sets.{names_more}
 use Rattle.fragments.proofs.kept.name_list.NameList.put.Goals as goal
 
 pub returns-clause-names : goal.returns-clause-names

@@ -1,0 +1,4 @@
+pub mod Copies
+pub mod Moved
+pub mod Places
+pub mod Ranges

@@ -1,0 +1,18 @@
+use Rattle.std.proofs.lemmas.Result.{IfOk-weaker}
+use Rattle.java_copies.proofs.Places.{query_placed, query_long_placed, query_boolean_placed}
+use Rattle.java_copies.proofs.placed.+copy_placed.Goals as goal
+
+pub copy_placed-returns-in_ok-arguments-in-Query : goal.copy_placed-returns-in_ok-arguments-in-Query
+copy_placed-returns-in_ok-arguments-in-Query t c =
+    IfOk-weaker c.copy_query.result _ _ (λ r built. query_placed c.args.at c.args.e.now r c.in-Query.element c.in-Query.text c.in-Query.arguments c.in_ok-arguments-in-Query.arguments c.deref-in-Query.result.now
+    c.in-Query.is c.deref-in-Query.ensures.value built c.in_ok-arguments-in-Query.ensures) c.copy_query.ensures
+
+pub copy_placed-returns-in_ok-arguments-in-QueryLong : goal.copy_placed-returns-in_ok-arguments-in-QueryLong
+copy_placed-returns-in_ok-arguments-in-QueryLong t c =
+    IfOk-weaker c.copy_query_long.result _ _ (λ r built. query_long_placed c.args.at c.args.e.now r c.in-QueryLong.text c.in-QueryLong.arguments c.in_ok-arguments-in-QueryLong.arguments c.deref-in-QueryLong.result.now
+    c.in-QueryLong.is c.deref-in-QueryLong.ensures.value built c.in_ok-arguments-in-QueryLong.ensures) c.copy_query_long.ensures
+
+pub copy_placed-returns-in_ok-arguments-in-QueryBoolean : goal.copy_placed-returns-in_ok-arguments-in-QueryBoolean
+copy_placed-returns-in_ok-arguments-in-QueryBoolean t c =
+    IfOk-weaker c.copy_query_boolean.result _ _ (λ r built. query_boolean_placed c.args.at c.args.e.now r c.in-QueryBoolean.text c.in-QueryBoolean.arguments c.in_ok-arguments-in-QueryBoolean.arguments c.deref-in-QueryBoolean.result.now
+    c.in-QueryBoolean.is c.deref-in-QueryBoolean.ensures.value built c.in_ok-arguments-in-QueryBoolean.ensures) c.copy_query_boolean.ensures
