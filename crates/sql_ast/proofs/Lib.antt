@@ -6,11 +6,13 @@ pub mod Conditions
 pub mod Depths
 pub mod Doubled
 pub mod FirstOnes
+pub mod Hiding
 pub mod Inverted
 pub mod InvertedQuery
 pub mod Judged
 pub mod Lexed
 pub mod Marks
+pub mod Named
 pub mod OneAnswer
 pub mod OneQuery
 pub mod Opened

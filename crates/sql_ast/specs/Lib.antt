@@ -2,12 +2,17 @@ pub mod Answers
 pub mod Canonical
 pub mod Grammar
 pub mod Grouped
+pub mod InSight
 pub mod Keys
+pub mod Knowns
 pub mod Lexer
+pub mod Limits
 pub mod Meaning
 pub mod Names
+pub mod Places
 pub mod Reader
 pub mod Reading
+pub mod Sights
 pub mod Texts
 pub mod Tokens
 pub mod Tree

@@ -2,20 +2,21 @@
 use Rattle.std.proofs.Common.{◌≡◌, ℕ, List, [], ◌∷◌, ◌++◌, Option, Some, refl, sym, ap, ap₂, ◌∙◌, subst}
 use Rattle.std.specs.Global.{Box}
 use Rattle.qbs_base.specs.Values.{Schema}
+use Rattle.sql_ast.specs.declared.known.Known.{Known}
 use Rattle.sql_ast.specs.declared.tree.Cond.{Cond}
+use Rattle.sql_ast.specs.Knowns.{knowns_of}
 use Rattle.sql_ast.specs.Names.{named_condition}
 use Rattle.sql_ast.specs.Reading.{condition}
 use Rattle.sql_ast.specs.Tree.{Condition}
 use Rattle.sql_ast.specs.Written.{WrittenCondition}
 use Rattle.sql_ast.specs.Written as written
 use Rattle.sql_parse.specs.declared.fault.Stop.{Stop}
-use Rattle.sql_parse.specs.declared.known.Known.{Known}
 use Rattle.sql_parse.specs.declared.naming.Step.{Step}
 use Rattle.sql_parse.specs.declared.naming.Step.TheVariants as steps
 use Rattle.sql_parse.specs.declared.raw.RawCond.{RawCond}
 use Rattle.sql_parse.specs.declared.raw.RawCond.TheViews as views
 use Rattle.sql_parse.specs.Said.{condition_of}
-use Rattle.sql_parse.specs.Scopes.{knowns_of, scope_of}
+use Rattle.sql_parse.specs.Scopes.{scope_of}
 use Rattle.sql_parse.specs.Seen.{Fails}
 use Rattle.sql_parse.proofs.Climbing.{over, both_on, either_on, not_on, both_fails, either_fails}
 

@@ -7,12 +7,13 @@ use Rattle.std.proofs.Math.Seq.{take-suc}
 use Rattle.std.proofs.lemmas.List.{map-append}
 use Rattle.std.proofs.lemmas.List.Folds.{list_any-append}
 use Rattle.std.proofs.lemmas.Slice.Eq.{bytes_eq-Decides}
+use Rattle.sql_ast.specs.declared.known.Known.{Known}
+use Rattle.sql_ast.specs.declared.places.Places.{Places}
+use Rattle.sql_ast.specs.Knowns.{known_of, knowns_of}
 use Rattle.sql_ast.specs.Names.{are_distinct}
 use Rattle.sql_ast.specs.Names as names
-use Rattle.sql_parse.specs.declared.known.Known.{Known}
-use Rattle.sql_parse.specs.declared.places.Places.{Places}
-use Rattle.sql_parse.specs.Places.{number_of, replaced}
-use Rattle.sql_parse.specs.Scopes.{known_of, knowns_of, aliases_of}
+use Rattle.sql_ast.specs.Places.{number_of, replaced}
+use Rattle.sql_parse.specs.Scopes.{aliases_of}
 
 -- ---- names
 

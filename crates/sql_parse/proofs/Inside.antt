@@ -4,9 +4,11 @@ use Rattle.std.proofs.Math.Seq.{take-append_seam, drop-append_seam}
 use Rattle.std.proofs.lemmas.List.{length-map, take-append-drop}
 use Rattle.std.specs.Global.{Box}
 use Rattle.qbs_base.specs.Values.{Schema}
+use Rattle.sql_ast.specs.declared.known.Known.{Known}
 use Rattle.sql_ast.specs.declared.tree.FromItem.{FromItem}
 use Rattle.sql_ast.specs.declared.tree.SqlCol.{SqlCol}
 use Rattle.sql_ast.specs.declared.tree.SqlOpnd.{SqlOpnd}
+use Rattle.sql_ast.specs.Knowns.{known_of, knowns_of}
 use Rattle.sql_ast.specs.Names.{◌>>=◌, Scope, known_parts, named_col, named_opnd, named_condition, named_filter, froms_of}
 use Rattle.sql_ast.specs.Names as names
 use Rattle.sql_ast.specs.Tree.{Condition, Filter}
@@ -14,7 +16,6 @@ use Rattle.sql_ast.specs.Tree as plain
 use Rattle.sql_ast.specs.Written.{WrittenCol, WrittenPart, WrittenFilter}
 use Rattle.sql_parse.specs.declared.fault.Stop.{Stop}
 use Rattle.sql_parse.specs.declared.fault.Stop.TheVariants as stops
-use Rattle.sql_parse.specs.declared.known.Known.{Known}
 use Rattle.sql_parse.specs.declared.raw.RawCol.{RawCol}
 use Rattle.sql_parse.specs.declared.raw.RawCond.{RawCond}
 use Rattle.sql_parse.specs.declared.raw.RawCond.TheViews as views
@@ -22,7 +23,7 @@ use Rattle.sql_parse.specs.declared.raw.RawOpnd.{RawOpnd}
 use Rattle.sql_parse.specs.declared.raw.RawPart.{RawPart}
 use Rattle.sql_parse.specs.Inner.{entered_in, membership_in}
 use Rattle.sql_parse.specs.Said.{col_of, opnd_of, parts_of, filter_of, condition_of}
-use Rattle.sql_parse.specs.Scopes.{known_of, knowns_of, scope_of}
+use Rattle.sql_parse.specs.Scopes.{scope_of}
 use Rattle.sql_parse.specs.Seen.{Fails}
 use Rattle.sql_parse.proofs.RawViews.{exists_is, within_is}
 

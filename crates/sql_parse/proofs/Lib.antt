@@ -7,7 +7,6 @@ pub mod Distinct
 pub mod Each
 pub mod Exactly
 pub mod Froms
-pub mod Hiding
 pub mod Inside
 pub mod Items
 pub mod Lexed

@@ -1,10 +1,10 @@
 -- Words of queries that stand before a parenthesis, and items that begin with a word.
-use Rattle.std.specs.Prelude.{ℕ, ℤ, pos, if◌then◌else◌, List, ◌∷◌}
+use Rattle.std.specs.Prelude.{ℕ, ℤ, if◌then◌else◌, List, ◌∷◌}
 use Rattle.std.specs.Str.Parse.{digits_value}
 use Rattle.std.specs.declared.option.Option.{Option}
 use Rattle.std.specs.declared.option.Option.TheVariants.{Some, None}
-use Rattle.qbs_base.specs.Values.{fits_long}
 use Rattle.sql_ast.specs.declared.tree.Cmp.{Cmp}
+use Rattle.sql_ast.specs.Limits.{limit_within}
 use Rattle.sql_ast.specs.Names.{◌>>=◌}
 use Rattle.sql_ast.specs.Reader.{Read, given, is_word, col_at}
 use Rattle.sql_ast.specs.Tokens.{Token, Word, Test, Open, Dot, Star, is_free}
@@ -20,7 +20,7 @@ behind_call name _ = None
 
 -- the number that digits write, below 2^63
 abbrev pub number_within : List ℕ → Option ℕ
-number_within digits = if fits_long (pos (digits_value 10 digits)) then Some (digits_value 10 digits) else None
+number_within digits = limit_within (digits_value 10 digits)
 
 -- what a total makes of its column and of its number over no rows
 abbrev pub make_of : Total → WrittenCol → ℤ → WrittenKind

@@ -2,16 +2,13 @@ pub mod Answers
 pub mod Begins
 pub mod Calls
 pub mod Chains
-pub mod InSight
 pub mod Inner
 pub mod Negations
 pub mod Operands
 pub mod Pieces
-pub mod Places
 pub mod ReadNames
 pub mod Said
 pub mod Scopes
 pub mod Seen
-pub mod Sights
 pub mod Steps
 pub mod Types

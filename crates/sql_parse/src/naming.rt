@@ -1,14 +1,15 @@
 // The query that a text says, with its names looked up in a schema.
 ghost use Rattle.std.specs.Prelude.{◌≡◌, ◌≤◌, true, length, take, IfOk, OnOk, option_map};
 ghost use Rattle.std.specs.declared.option.Option.TheVariants.{Some};
+ghost use Rattle.sql_ast.specs.InSight.{in_sight};
+ghost use Rattle.sql_ast.specs.Knowns.{knowns_of};
 ghost use Rattle.sql_ast.specs.Names.{each_of, named_condition, named_filter, named_item as named_item_of, named_group as named_group_of, named_key as named_key_of, named_kind as named_kind_of, named_listing, named_number, named_truth, named_query as named_query_of};
 ghost use Rattle.sql_ast.specs.Reading.{condition as plain_condition, filter_of as plain_filter, inner_filter, listing as plain_listing, number as plain_number, truth as plain_truth, query as plain_query};
 ghost use Rattle.sql_ast.specs.Tree.{Both, Either, Not, Exists, Within};
-ghost use Rattle.sql_parse.specs.InSight.{in_sight};
 ghost use Rattle.sql_parse.specs.Said.{col_of, condition_of, filter_of, item_of, key_of, keys_of, kind_of, listing_of, number_of, opnd_of, parts_of, truth_of, query_of};
 ghost use Rattle.sql_parse.specs.Chains.{is_part};
 ghost use Rattle.sql_parse.specs.Inner.{compared_in, entered_in, membership_in};
-ghost use Rattle.sql_parse.specs.Scopes.{knowns_of, scope_of};
+ghost use Rattle.sql_parse.specs.Scopes.{scope_of};
 ghost use Rattle.sql_parse.specs.Steps.{stepped, climbed};
 ghost use Rattle.sql_parse.specs.Seen.{Gives};
 
@@ -18,11 +19,10 @@ use crate::raw::{
     RawTruth,
 };
 use crate::scope::{from_items, item_named, known_parts, named_col, named_opnd, small};
-use crate::sight::Sight;
 use qbs_base::{NoMemory, Table, Tys};
 use sql_ast::{
-    Cmp, Cond, FromItems, ListQuery, NumberKind, NumberQuery, Query, SqlCol, SqlItem, SqlKey,
-    SqlKeys, SqlOpnd, TruthQuery,
+    Cmp, Cond, FromItems, ListQuery, NumberKind, NumberQuery, Query, Sight, SqlCol, SqlItem,
+    SqlKey, SqlKeys, SqlOpnd, TruthQuery,
 };
 use std::alloc::Global;
 

@@ -18,6 +18,7 @@ use crate::raw::{
 use crate::token::{Numeral, Token};
 use crate::words::{after_comma, after_star, after_word, close, is_free, is_word, open, word};
 use qbs_base::Name;
+use sql_ast::limit_within;
 use std::alloc::Global;
 
 /// The alias of `ALIAS.*`, if it stands at the front, and what stands behind.
@@ -152,8 +153,7 @@ fn order(alloc: Global, tokens: &[Token]) -> Result<(RawKeys, &[Token]), Stop>
 fn below_limit(digits: &Numeral) -> Option<u64>
     ensures { result ≡ number_within digits.now }
 {
-    let number = digits.value()?;
-    if number < 1 << 63 { Some(number) } else { None }
+    limit_within(digits.value()?)
 }
 
 /// The number of a limit.

@@ -2,19 +2,17 @@
 ghost use Rattle.std.specs.Prelude.{◌≡◌, ◌≤◌, map, length, IfOk, option_map};
 ghost use Rattle.qbs_base.specs.Columns.{table_number, column_number};
 ghost use Rattle.std.specs.declared.option.Option.TheVariants.{Some};
+ghost use Rattle.sql_ast.specs.InSight.{in_sight};
+ghost use Rattle.sql_ast.specs.Knowns.{known_of, knowns_of};
 ghost use Rattle.sql_ast.specs.Names.{alias_of as alias_of_part, known_part as known_part_of, each_of, are_distinct as all_differ, known_parts as known_parts_of, item_named as item_named_of, column_named as column_named_of, named_col as named_col_of, named_opnd as named_opnd_of, froms_of};
-ghost use Rattle.sql_parse.specs.InSight.{in_sight};
 ghost use Rattle.sql_parse.specs.Said.{col_of, opnd_of, part_of, parts_of};
-ghost use Rattle.sql_parse.specs.Scopes.{known_of, knowns_of, scope_of, aliases_of, table_named as table_named_of};
+ghost use Rattle.sql_parse.specs.Scopes.{scope_of, aliases_of, table_named as table_named_of};
 ghost use Rattle.sql_parse.specs.Seen.{Gives};
 
 use crate::fault::Stop;
-use crate::known::Known;
-use crate::places::Places;
 use crate::raw::{RawCol, RawOpnd, RawPart};
-use crate::sight::Sight;
 use qbs_base::{Column, Columns, Name, NoMemory, Table};
-use sql_ast::{FromItem, FromItems, SqlCol, SqlColumn, SqlOpnd};
+use sql_ast::{FromItem, FromItems, Known, Places, Sight, SqlCol, SqlColumn, SqlOpnd};
 use std::alloc::Global;
 
 /// A number of 32 bits. More tables, columns or FROM items do not fit in memory.

@@ -1,10 +1,10 @@
 use Rattle.std.proofs.Common.{refl, ap, ◌∙◌, List, arith}
 use Rattle.std.proofs.lemmas.Result.{err_from_is_err_and}
+use Rattle.sql_ast.specs.InSight.{in_sight}
+use Rattle.sql_ast.specs.Knowns.{knowns_of}
 use Rattle.sql_ast.specs.Reading.{condition, inner_filter}
 use Rattle.sql_parse.specs.declared.naming.Step.{Step}
-use Rattle.sql_parse.specs.InSight.{in_sight}
 use Rattle.sql_parse.specs.Said.{condition_of}
-use Rattle.sql_parse.specs.Scopes.{knowns_of}
 use Rattle.sql_parse.proofs.Climbing.{over, nothing_over}
 use Rattle.sql_parse.specs.declared.raw.RawCond.{size-RawCond}
 use Rattle.sql_parse.proofs.Depths.{inside_both, inside_either, inside_not}

@@ -1,9 +1,10 @@
 use Rattle.std.proofs.Common.{◌≡◌, ◌≤◌, ◌+◌, ◌*◌}
+use Rattle.sql_ast.specs.InSight.{in_sight}
+use Rattle.sql_ast.specs.Knowns.{knowns_of}
 use Rattle.sql_ast.specs.Names.{named_condition}
 use Rattle.sql_parse.specs.declared.raw.RawCond.{size-RawCond}
-use Rattle.sql_parse.specs.InSight.{in_sight}
 use Rattle.sql_parse.specs.Said.{condition_of}
-use Rattle.sql_parse.specs.Scopes.{knowns_of, scope_of}
+use Rattle.sql_parse.specs.Scopes.{scope_of}
 use Rattle.sql_parse.proofs.Climbing.{over}
 use Rattle.sql_parse.proofs.Depths.{filter_depth}
 use Rattle.sql_parse.proofs.naming.+condition.Given as goal

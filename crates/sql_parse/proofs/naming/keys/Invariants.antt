@@ -1,8 +1,9 @@
 use Rattle.std.proofs.Common.{◌≡◌, drop}
+use Rattle.sql_ast.specs.InSight.{in_sight}
+use Rattle.sql_ast.specs.Knowns.{knowns_of}
 use Rattle.sql_ast.specs.Names.{each_of, named_key}
-use Rattle.sql_parse.specs.InSight.{in_sight}
 use Rattle.sql_parse.specs.Said.{keys_of}
-use Rattle.sql_parse.specs.Scopes.{knowns_of, scope_of}
+use Rattle.sql_parse.specs.Scopes.{scope_of}
 use Rattle.sql_parse.proofs.Each.{after_front}
 use Rattle.sql_parse.proofs.naming.keys.Given as goal
 

@@ -1,7 +1,7 @@
 use Rattle.std.proofs.Common.{Some, sym, ap, ◌∙◌}
 use Rattle.std.specs.Prelude.{is_some}
-use Rattle.sql_parse.specs.declared.known.Known.{Known}
-use Rattle.sql_parse.specs.Places.{number_of, replaced}
+use Rattle.sql_ast.specs.declared.known.Known.{Known}
+use Rattle.sql_ast.specs.Places.{number_of, replaced}
 use Rattle.sql_parse.proofs.Distinct.{none_met, met_again, met_more, all_met}
 use Rattle.sql_parse.proofs.scope.are_distinct.Goals as goal
 

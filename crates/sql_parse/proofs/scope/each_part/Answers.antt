@@ -1,11 +1,11 @@
 use Rattle.std.proofs.Common.{◌+◌, List, [], ◌∷◌, drop, ap, ◌∙◌}
 use Rattle.std.proofs.lemmas.Result.{err_from_is_err_and}
 use Rattle.std.proofs.lemmas.List.{map-append}
+use Rattle.sql_ast.specs.declared.known.Known.{Known}
+use Rattle.sql_ast.specs.Knowns.{known_of, knowns_of}
 use Rattle.sql_ast.specs.Names.{each_of, known_part}
 use Rattle.sql_ast.specs.Names as names
-use Rattle.sql_parse.specs.declared.known.Known.{Known}
 use Rattle.sql_parse.specs.Said.{part_of, parts_of}
-use Rattle.sql_parse.specs.Scopes.{known_of, knowns_of}
 use Rattle.sql_parse.proofs.Each.{after_front, each_goes_on, each_fails_by, each_ends}
 use Rattle.sql_parse.proofs.scope.each_part.Goals as goal
 

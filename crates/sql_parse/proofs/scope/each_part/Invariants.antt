@@ -1,7 +1,7 @@
 use Rattle.std.proofs.Common.{◌≡◌, drop}
+use Rattle.sql_ast.specs.Knowns.{knowns_of}
 use Rattle.sql_ast.specs.Names.{each_of, known_part}
 use Rattle.sql_parse.specs.Said.{parts_of}
-use Rattle.sql_parse.specs.Scopes.{knowns_of}
 use Rattle.sql_parse.proofs.Each.{after_front}
 use Rattle.sql_parse.proofs.scope.each_part.Given as goal
 

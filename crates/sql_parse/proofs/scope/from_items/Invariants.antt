@@ -1,6 +1,6 @@
 use Rattle.std.proofs.Common.{◌≡◌, ◌++◌, drop}
+use Rattle.sql_ast.specs.Knowns.{knowns_of}
 use Rattle.sql_ast.specs.Names.{froms_of}
-use Rattle.sql_parse.specs.Scopes.{knowns_of}
 use Rattle.sql_parse.proofs.scope.from_items.Given as goal
 
 abbrev pub invariant-loop-item : goal.invariant-loop-item

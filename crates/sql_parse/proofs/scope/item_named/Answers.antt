@@ -1,7 +1,8 @@
 use Rattle.std.proofs.Common.{sym, ap, ◌∙◌}
+use Rattle.sql_ast.specs.InSight.{in_sight}
+use Rattle.sql_ast.specs.Knowns.{knowns_of}
 use Rattle.sql_ast.specs.Names.{item_named}
-use Rattle.sql_parse.specs.InSight.{in_sight}
-use Rattle.sql_parse.specs.Scopes.{knowns_of, scope_of}
+use Rattle.sql_parse.specs.Scopes.{scope_of}
 use Rattle.sql_parse.proofs.Named.{unaliased}
 use Rattle.sql_parse.proofs.scope.item_named.Goals as goal
 

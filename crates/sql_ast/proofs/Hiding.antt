@@ -5,16 +5,14 @@ use Rattle.std.specs.Option.{option_map}
 use Rattle.std.specs.Str.{bytes_eq}
 use Rattle.std.proofs.lemmas.List.{map-append, length-map, length-append, length-drop}
 use Rattle.std.proofs.lemmas.Slice.Eq.{bytes_eq-Decides}
+use Rattle.sql_ast.specs.declared.places.Places.{Places}
+use Rattle.sql_ast.specs.declared.sight.Sighted.{Sighted}
+use Rattle.sql_ast.specs.Knowns.{known_of, knowns_of, own_of}
 use Rattle.sql_ast.specs.Names.{innermost}
 use Rattle.sql_ast.specs.Names as names
-use Rattle.sql_parse.specs.declared.known.Known.{Known}
-use Rattle.sql_parse.specs.declared.places.Places.{Places}
-use Rattle.sql_parse.specs.declared.sight.Sighted.{Sighted}
-use Rattle.sql_parse.specs.Places.{number_of, replaced}
-use Rattle.sql_parse.specs.Scopes.{known_of, knowns_of}
-use Rattle.sql_parse.specs.Sights.{items_in, hidden_numbers, place_of}
-use Rattle.sql_parse.specs.Scopes.{own_of}
-use Rattle.sql_parse.proofs.Named.{last_first, single_own, other_own}
+use Rattle.sql_ast.specs.Places.{number_of, replaced}
+use Rattle.sql_ast.specs.Sights.{items_in, hidden_numbers, place_of}
+use Rattle.sql_ast.proofs.Named.{last_first, single_own, other_own}
 
 -- ---- one item more
 

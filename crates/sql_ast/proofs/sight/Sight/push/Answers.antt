@@ -1,6 +1,6 @@
 use Rattle.std.proofs.Common.{◌∙◌, arith}
-use Rattle.sql_parse.proofs.Hiding.{comes_hiding, comes_found}
-use Rattle.sql_parse.proofs.sight.Sight.push.Goals as goal
+use Rattle.sql_ast.proofs.Hiding.{comes_hiding, comes_found}
+use Rattle.sql_ast.proofs.sight.Sight.push.Goals as goal
 
 pub invariant_of-self-in-Ok : goal.invariant_of-self-in-Ok
 invariant_of-self-in-Ok c = record {

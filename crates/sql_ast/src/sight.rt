@@ -1,9 +1,9 @@
 // FROM items in sight, which are found by their aliases.
 ghost use Rattle.std.specs.Prelude.{◌≡◌, ◌++◌, ◌∷◌, ◌-◌, [], ◌≤◌, ℕ, List, length, map, take, OnOk, option_map};
+ghost use Rattle.sql_ast.specs.Knowns.{known_of, knowns_of, own_of};
 ghost use Rattle.sql_ast.specs.Names.{innermost as innermost_item};
-ghost use Rattle.sql_parse.specs.Places.{number_of};
-ghost use Rattle.sql_parse.specs.Scopes.{known_of, knowns_of, own_of};
-ghost use Rattle.sql_parse.specs.Sights.{items_in, hidden_numbers, place_of};
+ghost use Rattle.sql_ast.specs.Places.{number_of};
+ghost use Rattle.sql_ast.specs.Sights.{items_in, hidden_numbers, place_of};
 
 use crate::known::Known;
 use crate::places::Places;
@@ -28,7 +28,7 @@ pub struct Sight<'a> {
 }
 
 impl<'a> Sight<'a> {
-    ghost use Rattle.sql_parse.specs.InSight.{in_sight};
+    ghost use Rattle.sql_ast.specs.InSight.{in_sight};
 
     /// Nothing is in sight.
     pub fn new(alloc: Global) -> Sight<'a>

@@ -1,7 +1,7 @@
 // Numbers by name.
 ghost use Rattle.std.specs.Prelude.{◌≡◌, ℕ, List, OnOk, OnErr};
 ghost use Rattle.std.specs.declared.option.Option.TheVariants.{None};
-ghost use Rattle.sql_parse.specs.Places.{number_of, replaced};
+ghost use Rattle.sql_ast.specs.Places.{number_of, replaced};
 
 use qbs_base::{Name, NoMemory};
 use std::alloc::Global;

@@ -1,6 +1,6 @@
-use Rattle.std.proofs.Common.{◌∙◌, arith}
-use Rattle.sql_parse.proofs.Hiding.{no_only, one_only}
-use Rattle.sql_parse.proofs.sight.Sight.only.Goals as goal
+use Rattle.std.proofs.Common.{arith}
+use Rattle.sql_ast.proofs.Hiding.{no_only, one_only}
+use Rattle.sql_ast.proofs.sight.Sight.only.Goals as goal
 
 pub returns-then-len-before-ne1 : goal.returns-then-len-before-ne1
 returns-then-len-before-ne1 c = no_only c.args.before c.args.self.now.held.items c.len.result (omega (arith, c.len.ensures, c.args.self.now.held.ok.0)) c.if-len-before-ne1.true

@@ -1,6 +1,6 @@
 // FROM items with known tables.
+use crate::tree::FromItem;
 use qbs_base::{Columns, Name};
-use sql_ast::FromItem;
 
 /// A FROM item: its alias, the columns of its table, and what the query keeps of it.
 #[derive(Drop)]

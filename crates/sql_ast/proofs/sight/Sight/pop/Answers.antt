@@ -1,6 +1,6 @@
-use Rattle.std.proofs.Common.{◌∙◌, arith}
-use Rattle.sql_parse.proofs.Hiding.{gone_last, goes_hiding, goes_found}
-use Rattle.sql_parse.proofs.sight.Sight.pop.Goals as goal
+use Rattle.std.proofs.Common.{arith}
+use Rattle.sql_ast.proofs.Hiding.{gone_last, goes_hiding, goes_found}
+use Rattle.sql_ast.proofs.sight.Sight.pop.Goals as goal
 
 pub invariant_of-self-2 : goal.invariant_of-self-2
 invariant_of-self-2 c =

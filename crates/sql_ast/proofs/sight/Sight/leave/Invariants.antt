@@ -1,6 +1,6 @@
 use Rattle.std.proofs.Common.{◌≡◌, ◌≤◌, length, take}
-use Rattle.sql_parse.specs.InSight.{in_sight}
-use Rattle.sql_parse.proofs.sight.Sight.leave.Given as goal
+use Rattle.sql_ast.specs.InSight.{in_sight}
+use Rattle.sql_ast.proofs.sight.Sight.leave.Given as goal
 
 abbrev pub invariant-loop-self : goal.invariant-loop-self
 invariant-loop-self l = record {

@@ -1,6 +1,6 @@
 use Rattle.std.proofs.Common.{◌∙◌, arith}
-use Rattle.sql_parse.proofs.Hiding.{plain_of, place_none, found_from, found_to, found_item}
-use Rattle.sql_parse.proofs.sight.Sight.innermost.Goals as goal
+use Rattle.sql_ast.proofs.Hiding.{plain_of, place_none, found_from, found_to, found_item}
+use Rattle.sql_ast.proofs.sight.Sight.innermost.Goals as goal
 
 pub returns-in-None : goal.returns-in-None
 returns-in-None c = place_none c.args.alias.now (plain_of c.args.self.now.held.items) (c.in-None.ensures ∙ c.args.self.now.found c.args.alias.now)

@@ -2,8 +2,8 @@ use Rattle.std.proofs.Common.{◌≡◌, ℕ, List, Bool, true, false, cond, Som
 use Rattle.std.specs.Prelude.{if◌then◌else◌}
 use Rattle.std.specs.Str.{bytes_eq}
 use Rattle.std.proofs.lemmas.Map.Text.{btree_map_updates_str}
-use Rattle.sql_parse.specs.Places.{joined, number_of}
-use Rattle.sql_parse.proofs.places.Places.put.Goals as goal
+use Rattle.sql_ast.specs.Places.{joined, number_of}
+use Rattle.sql_ast.proofs.places.Places.put.Goals as goal
 
 joined_if : (b : Bool) (w : Option ℕ) (r : Option (Option ℕ)) → joined (cond b (Some w) r) ≡ (if b then w else joined r)
 joined_if true w r = refl

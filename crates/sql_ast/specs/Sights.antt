@@ -2,10 +2,10 @@
 use Rattle.std.specs.Prelude.{ℕ, List, [], ◌∷◌, ◌++◌, map}
 use Rattle.std.specs.Option.{option_map}
 use Rattle.std.specs.declared.option.Option.{Option}
+use Rattle.sql_ast.specs.declared.known.Known.{Known}
+use Rattle.sql_ast.specs.declared.sight.Sighted.{Sighted}
 use Rattle.sql_ast.specs.Names.{innermost}
 use Rattle.sql_ast.specs.Names as names
-use Rattle.sql_parse.specs.declared.known.Known.{Known}
-use Rattle.sql_parse.specs.declared.sight.Sighted.{Sighted}
 
 abbrev pub items_in : List Sighted → List Known
 items_in held = map (λ s. s.item) held

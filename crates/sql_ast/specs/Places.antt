@@ -6,7 +6,7 @@ use Rattle.std.specs.Ordering.{nat_cmp}
 use Rattle.std.specs.Str.{bytes_eq}
 use Rattle.std.specs.declared.option.Option.{Option}
 use Rattle.std.specs.declared.option.Option.TheVariants.{Some, None}
-use Rattle.sql_parse.specs.declared.places.Places.{Places}
+use Rattle.sql_ast.specs.declared.places.Places.{Places}
 
 abbrev pub joined : Option (Option ℕ) → Option ℕ
 joined None = None
