@@ -2,6 +2,7 @@
 #![tactic(auto)]
 
 mod accept;
+mod accept_all;
 mod bundle;
 mod bytes;
 mod entries;
@@ -12,6 +13,7 @@ mod print;
 mod reading;
 
 pub use accept::accepts;
+pub use accept_all::are_accepted;
 pub use bundle::{Bundle, BundleEntry};
 pub use fault::BundleFault;
 pub use parse::{parse_bundle, parse_derivation};

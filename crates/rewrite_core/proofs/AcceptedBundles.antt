@@ -5,6 +5,7 @@ use Rattle.std.proofs.lemmas.Bool.{and_from}
 use Rattle.std.proofs.lemmas.Option.{slice_get_within}
 use Rattle.qbs_base.specs.Values.{Schema}
 use Rattle.tor_axioms.specs.Accepts.{Claim, Proof, accepts}
+use Rattle.deriv_check.specs.Accepted.{are_accepted}
 use Rattle.deriv_check.specs.Bundles.{Entry}
 use Rattle.kernel_lang.specs.Plain.{Fragment}
 use Rattle.templates.specs.Numbered.{candidates_of}
@@ -21,7 +22,7 @@ use Rattle.loop_text.specs.Statements.Loops.{loops_of}
 use Rattle.java_loops.specs.Kernel.Kernel.{Broken, broken, lowering, setting_at}
 use Rattle.java_loops.specs.Kernel.Setting.{Setting}
 use Rattle.rewrite_core.specs.Asked.{Place, replaced}
-use Rattle.rewrite_core.specs.Checking.{All, are_accepted, accepted_for, candidate_for, shown_with, shown_unless, shown_there, shown_at, shown, or_refused, checked_from, LoopsStandApart}
+use Rattle.rewrite_core.specs.Checking.{All, accepted_for, candidate_for, shown_with, shown_unless, shown_there, shown_at, shown, or_refused, checked_from, LoopsStandApart}
 use Rattle.rewrite_core.specs.Rewriting.{loop_place, entry_by, bundle_of}
 use Rattle.rewrite_core.specs.Trying.{Answer, Outside, Searched, answer_unless, Tried, tried_in, tried_at, program_by, program_after, standing_after, and_further, trying, all_tried, left_of, rewritten}
 use Rattle.rewrite_core.proofs.LoopPlaces.{places_of, AreApart}

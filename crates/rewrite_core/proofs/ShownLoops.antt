@@ -5,6 +5,7 @@ use Rattle.std.proofs.lemmas.Bool.{and_parts}
 use Rattle.std.proofs.lemmas.List.{at_drop_more}
 use Rattle.qbs_base.specs.Values.{Schema}
 use Rattle.tor_axioms.specs.Accepts.{Claim, Proof, accepts}
+use Rattle.deriv_check.specs.Accepted.{are_accepted}
 use Rattle.deriv_check.specs.Bundles.{Entry}
 use Rattle.kernel_lang.specs.Plain.{Fragment}
 use Rattle.kernel_lang.specs.Validity.{broken as breach}
@@ -33,7 +34,7 @@ use Rattle.rewrite_core.specs.declared.checking.Shown.{Shown}
 use Rattle.rewrite_core.specs.Asked.{Place, replaced}
 use Rattle.rewrite_core.specs.Asking.{HasAsks}
 use Rattle.rewrite_core.specs.Checked.{IsShown, GivesWayAs, FollowsOn}
-use Rattle.rewrite_core.specs.Checking.{All, Refused, are_accepted, accepted_for, candidate_for, shown_with, shown_unless, shown_there, shown_at, shown, or_refused, checked_from, is_at, path_to}
+use Rattle.rewrite_core.specs.Checking.{All, Refused, accepted_for, candidate_for, shown_with, shown_unless, shown_there, shown_at, shown, or_refused, checked_from, is_at, path_to}
 use Rattle.rewrite_core.proofs.GivenUp.{first_before, may_there}
 use Rattle.rewrite_core.proofs.LoopOutcomes.{outside_there}
 use Rattle.rewrite_core.proofs.May.{accepted_ends}

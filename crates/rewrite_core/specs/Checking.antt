@@ -1,7 +1,8 @@
 -- Bundles that are checked: entries are taken in order, and each sees the program as those before it left it.
-use Rattle.std.specs.Prelude.{◌≡◌, ℕ, suc, List, [], ◌∷◌, Bool, true, false, ◌&&◌, ◌==◌, slice_get, Option, Some, None, if◌then◌else◌}
+use Rattle.std.specs.Prelude.{◌≡◌, ℕ, suc, List, [], ◌∷◌, Bool, false, ◌&&◌, ◌==◌, slice_get, Option, Some, None, if◌then◌else◌}
 use Rattle.qbs_base.specs.Values.{Schema}
-use Rattle.tor_axioms.specs.Accepts.{Claim, Proof, accepts}
+use Rattle.tor_axioms.specs.Accepts.{Proof}
+use Rattle.deriv_check.specs.Accepted.{are_accepted}
 use Rattle.deriv_check.specs.Bundles.{Entry}
 use Rattle.kernel_lang.specs.Plain.{Fragment}
 use Rattle.templates.specs.Numbered.{candidates_of}
@@ -17,13 +18,6 @@ use Rattle.java_types.specs.Texts.{read_by}
 use Rattle.rewrite_core.specs.Asked.{Place, replaced}
 
 -- ---- One entry
-
--- as many derivations as there are conditions, and each is accepted
-abbrev pub are_accepted : List Claim → List Proof → Bool
-are_accepted [] [] = true
-are_accepted [] (d ∷ ds) = false
-are_accepted (c ∷ cs) [] = false
-are_accepted (c ∷ cs) (d ∷ ds) = accepts c d && are_accepted cs ds
 
 -- the statement stands at this line and column
 abbrev pub is_at : ℕ → ℕ → Option Statement → Bool

@@ -1,7 +1,7 @@
 // Bundles that are checked against a program.
-ghost use Rattle.std.specs.Prelude.{◌≡◌, true, map, IfOk, IfSome};
+ghost use Rattle.std.specs.Prelude.{◌≡◌, map, IfOk, IfSome};
 ghost use Rattle.std.specs.declared.option.Option.TheVariants.{Some};
-ghost use Rattle.tor_axioms.specs.Accepts.{proof_of, claim_of};
+ghost use Rattle.tor_axioms.specs.Accepts.{proof_of};
 ghost use Rattle.deriv_check.specs.Bundles.{entry_of, entries_of};
 ghost use Rattle.java_ast.specs.Path.{last_of, replaced_at};
 ghost use Rattle.java_ast.specs.Reading.{statements, program as plain_program};
@@ -24,7 +24,7 @@ ghost use Rattle.loop_text.specs.Statements.Loops.{loops_of};
 
 use crate::finding::find_loop;
 use crate::replacing::{put_instead, statements_instead};
-use deriv_check::{Bundle, BundleEntry, accepts};
+use deriv_check::{Bundle, BundleEntry, are_accepted};
 use fragments::{Lowered, lower};
 use java_ast::{Path, Program, Stmt};
 use java_copies::copy_program;
@@ -34,7 +34,7 @@ use qbs_base::{Fail, NoMemory};
 use schema::Schema;
 use std::alloc::Global;
 use templates::{count, nth};
-use tor_axioms::{Derivation, Vc};
+use tor_axioms::Derivation;
 use vc_gen::conditions;
 
 /// What comes of a bundle: all its `n` entries are accepted, and make this program; or the entry `ordinal`, counted from 1, is the first
@@ -55,25 +55,6 @@ pub struct Shown {
 }
 
 // ---- One entry
-
-// Whether there are as many derivations as conditions, each accepted.
-fn are_accepted(alloc: Global, vcs: &[Vc], proofs: &[Derivation]) -> Result<bool, NoMemory>
-    ensures { IfOk result (λ answer. answer ≡ spec.are_accepted (map claim_of vcs.now) (map proof_of proofs.now)) }
-{
-    let mut further = proofs;
-    for vc in vcs {
-        match further.split_first() {
-            None => return Ok(false),
-            Some((proof, rest)) => {
-                if !accepts(alloc, vc, proof)? {
-                    return Ok(false);
-                }
-                further = rest;
-            }
-        }
-    }
-    Ok(further.is_empty())
-}
 
 // The candidate with this number, where its conditions have these derivations.
 fn candidate_shown(
