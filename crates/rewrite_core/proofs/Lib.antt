@@ -17,7 +17,6 @@ pub mod EarlierLoops
 pub mod FaultlessArguments
 pub mod FaultlessAsks
 pub mod FaultlessCalls
-pub mod FirstLoops
 pub mod Fitting
 pub mod FurtherTries
 pub mod GivenThere
@@ -27,14 +26,13 @@ pub mod HasAsks
 pub mod Keeping
 pub mod KeptFaultless
 pub mod Known
-pub mod Listing
 pub mod LoopOutcomes
 pub mod LoopPlaces
-pub mod LoopSites
 pub mod LoopThere
 pub mod LoopsApart
 pub mod LoopsAround
 pub mod May
+pub mod MethodsBefore
 pub mod NoReturns
 pub mod NumbersStay
 pub mod Outer

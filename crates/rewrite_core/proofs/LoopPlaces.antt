@@ -9,7 +9,7 @@ use Rattle.java_lex.specs.Spans.{SamePlace}
 use Rattle.java_ast.specs.Path.{and_then, first_of, behind_of, with_numbered, with_branch, replaced_in, replaced_at, with_body, with_method, last_of}
 use Rattle.java_ast.specs.Tree as tree
 use Rattle.java_ast.specs.Tree.{Statement, Statements, Nothing, Then, PlainMethod, PlainProgram}
-use Rattle.rewrite_core.proofs.LoopSites.{Site, sites_in, sites_among, sites_of_methods, sites_of}
+use Rattle.loop_lists.proofs.LoopSites.{Site, sites_in, sites_among, sites_of_methods, sites_of}
 
 abbrev mutual
   pub places_in : Statement → List Span

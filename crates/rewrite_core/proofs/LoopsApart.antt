@@ -27,12 +27,13 @@ use Rattle.java_loops.specs.Meant.KeptNumbers.{kept_numbers}
 use Rattle.java_loops.specs.Meant.LoopStands.{LoopStands}
 use Rattle.java_loops.specs.Walks.Replacing.{Ask, asking, asked}
 use Rattle.java_loops.proofs.Kept.KeptPath.{setting_fragment, setting_stands}
+use Rattle.loop_lists.specs.Places.{path_to}
+use Rattle.loop_lists.proofs.FirstLoops.{is_there}
+use Rattle.loop_lists.proofs.LoopSites.{Site, site, sites_of, paths_of, paths_are, StandsAt, all_stand_at}
 use Rattle.rewrite_core.specs.Asked.{Place, asks_of, number_of, first_of_run, replaced}
-use Rattle.rewrite_core.specs.Checking.{path_to, LoopsStandApart}
+use Rattle.rewrite_core.specs.Checking.{LoopsStandApart}
 use Rattle.rewrite_core.proofs.DistinctLoops.{loop_number}
-use Rattle.rewrite_core.proofs.FirstLoops.{is_there}
 use Rattle.rewrite_core.proofs.LoopPlaces.{places_in, places_among, places_of, places_at, sited, StandsAlone, AreApart, LeftOut, joined_places, rest_apart, stretch_out}
-use Rattle.rewrite_core.proofs.LoopSites.{Site, site, sites_of, paths_of, paths_are, StandsAt, all_stand_at}
 use Rattle.rewrite_core.proofs.StaysTyped.{first_there}
 use Rattle.rewrite_core.proofs.Untried.{site_there}
 

@@ -16,7 +16,7 @@ use Rattle.java_loops.specs.Walks.Reads.{Set}
 use Rattle.java_loops.specs.Walks.Replacing.{Ask, asking, asked, replacement}
 use Rattle.java_loops.specs.Walks.Runs.{kept}
 use Rattle.java_loops.proofs.Placing.Place.{behind_all}
-use Rattle.rewrite_core.proofs.LoopSites.{Site, site, sites_in, sites_among, sites_of_methods}
+use Rattle.loop_lists.proofs.LoopSites.{Site, site, sites_in, sites_among, sites_of_methods}
 
 -- ---- Joined statements
 

@@ -38,6 +38,7 @@ use Rattle.java_stretches.specs.Laid.{Patched, with_texts, ended_before, begun_a
 use Rattle.java_stretches.proofs.Carried.{carried, read_back, one_more, RunStands, run_stands, no_branches}
 use Rattle.java_stretches.proofs.Runs.{run_begins, chain_joined, chain_kept, simple_joined, simple_kept, are_lines}
 use Rattle.java_stretches.proofs.Steps.{begun_before}
+use Rattle.loop_lists.proofs.LoopSites.{Site, site, sites_of}
 use Rattle.rewrite_core.specs.declared.patch.Patch.{Patch}
 use Rattle.rewrite_core.specs.Asked.{Place, asks_of, number_of, first_of_run, replaced}
 use Rattle.rewrite_core.specs.Asking.{HasAsks}
@@ -48,7 +49,6 @@ use Rattle.rewrite_core.specs.Trying.{Answer, Outside, Searched, answer_unless, 
 use Rattle.rewrite_core.specs.TriedAsking.{MayBeAskedBy, AllMayBeAsked}
 use Rattle.rewrite_core.proofs.HasAsks.{has_asks}
 use Rattle.rewrite_core.proofs.LoopPlaces.{places_among, places_of, places_at, sited, stretch_out}
-use Rattle.rewrite_core.proofs.LoopSites.{Site, site, sites_of}
 use Rattle.rewrite_core.proofs.PlacesInOrder.{no_loops, methods_ascend, AllFrom, from_one, one_from, one_less, still_from}
 use Rattle.rewrite_core.proofs.SomeAsked.{SomeAsk, some_ask, all_asked_simple, asks_chain}
 use Rattle.rewrite_core.proofs.SourceFits.{source_fits}

@@ -30,11 +30,12 @@ use Rattle.java_types.proofs.Found.{found_exactly}
 use Rattle.java_types.specs.Texts.{read_by}
 use Rattle.fragments.specs.declared.lowering.lowered.Lowered.{Lowered}
 use Rattle.fragments.specs.Lowers.{lowering_in_code}
+use Rattle.loop_lists.specs.Places.{is_at, path_to}
 use Rattle.rewrite_core.specs.declared.checking.Shown.{Shown}
 use Rattle.rewrite_core.specs.Asked.{Place, replaced}
 use Rattle.rewrite_core.specs.Asking.{HasAsks}
 use Rattle.rewrite_core.specs.Checked.{IsShown, GivesWayAs, FollowsOn}
-use Rattle.rewrite_core.specs.Checking.{All, Refused, accepted_for, candidate_for, shown_with, shown_unless, shown_there, shown_at, shown, or_refused, checked_from, is_at, path_to}
+use Rattle.rewrite_core.specs.Checking.{All, Refused, accepted_for, candidate_for, shown_with, shown_unless, shown_there, shown_at, shown, or_refused, checked_from}
 use Rattle.rewrite_core.proofs.GivenUp.{first_before, may_there}
 use Rattle.rewrite_core.proofs.LoopOutcomes.{outside_there}
 use Rattle.rewrite_core.proofs.May.{accepted_ends}

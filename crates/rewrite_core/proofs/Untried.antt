@@ -24,12 +24,12 @@ use Rattle.java_loops.specs.Kernel.Kernel.{types_in_method, setting_there, setti
 use Rattle.java_loops.specs.Kernel.Setting.{Setting, setting_of}
 use Rattle.java_loops.proofs.Placing.PathsLead.{loop_has_fragment, listed_is_loop}
 use Rattle.java_loops.proofs.Placing.Place.{behind_all, fill_behind, IsPlacedIn, placed_at}
+use Rattle.loop_lists.proofs.LoopSites.{Site, site, sites_of, paths_of, paths_joined, paths_are, StandsAt, all_stand_at}
 use Rattle.rewrite_core.specs.Asked.{Place, replaced}
 use Rattle.rewrite_core.specs.TriedAsking.{MayBeAskedBy, AllMayBeAsked, standing_path, standing_paths, standing_left}
 use Rattle.rewrite_core.specs.Trying.{Answer, Outside, Searched, answer_unless, Tried, tried_in, tried_at, program_by, program_after, standing_after, and_further, trying, all_tried, left_of, rewritten}
 use Rattle.rewrite_core.specs.Rewriting.{loop_place, left_standing, standing_tries, StandsIn}
 use Rattle.rewrite_core.proofs.EarlierLoops.{earlier_sites_stay, earlier_loops_stay, fewer_loops, how_many_loops}
-use Rattle.rewrite_core.proofs.LoopSites.{Site, site, sites_of, paths_of, paths_joined, paths_are, StandsAt, all_stand_at}
 use Rattle.rewrite_core.proofs.LoopThere.{loop_there}
 
 -- ---- Lists

@@ -56,13 +56,13 @@ use Rattle.java_loops.specs.Lowering.Numbering.{numbers_of, count_flags}
 use Rattle.java_loops.proofs.Nested.NestRules.{true_from_not}
 use Rattle.java_loops.proofs.Standing.StandingRules.{none_where}
 use Rattle.java_loops.proofs.Valid.ValidLoop.{rules}
+use Rattle.loop_lists.proofs.LoopSites.{Site, site, sites_of, StandsAt, all_stand_at}
 use Rattle.rewrite_core.specs.Asked.{Place, replaced}
 use Rattle.rewrite_core.specs.Rewriting.{loop_place, entry_by, bundle_of}
 use Rattle.rewrite_core.specs.Trying.{Answer, Outside, Searched, answer_unless, Tried, tried_in, tried_at, program_by, program_after, standing_after, and_further, trying, all_tried}
 use Rattle.rewrite_core.proofs.AcceptedBundles.{IsHit, hit_by}
 use Rattle.rewrite_core.proofs.LoopOutcomes.{found_small}
 use Rattle.rewrite_core.proofs.LoopPlaces.{places_of, places_at, sited, LeftOut}
-use Rattle.rewrite_core.proofs.LoopSites.{Site, site, sites_of, StandsAt, all_stand_at}
 use Rattle.rewrite_core.proofs.LoopsApart.{places_left}
 use Rattle.rewrite_core.proofs.Untried.{site_there}
 

@@ -1,5 +1,5 @@
 -- Bundles that are checked: entries are taken in order, and each sees the program as those before it left it.
-use Rattle.std.specs.Prelude.{◌≡◌, ℕ, suc, List, [], ◌∷◌, Bool, false, ◌&&◌, ◌==◌, slice_get, Option, Some, None, if◌then◌else◌}
+use Rattle.std.specs.Prelude.{◌≡◌, ℕ, suc, List, [], ◌∷◌, slice_get, Option, Some, None, if◌then◌else◌}
 use Rattle.qbs_base.specs.Values.{Schema}
 use Rattle.tor_axioms.specs.Accepts.{Proof}
 use Rattle.deriv_check.specs.Accepted.{are_accepted}
@@ -7,27 +7,16 @@ use Rattle.deriv_check.specs.Bundles.{Entry}
 use Rattle.kernel_lang.specs.Plain.{Fragment}
 use Rattle.templates.specs.Numbered.{candidates_of}
 use Rattle.vc_gen.specs.Conditions.{conditions}
-use Rattle.java_ast.specs.Path.{statement_at}
-use Rattle.java_ast.specs.Spans.{place_of}
-use Rattle.java_ast.specs.Tree.{Statement, PlainProgram}
+use Rattle.java_ast.specs.Tree.{PlainProgram}
 use Rattle.java_grammar.specs.Placing.{LeadToOnePlace}
 use Rattle.loop_text.specs.Statements.Loops.{loops_of}
+use Rattle.loop_lists.specs.Places.{path_to}
 use Rattle.java_loops.specs.Kernel.Kernel.{Broken, broken, lowering, setting_at}
 use Rattle.java_loops.specs.Kernel.Setting.{Setting}
 use Rattle.java_types.specs.Texts.{read_by}
 use Rattle.rewrite_core.specs.Asked.{Place, replaced}
 
 -- ---- One entry
-
--- the statement stands at this line and column
-abbrev pub is_at : ℕ → ℕ → Option Statement → Bool
-is_at line column (Some s) = ((place_of s).line == line) && ((place_of s).column == column)
-is_at line column None = false
-
--- the first of these paths that leads to a statement at this line and column
-abbrev pub path_to : ℕ → ℕ → PlainProgram → List (List ℕ) → Option (List ℕ)
-path_to line column p [] = None
-path_to line column p (path ∷ paths) = if is_at line column (statement_at path p) then Some path else path_to line column p paths
 
 -- the candidate, where there is one and its conditions have these derivations
 abbrev pub accepted_for : Fragment → List Proof → Option (List ℕ) → Option (List ℕ)

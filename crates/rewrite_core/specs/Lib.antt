@@ -2,7 +2,6 @@ pub mod Asked
 pub mod Asking
 pub mod Checked
 pub mod Checking
-pub mod Finding
 pub mod Looped
 pub mod Outcome
 pub mod Output

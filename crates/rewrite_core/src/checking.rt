@@ -22,7 +22,6 @@ ghost use Rattle.sql_parts.specs.Given.{AreKnownTo};
 ghost use Rattle.loop_text.specs.Statements.Walking.{IsLoopOf};
 ghost use Rattle.loop_text.specs.Statements.Loops.{loops_of};
 
-use crate::finding::find_loop;
 use crate::replacing::{put_instead, statements_instead};
 use deriv_check::{Bundle, BundleEntry, are_accepted};
 use fragments::{Lowered, lower};
@@ -30,6 +29,7 @@ use java_ast::{Path, Program, Stmt};
 use java_copies::copy_program;
 use java_types::Typed;
 use kernel_lang::{Candidate, KFragment};
+use loop_lists::find_loop;
 use qbs_base::{Fail, NoMemory};
 use schema::Schema;
 use std::alloc::Global;

@@ -4,7 +4,6 @@
 mod asking;
 pub mod bundled;
 mod checking;
-mod finding;
 pub mod laws;
 mod looped;
 mod outcome;

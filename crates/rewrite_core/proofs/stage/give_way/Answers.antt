@@ -3,7 +3,7 @@ use Rattle.std.specs.Option.{option_copied}
 use Rattle.java_ast.specs.Reading.{statements, program as plain_program}
 use Rattle.rewrite_core.specs.declared.stage.Stage.{Stage}
 use Rattle.rewrite_core.specs.Stages.{IsStage}
-use Rattle.rewrite_core.proofs.Listing.{methods_before_stay}
+use Rattle.rewrite_core.proofs.MethodsBefore.{methods_before_stay}
 use Rattle.rewrite_core.proofs.stage.give_way.Goals as goal
 
 pub stage_of-requires-clause-before : goal.stage_of-requires-clause-before

@@ -2,8 +2,8 @@ use Rattle.std.proofs.Common.{◌≡◌, ◌≤◌, ◌<◌, ◌+◌, ◌-◌, �
 use Rattle.std.proofs.lemmas.List.{length-map}
 use Rattle.java_ast.specs.Reading.{method as plain_method}
 use Rattle.loop_text.specs.Statements.Loops.{loops_of_methods}
-use Rattle.rewrite_core.proofs.Listing.{lists_within, lists_end, one_method_more}
-use Rattle.rewrite_core.proofs.stage.listed_from.Goals as goal
+use Rattle.loop_lists.proofs.MethodLoops.{lists_within, lists_end, one_method_more}
+use Rattle.loop_lists.proofs.listing.listed_from.Goals as goal
 
 pub returns-then-standing-before : goal.returns-then-standing-before
 returns-then-standing-before c =

@@ -1,7 +1,7 @@
 use Rattle.std.proofs.Common.{◌≡◌, ◌≤◌, ◌-◌, length, take, map}
 use Rattle.java_ast.specs.Reading.{method as plain_method}
 use Rattle.loop_text.specs.Statements.Loops.{loops_of_methods}
-use Rattle.rewrite_core.proofs.stage.listed_from.Given as goal
+use Rattle.loop_lists.proofs.listing.listed_from.Given as goal
 
 -- the loops of the methods so far are among those that stand
 abbrev pub invariant-loop-number : goal.invariant-loop-number

@@ -1,7 +1,7 @@
 use Rattle.std.proofs.Common.{◌≡◌, ◌<◌, ◌-◌, length, map, refl, arith}
 use Rattle.java_ast.specs.Reading.{method as plain_method}
-use Rattle.rewrite_core.proofs.Listing.{lists_within}
-use Rattle.rewrite_core.proofs.stage.listed_past.Goals as goal
+use Rattle.loop_lists.proofs.MethodLoops.{lists_within}
+use Rattle.loop_lists.proofs.listing.listed_past.Goals as goal
 
 pub returns-then-standing-listed : goal.returns-then-standing-listed
 returns-then-standing-listed c =

@@ -3,9 +3,9 @@ use Rattle.std.proofs.lemmas.Result.{IfOk-weaker}
 use Rattle.java_ast.specs.declared.tree.Method.{Method}
 use Rattle.java_ast.specs.Reading.{method, program as plain_program}
 use Rattle.std.specs.Prelude.{List}
-use Rattle.rewrite_core.specs.Finding.{first_of_methods}
-use Rattle.rewrite_core.proofs.FirstLoops.{first_is_listed}
-use Rattle.rewrite_core.proofs.finding.find_loop.Goals as goal
+use Rattle.loop_lists.specs.Finding.{first_of_methods}
+use Rattle.loop_lists.proofs.FirstLoops.{first_is_listed}
+use Rattle.loop_lists.proofs.finding.find_loop.Goals as goal
 
 pub returns : goal.returns
 returns c =

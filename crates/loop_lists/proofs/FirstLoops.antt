@@ -3,7 +3,7 @@ use Rattle.std.specs.Prelude.{if◌then◌else◌, Vec}
 use Rattle.std.specs.Option.{option_map}
 use Rattle.std.specs.List.{AllByRecursion}
 use Rattle.std.specs.declared.alloc.Global.{Global}
-use Rattle.std.proofs.Common.{◌≡◌, ℕ, suc, Bool, true, false, ◌==◌, ◌&&◌, List, [], ◌∷◌, ◌++◌, Option, Some, None, refl, sym, ap, ap₂, ◌∙◌, append_assoc, append-nil}
+use Rattle.std.proofs.Common.{◌≡◌, ℕ, suc, Bool, true, false, List, [], ◌∷◌, ◌++◌, Option, Some, None, refl, sym, ap, ap₂, ◌∙◌, append_assoc, append-nil}
 use Rattle.qbs_base.specs.declared.span.Span.{Span}
 use Rattle.java_ast.specs.declared.tree.JTy.{JTy}
 use Rattle.java_ast.specs.declared.tree.Expr.{Expr}
@@ -15,9 +15,9 @@ use Rattle.java_ast.specs.Tree as tree
 use Rattle.java_ast.specs.Tree.{Statement, Statements, Nothing, Then, PlainMethod, PlainProgram}
 use Rattle.java_ast.proofs.Nodes.{if_is, if_else_is, for_each_is, while_is}
 use Rattle.loop_text.specs.Statements.Loops.{loops_of}
-use Rattle.rewrite_core.specs.Checking.{is_at, path_to}
-use Rattle.rewrite_core.specs.Finding.{begins_at, led_by, or_other, first_in_loop, first_in, first_among, first_of_methods}
-use Rattle.rewrite_core.proofs.LoopSites.{Site, sites_in, sites_among, sites_of_methods, sites_of, paths_of, paths_are, StandsAt, all_stand_at}
+use Rattle.loop_lists.specs.Places.{is_at, path_to}
+use Rattle.loop_lists.specs.Finding.{begins_at, led_by, or_other, first_in_loop, first_in, first_among, first_of_methods}
+use Rattle.loop_lists.proofs.LoopSites.{Site, sites_in, sites_among, sites_of_methods, sites_of, paths_of, paths_are, StandsAt, all_stand_at}
 
 -- ---- Sites
 

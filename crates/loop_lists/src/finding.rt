@@ -2,8 +2,8 @@
 ghost use Rattle.std.specs.Prelude.{◌≡◌, ◌∷◌, IfOk, map};
 ghost use Rattle.java_ast.specs.Reading.{statement, statements, method as plain_method, program as plain_program};
 ghost use Rattle.loop_text.specs.Statements.Loops.{loops_of};
-ghost use Rattle.rewrite_core.specs.Checking.{path_to};
-ghost use Rattle.rewrite_core.specs.Finding.{begins_at, led_by, first_in_loop, first_in, first_among, first_of_methods};
+ghost use Rattle.loop_lists.specs.Places.{path_to};
+ghost use Rattle.loop_lists.specs.Finding.{begins_at, led_by, first_in_loop, first_in, first_among, first_of_methods};
 
 use java_ast::{Method, Path, Program, Stmt, StmtNode};
 use qbs_base::{NoMemory, Span};

@@ -4,7 +4,6 @@ use Rattle.std.proofs.lemmas.List.{map-append}
 use Rattle.std.specs.List.{AllByRecursion}
 use Rattle.qbs_base.specs.declared.span.Span.{Span}
 use Rattle.qbs_base.proofs.Order.{all_more}
-use Rattle.sql_ast.proofs.Tools.{all_joined}
 use Rattle.java_ast.specs.Path.{found_in, branch_of, statement_in, statement_at}
 use Rattle.java_ast.specs.Spans.{place_of}
 use Rattle.java_ast.specs.Tree as tree
@@ -85,6 +84,10 @@ pub paths_are : (p : PlainProgram) → paths_of (sites_of p) ≡ loops_of p
 paths_are p = paths_of_methods p.methods 0
 
 -- ---- What stands there
+
+all_joined : {X : Type 0} (P : X → Type 0) (xs ys : List X) → AllByRecursion P xs → AllByRecursion P ys → AllByRecursion P (xs ++ ys)
+all_joined P [] ys a b = b
+all_joined P (x ∷ xs) ys a b = (a.0, all_joined P xs ys a.1 b)
 
 -- a site's path leads from a statement to one that stands at the site's place
 record Down (here : List ℕ) (a : Statement) (s : Site) : Type 0 where

@@ -1,7 +1,7 @@
 use Rattle.std.proofs.Common.{sym, ◌∙◌}
 use Rattle.std.proofs.lemmas.Result.{IfOk-weaker}
-use Rattle.rewrite_core.proofs.FirstLoops.{in_if, in_first, in_other, in_for_each, in_while}
-use Rattle.rewrite_core.proofs.finding.+finding.Goals as goal
+use Rattle.loop_lists.proofs.FirstLoops.{in_if, in_first, in_other, in_for_each, in_while}
+use Rattle.loop_lists.proofs.finding.+finding.Goals as goal
 
 pub find_in_statement-returns-in-None : goal.find_in_statement-returns-in-None
 find_in_statement-returns-in-None t c =

@@ -1,0 +1,3 @@
+pub mod FirstLoops
+pub mod LoopSites
+pub mod MethodLoops
