@@ -1,4 +1,3 @@
 pub mod Locations
 pub mod Placed
-pub mod RunsThere
 pub mod SettingThere

@@ -1,3 +1,4 @@
+pub mod AskedGuards
 pub mod LoweredBeside
 pub mod LoweredLists
 pub mod Tallies

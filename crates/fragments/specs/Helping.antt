@@ -1,12 +1,9 @@
-pub mod AtNumbers
 pub mod Capped
 pub mod Contexts
 pub mod Counted
-pub mod Listed
 pub mod Locating
 pub mod LoweredInCode
 pub mod Numbered
 pub mod Reading
 pub mod Tallied
 pub mod Verdicts
-pub mod Wanted

@@ -2,4 +2,3 @@ pub mod Asked
 pub mod AskedWorked
 pub mod Helping
 pub mod Lowers
-pub mod RunsThere

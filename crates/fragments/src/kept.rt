@@ -1,9 +1,40 @@
-//! The statements of a run that stay, and the variables that are needed.
+// The kept statements of a run, as they stand.
+ghost use Rattle.std.specs.Prelude.{◌≡◌, ℕ, List, IfOk};
+ghost use Rattle.std.specs.declared.option.Option.{Option};
+ghost use Rattle.std.specs.declared.option.Option.TheVariants.{Some};
+ghost use Rattle.qbs_base.specs.Values.{Schema};
+ghost use Rattle.sql_ast.specs.Tree.{PlainQuery};
+ghost use Rattle.java_ast.specs.Reading.{statements, program as plain_program};
+ghost use Rattle.java_loops.specs.Kernel.Kernel.{setting_at};
+ghost use Rattle.java_loops.specs.Kernel.Setting.{Setting};
+ghost use Rattle.java_loops.specs.Lowering.Lowered.{Lowering};
+ghost use Rattle.java_loops.specs.Meant.Lowers.{IsLowered};
+ghost use Rattle.loop_text.specs.Statements.KeptStatements.{with_numbers};
 
-pub mod accumulators;
-pub mod keeping;
-pub mod live;
-pub mod mentioned;
-pub mod name_list;
-pub mod setters;
-pub mod statements;
+use crate::lowering::lowered::Lowered;
+use java_ast::{Path, Program, Stmt};
+use loop_setting::kept::statements::at_numbers;
+use loop_setting::places::run::run_at;
+use qbs_base::NoMemory;
+use std::alloc::Global;
+
+/// The statements of the run before a loop that a rewrite keeps, copied in their order with their places. The program, the path
+/// and what `lower` gave for the loop there are its arguments; a path that leads to no loop has no such statements. Each is
+/// found by its number, and the rest of the program isn't walked. The error is want of memory.
+pub fn kept_statements(
+    alloc: Global,
+    program: &Program,
+    path: &Path,
+    lowered: &Lowered,
+) -> Result<Vec<Stmt>, NoMemory>
+    ensures { IfOk result (λ r.
+        (schema : Schema) (read : List ℕ → Option PlainQuery) (l : Lowering) (w : Setting)
+        → IsLowered schema read (plain_program program.now) path.now l lowered.now.first lowered.now.kept
+        → setting_at schema read path.now (plain_program program.now) ≡ Some w
+        → statements r.items ≡ with_numbers lowered.now.kept lowered.now.first w.fragment.run) }
+{
+    match run_at(program, path) {
+        None => Ok(Vec::new(alloc)),
+        Some(before) => at_numbers(alloc, before, lowered.first, lowered.kept.as_slice()),
+    }
+}

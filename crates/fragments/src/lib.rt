@@ -10,10 +10,11 @@ mod places;
 mod rules;
 mod verdict;
 
-pub use kept::statements::kept_statements;
+pub use kept::kept_statements;
+pub use loop_setting::outside::Outside;
+pub use loop_setting::places::run::run_at;
 pub use loop_text::statements::walk::loops_of;
-pub use lowering::lowered::{Lowered, Outside};
+pub use lowering::lowered::Lowered;
 pub use places::located::needed;
 pub use places::loops::loops;
-pub use places::run::run_at;
 pub use verdict::lower;

@@ -3,6 +3,4 @@
 pub mod located;
 pub mod loops;
 pub mod position;
-pub mod run;
 pub mod scopes;
-pub mod setting;

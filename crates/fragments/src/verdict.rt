@@ -15,10 +15,11 @@ ghost use Rattle.loop_text.specs.Statements.Walking.{IsLoopOf};
 ghost use Rattle.sql_parts.specs.Given.{AreKnownTo};
 
 use crate::lowered_there::lower_located;
-use crate::lowering::lowered::{Lowered, Outside};
+use crate::lowering::lowered::Lowered;
 use crate::places::located::located;
 use java_ast::Path;
 use java_types::Typed;
+use loop_setting::outside::Outside;
 use qbs_base::{Fail, NoMemory};
 use schema::Schema;
 use std::alloc::Global;

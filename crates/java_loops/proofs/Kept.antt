@@ -2,7 +2,6 @@ pub mod EntryNames
 pub mod KeptAlone
 pub mod KeptAsks
 pub mod KeptMeant
-pub mod KeptNumbers
 pub mod KeptPath
 pub mod KeptRuns
 pub mod Least

@@ -1,4 +1,2 @@
-pub mod Following
-pub mod Grouped
 pub mod Lent
 pub mod UpTo

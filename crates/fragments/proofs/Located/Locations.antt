@@ -13,6 +13,7 @@ use Rattle.loop_text.specs.Statements.KeptStatements.{how_many, first_in}
 use Rattle.fragments.specs.Helping.Locating.{fragment_located, fragment_spotted, IsFoundIn, IsSpottedIn, IsSeenIn, IsFoundAt}
 use Rattle.loop_text.specs.Statements.Loops.{is_loop}
 use Rattle.java_ast.specs.Names.{Names, with_name, with_names, declared_by, declared_among, walking, names_of_params}
+use Rattle.loop_setting.proofs.RunsThere.{statements_behind, past_end}
 use Rattle.java_loops.specs.Lowering.Placing.{type_under, scope_after, scope_past, scope_inside, scope_within, scope_in, scope_of_params, scope_in_method, fragment_in_method}
 use Rattle.fragments.specs.declared.places.position.Located.{Located}
 use Rattle.fragments.specs.declared.places.position.Spot.{Spot}
@@ -20,11 +21,6 @@ use Rattle.java_loops.proofs.Kept.Longest.{run_splits}
 use Rattle.java_mean.proofs.Sets.{seen_declared}
 use Rattle.loop_text.proofs.Trees.Walked.{next_item}
 use Rattle.loop_text.proofs.Trees.Locations.{next_of}
-
-pub statements_behind : (n : ℕ) (xs : List Stmt) → statements (drop n xs) ≡ behind_of n (statements xs)
-statements_behind zero xs = refl
-statements_behind (suc n) [] = refl
-statements_behind (suc n) (x ∷ xs) = statements_behind n xs
 
 count : (xs : List Stmt) → how_many (statements xs) ≡ length xs
 count [] = refl
@@ -133,12 +129,6 @@ found_here o vs n block before front run s visible types q below is loop first f
           run_scoped o vs (statements before) (statements front) (statements run) visible types fronted ran seen whole
           ∙ ap (λ (xs : List Stmt). with_names (names_seen visible) (declared_among (statements xs))) (sym runs);
     }
-
-pub past_end : (n : ℕ) (xs : List Stmt) → length xs ≤ n → behind_of n (statements xs) ≡ Nothing
-past_end zero [] h = refl
-past_end zero (x ∷ xs) h = absurd (omega arith)
-past_end (suc n) [] h = refl
-past_end (suc n) (x ∷ xs) h = past_end n xs (omega arith)
 
 -- there is no statement with the number
 pub none_here : (o : Option Schema) (vs before there : Visible) (n : ℕ) (block : List Stmt) → length block ≤ n → IsSeenIn o vs [] n (statements block) before there None

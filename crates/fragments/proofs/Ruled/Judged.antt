@@ -9,7 +9,10 @@ use Rattle.java_loops.specs.Kernel.KernelLoop.{broken_loop}
 use Rattle.java_loops.specs.Kernel.KernelStarts.{broken_starts}
 use Rattle.java_loops.specs.Kernel.KernelStatements.{broken_statements, broken_updates}
 use Rattle.java_loops.specs.Kernel.Setting.{Setting}
+use Rattle.loop_setting.specs.FirstBroken as code
+use Rattle.std.specs.Option.{option_map}
 use Rattle.fragments.specs.Helping.Verdicts.{first_rules, middle_rules, last_rules}
+use Rattle.fragments.specs.Lowers.{broken_in_code}
 
 -- ---- One rule
 
@@ -18,6 +21,15 @@ stops rule o at later is = sym (ap (λ (p : Option Span). first_rule rule p late
 
 pub goes_on : (rule : ℕ) (o : Option Span) (b later : Option Broken) → o ≡ None → b ≡ later → b ≡ first_rule rule o later
 goes_on rule o b later is h = h ∙ sym (ap (λ (p : Option Span). first_rule rule p later) is)
+
+-- ---- The first four rules
+
+pub rules_are : (a b c d : Option Span) → option_map broken_in_code (code.first_broken a b c d) ≡ first_rule 1 a (first_rule 2 b (first_rule 3 c (first_rule 4 d None)))
+rules_are (Some at) b c d = refl
+rules_are None (Some at) c d = refl
+rules_are None None (Some at) d = refl
+rules_are None None None (Some at) = refl
+rules_are None None None None = refl
 
 -- ---- Some rules, and others behind them
 

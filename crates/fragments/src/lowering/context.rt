@@ -2,7 +2,7 @@
 
 use crate::numbering::counts::Counts;
 use crate::numbering::numbers::Numbers;
-use crate::places::setting::Setting;
+use loop_setting::places::setting::Setting;
 
 /// A loop in its setting, the numbers of its fragment, and its loops and flags as they are counted.
 #[derive(Clone, Copy)]

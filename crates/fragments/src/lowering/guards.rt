@@ -13,6 +13,7 @@ use crate::lowering::context::Context;
 use crate::numbering::numbers::{both_of, form_counted};
 use java_ast::Expr;
 use kernel_lang::Guards;
+use loop_setting::asks::asked_at;
 use loop_text::conditions::flags::condition_of;
 use loop_text::sites::list::Round;
 use qbs_base::NoMemory;
@@ -54,8 +55,8 @@ fn guard_at(
 {
     let mut guard = None;
     for t in r.tests.as_slice() {
-        if t.level == level {
-            let next = form_at(alloc, context, t.number, t.holds, t.condition)?;
+        if let Some(a) = asked_at(t, level) {
+            let next = form_at(alloc, context, a.number, a.holds, a.condition)?;
             guard = both_of(alloc, guard, next)?;
         }
     }

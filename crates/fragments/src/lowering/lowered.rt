@@ -1,16 +1,9 @@
-// What is given for a loop of the kernel form, and for another one.
+// What is given for a loop of the kernel form.
 
 use java_ast::Exprs;
 use kernel_lang::KFragment;
-use qbs_base::{Names, NumberLists, Numbers, Span};
+use qbs_base::{Names, NumberLists, Numbers};
 use sql_ast::Queries;
-
-/// The rule of the kernel form, from 1 to 9, that a loop breaks first, and the first place that breaks it.
-#[derive(Clone, Copy, PartialEq, Eq)]
-pub struct Outside {
-    pub rule: u32,
-    pub at: Span,
-}
 
 /// A loop of the kernel form: its lowered fragment; the source variable of each accumulator and flag; the
 /// expression of each entry value by its number; the queries of the known lists, and for each the entry numbers of its

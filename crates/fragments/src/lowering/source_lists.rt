@@ -9,9 +9,9 @@ ghost use Rattle.fragments.specs.Helping.Reading.{setting_in_code};
 ghost use Rattle.loop_text.specs.Sites.Reading.{site_of, source_in_code};
 
 use crate::numbering::numbers::table_of_loop;
-use crate::places::setting::Setting;
 use java_ast::Stmt;
 use kernel_lang::{Col, Cols, ListDef, ListDefs};
+use loop_setting::places::setting::Setting;
 use loop_text::loops::counting::{counting_in, limit_of};
 use loop_text::loops::limits::is_loop;
 use loop_text::loops::lists::{Source, source_in};

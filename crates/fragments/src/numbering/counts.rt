@@ -7,7 +7,7 @@ ghost use Rattle.fragments.specs.Helping.Reading.{setting_in_code};
 ghost use Rattle.fragments.specs.Helping.Tallied.{AreCountsOf};
 
 use crate::numbering::tally::{Tally, flags_before, loops_before};
-use crate::places::setting::Setting;
+use loop_setting::places::setting::Setting;
 use qbs_base::NoMemory;
 use std::alloc::Global;
 

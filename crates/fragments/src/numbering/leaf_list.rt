@@ -7,8 +7,8 @@ ghost use Rattle.java_loops.specs.Lowering.Numbering as specs;
 ghost use Rattle.loop_text.specs.Sites.Reading.{exprs_lent};
 ghost use Rattle.fragments.specs.Helping.Reading.{setting_in_code};
 
-use crate::places::setting::Setting;
 use java_ast::Expr;
+use loop_setting::places::setting::Setting;
 use loop_text::conditions::flags::condition_of;
 use loop_text::conditions::leaves::{is_excepted, push_leaves};
 use qbs_base::{Items, NoMemory};

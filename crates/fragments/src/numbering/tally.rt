@@ -3,7 +3,7 @@ ghost use Rattle.std.specs.Prelude.{◌≡◌, IfOk, map};
 ghost use Rattle.fragments.specs.Helping.Reading.{setting_in_code};
 ghost use Rattle.fragments.specs.Helping.Tallied.{IsTally, is_flag_site, is_loop_site, tally_at};
 
-use crate::places::setting::Setting;
+use loop_setting::places::setting::Setting;
 use loop_text::loops::limits::is_loop;
 use loop_text::updates::targets::is_declaration;
 use qbs_base::{Items, NoMemory};

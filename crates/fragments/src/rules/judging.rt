@@ -4,13 +4,12 @@ ghost use Rattle.std.specs.Option.{option_map};
 ghost use Rattle.fragments.specs.Helping.Counted.{numbers_in_code};
 ghost use Rattle.loop_text.specs.Statements.Fragment as fragment;
 ghost use Rattle.fragments.specs.Lowers.{broken_in_code};
-ghost use Rattle.fragments.specs.Helping.Reading.{fragment_in_code, setting_in_code};
+ghost use Rattle.fragments.specs.Helping.Reading.{setting_in_code};
+ghost use Rattle.loop_setting.specs.Reading.{fragment_in_code};
 ghost use Rattle.java_ast.specs.Names.{names_lent};
 ghost use Rattle.fragments.specs.Helping.Verdicts.{first_rules, middle_rules, BreaksNone, BreaksFirst};
 
-use crate::lowering::lowered::Outside;
 use crate::numbering::numbers::Numbers;
-use crate::places::setting::Setting;
 use crate::rules::k1_loop::broken_loop;
 use crate::rules::k2_lists::broken_lists;
 use crate::rules::k4_statements::broken_statements;
@@ -19,6 +18,8 @@ use crate::rules::k6_forms::broken_forms;
 use crate::rules::k7_conditions::broken_conditions;
 use crate::rules::k8_sizes::counted;
 use crate::rules::k9_starts::broken_starts;
+use loop_setting::outside::{Outside, first_broken};
+use loop_setting::places::setting::Setting;
 use loop_text::loops::limits::broken_depth;
 use qbs_base::{Fail, Name, NoMemory};
 use std::alloc::Global;
@@ -27,19 +28,12 @@ use std::alloc::Global;
 fn broken_first(w: &Setting) -> Option<Outside>
     ensures { option_map broken_in_code result ≡ first_rules (setting_in_code w.now) None }
 {
-    if let Some(at) = broken_loop(w) {
-        return Some(Outside { rule: 1, at });
-    }
-    if let Some(at) = broken_lists(w) {
-        return Some(Outside { rule: 2, at });
-    }
-    if let Some(at) = broken_depth(w.sites) {
-        return Some(Outside { rule: 3, at });
-    }
-    match broken_statements(w) {
-        None => None,
-        Some(at) => Some(Outside { rule: 4, at }),
-    }
+    first_broken(
+        broken_loop(w),
+        broken_lists(w),
+        broken_depth(w.sites),
+        broken_statements(w),
+    )
 }
 
 // Of the rules on updates, their forms, and conditions.

@@ -4,11 +4,12 @@ ghost use Rattle.std.specs.Option.{option_map};
 ghost use Rattle.java_ast.specs.Reading.{statement, statements};
 ghost use Rattle.java_loops.specs.Kernel.KernelLoop as specs;
 ghost use Rattle.loop_text.specs.Sites.Reading.{counting_in_code};
-ghost use Rattle.fragments.specs.Helping.Reading.{fragment_in_code, setting_in_code};
+ghost use Rattle.fragments.specs.Helping.Reading.{setting_in_code};
+ghost use Rattle.loop_setting.specs.Reading.{fragment_in_code};
 
-use crate::kept::live::is_live;
-use crate::places::setting::Setting;
 use java_ast::{Stmt, StmtNode};
+use loop_setting::kept::live::is_live;
+use loop_setting::places::setting::Setting;
 use loop_text::loops::counting::{
     Counting, counting_by, counts_in, has_inner_while, starts_at_zero,
 };

@@ -6,9 +6,9 @@ ghost use Rattle.loop_text.specs.Sites.Reading.{site_of};
 ghost use Rattle.fragments.specs.Helping.Reading.{setting_in_code};
 ghost use Rattle.loop_text.specs.Sites.Sites as sites;
 
-use crate::places::setting::Setting;
 use java_ast::{Stmt, StmtNode};
 use java_mean::JavaType;
+use loop_setting::places::setting::Setting;
 use loop_text::loops::counting::{counting_in, limit_of};
 use loop_text::loops::limits::{count_loops, declares_list_at, is_found_source, is_loop};
 use loop_text::loops::lists::{is_sorted_source, source_in};

@@ -3,7 +3,7 @@ ghost use Rattle.std.specs.Prelude.{◌≡◌};
 ghost use Rattle.java_loops.specs.Kernel.KernelStatements as specs;
 ghost use Rattle.fragments.specs.Helping.Reading.{setting_in_code};
 
-use crate::places::setting::Setting;
+use loop_setting::places::setting::Setting;
 use loop_text::updates::shapes::broken_statement;
 use qbs_base::Span;
 

@@ -5,8 +5,8 @@ ghost use Rattle.java_loops.specs.Kernel.KernelForms as specs;
 ghost use Rattle.loop_text.specs.Sites.Reading.{form_in_code, site_of};
 ghost use Rattle.fragments.specs.Helping.Reading.{setting_in_code};
 
-use crate::places::setting::Setting;
 use java_mean::JavaType;
+use loop_setting::places::setting::Setting;
 use loop_text::loops::lists::{is_sorted_source, source_in};
 use loop_text::sites::bindings::{Binding, binding_at};
 use loop_text::sites::list::{Site, place_where};

@@ -6,11 +6,11 @@ ghost use Rattle.java_loops.specs.Kernel.KernelConditions as specs;
 ghost use Rattle.loop_text.specs.Sites.Reading.{asked_in_code, exprs_lent, site_of};
 ghost use Rattle.fragments.specs.Helping.Reading.{setting_in_code};
 
-use crate::places::setting::Setting;
 use crate::rules::k7_known::{asked_for, is_column_query};
 use crate::rules::k7_operands::{are_entries, is_operand};
 use java_ast::{Expr, ExprNode, Stmt};
 use java_types::query_of;
+use loop_setting::places::setting::Setting;
 use loop_text::conditions::asked::{Asked, behind_setting, first_setting};
 use loop_text::conditions::flags::{condition_of, is_some, reads_flag, sets_some};
 use loop_text::conditions::leaves::{is_compared, is_excepted, push_leaves};

@@ -4,9 +4,9 @@ ghost use Rattle.java_ast.specs.Reading.{expression, expressions};
 ghost use Rattle.java_loops.specs.Kernel.KernelConditions as specs;
 ghost use Rattle.fragments.specs.Helping.Reading.{setting_in_code};
 
-use crate::places::setting::Setting;
 use java_ast::{Expr, ExprNode};
 use java_mean::{JavaType, Single};
+use loop_setting::places::setting::Setting;
 use loop_text::conditions::operands::{is_literal, is_outer, is_row_column, updates};
 use loop_text::sites::bindings::binding_at;
 use qbs_base::Name;

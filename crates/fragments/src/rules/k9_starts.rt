@@ -2,10 +2,11 @@
 ghost use Rattle.std.specs.Prelude.{◌≡◌, IfOk};
 ghost use Rattle.loop_text.specs.Statements.Fragment as fragment;
 ghost use Rattle.java_loops.specs.Kernel.KernelStarts as specs;
-ghost use Rattle.fragments.specs.Helping.Reading.{fragment_in_code, setting_in_code};
+ghost use Rattle.fragments.specs.Helping.Reading.{setting_in_code};
+ghost use Rattle.loop_setting.specs.Reading.{fragment_in_code};
 ghost use Rattle.java_ast.specs.Names.{names_lent};
 
-use crate::places::setting::Setting;
+use loop_setting::places::setting::Setting;
 use loop_text::updates::starts::{broken_starts_of, first_flag_start};
 use loop_text::updates::targets::first_place;
 use qbs_base::{Name, NoMemory, Span};

@@ -1,5 +1,5 @@
 use Rattle.std.proofs.Common.{map}
-use Rattle.fragments.specs.Helping.Reading.{fragment_in_code}
+use Rattle.loop_setting.specs.Reading.{fragment_in_code}
 use Rattle.loop_text.specs.Sites.Reading.{site_of}
 use Rattle.fragments.proofs.Located.SettingThere.{setting_built}
 use Rattle.fragments.proofs.lowered_there.setting_there.Goals as goal

@@ -1,7 +1,7 @@
 use Rattle.std.proofs.Common.{◌≡◌, ℕ, ◌+◌, ◌≤◌, ◌∙◌, ap, arith, length, map, take}
 use Rattle.loop_text.specs.Statements.Fragment.{accumulators, needed_of}
 use Rattle.java_loops.specs.Lowering.Numbering.{count_flags}
-use Rattle.fragments.specs.Helping.Reading.{fragment_in_code}
+use Rattle.loop_setting.specs.Reading.{fragment_in_code}
 use Rattle.loop_text.specs.Sites.Reading.{site_of}
 use Rattle.fragments.specs.Helping.Tallied.{is_flag_site}
 use Rattle.fragments.proofs.Lowerings.Tallies.{tally_is, flags_fewer, needed_fewer}

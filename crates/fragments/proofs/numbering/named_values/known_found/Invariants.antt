@@ -1,5 +1,5 @@
 use Rattle.std.proofs.Common.{◌≡◌, [], drop, map}
-use Rattle.fragments.specs.Helping.Listed.{IsListed}
+use Rattle.loop_setting.specs.Listed.{IsListed}
 use Rattle.fragments.specs.Helping.Numbered.{leaf_in_code}
 use Rattle.java_loops.specs.Lowering.Numbering.{known_among}
 use Rattle.java_ast.specs.Names.{names_lent}

@@ -3,7 +3,7 @@ use Rattle.std.proofs.lemmas.Result.{IfOk-weaker}
 use Rattle.java_ast.specs.Reading.{program}
 use Rattle.loop_text.specs.Statements.Fragment.{needed_of, needed_at}
 use Rattle.fragments.specs.Helping.Locating.{fragment_located, IsLocatedAt, IsFoundAt}
-use Rattle.fragments.specs.Helping.Reading.{fragment_in_code}
+use Rattle.loop_setting.specs.Reading.{fragment_in_code}
 use Rattle.java_loops.proofs.Kept.NeededOnce.{needed_found}
 use Rattle.fragments.proofs.places.located.needed.Goals as goal
 

@@ -1,7 +1,0 @@
-use Rattle.std.proofs.Common.{◌∙◌}
-use Rattle.java_ast.specs.Reading.{statements}
-use Rattle.fragments.proofs.Staying.Updated.{declared_where}
-use Rattle.fragments.proofs.kept.accumulators.is_declared.Goals as goal
-
-pub returns : goal.returns
-returns c = c.has.ensures ∙ declared_where c.args.f.now.types.now c.args.f.now.visible.now (statements c.args.f.now.run.now) c.args.x.now c.args.f.now.scoped
