@@ -3,8 +3,8 @@ use Rattle.std.proofs.Common.{◌≡◌, ℕ, List, ◌++◌, codes, append_asso
 use Rattle.std.specs.Fmt.{decimal}
 use Rattle.qbs_base.specs.declared.span.Span.{Span}
 use Rattle.deriv_check.specs.declared.fault.BundleFault.{BundleFault}
+use Rattle.verdicts.specs.Lines.{line}
 use Rattle.plans.specs.Lines.{bundle_fault_text, rule_text, row_text}
-use Rattle.plans.specs.Plan.{line}
 
 pub rule_lined : (text : List ℕ) (number : ℕ) (name : List ℕ) (at : Span) →
     text ++ (decimal number ++ (codes " " ++ (name ++ (codes " at " ++ (decimal at.line ++ (codes ":" ++ (decimal at.column ++ codes "\n")))))))

@@ -1,4 +1,4 @@
--- A schema, a source and a bundle that are opened, or the refusal that is due.
+-- A schema, a source, a bundle and a query that are opened, or the refusal that is due.
 use Rattle.std.proofs.Common.{◌≡◌, ℕ, List, Ok, Err, Some, None, Result, sym, subst, inl, inr}
 use Rattle.qbs_base.specs.declared.memory.Fail.TheVariants.{Fault}
 use Rattle.qbs_base.specs.Values.{Schema}
@@ -10,6 +10,7 @@ use Rattle.java_lex.specs.declared.token.LexFault.{LexFault}
 use Rattle.java_lex.specs.declared.token.Tokens.{Tokens}
 use Rattle.java_lex.specs.Lexing.{lexed}
 use Rattle.java_mean.specs.declared.rule.TypeFault.{TypeFault}
+use Rattle.java_mean.specs.declared.rule.TypeRule.TheVariants.{BadQuery}
 use Rattle.java_mean.specs.WellTyped.{all_faults, IsWellTyped, IsLeast}
 use Rattle.java_parser.specs.declared.fault.ParseFault.{ParseFault}
 use Rattle.java_grammar.specs.Grammar.{HasProgram, IsReadable}
@@ -17,11 +18,17 @@ use Rattle.java_parser.specs.Kept.{IsKept}
 use Rattle.java_parser.specs.Parsed.{parsed}
 use Rattle.java_mean.specs.Least.{least as kept_of}
 use Rattle.java_types.specs.Texts.{read_by}
+use Rattle.sql_ast.specs.declared.rule.SqlRule.{SqlRule}
+use Rattle.sql_ast.specs.Reader.{query_of_text}
+use Rattle.sql_ast.specs.Texts.{HasQuery}
+use Rattle.sql_ast.specs.Tree.{PlainQuery}
+use Rattle.sql_ast.proofs.Judged.{query_exactly}
 use Rattle.schema.specs.declared.fault.SchemaFault.{SchemaFault}
 use Rattle.schema.specs.Schemas.{schema_of}
 use Rattle.plans.specs.declared.fetch.Stop.{Stop}
+use Rattle.plans.specs.Calls.{word_refusal}
 use Rattle.plans.specs.Code.{Goes, StopsWith}
-use Rattle.plans.specs.Opening.{IsSchemaOf, BreaksSchema, schema_refusal, HasTokens, LacksTokens, lex_refusal, HasKept, parse_refusal, HasLeast, type_refusal, IsProgramOf, HasNoProgram, BreaksBundle, bundle_refusal}
+use Rattle.plans.specs.Opening.{IsSchemaOf, BreaksSchema, schema_refusal, HasTokens, LacksTokens, lex_refusal, HasKept, parse_refusal, HasLeast, type_refusal, IsProgramOf, HasNoProgram, BreaksBundle, bundle_refusal, HasNoQuery}
 use Rattle.plans.specs.declared.plan.Plan.{Plan}
 use Rattle.plans.specs.Steps.{refused}
 
@@ -49,6 +56,14 @@ types_stop Is tables p fault stop least first due = refuses Is (HasLeast tables 
 pub bundle_stops : {A : Type 0} (view : A → List Entry) (bytes : List ℕ) (fault : BundleFault) (stop : Stop) → BreaksBundle bytes fault → StopsWith (bundle_refusal fault) stop →
     Goes {A = A} (Err stop) (λ b. HasBundle bytes (view b)) (refused (BreaksBundle bytes) bundle_refusal)
 bundle_stops view bytes fault stop breaks due = refuses (λ b. HasBundle bytes (view b)) (BreaksBundle bytes) bundle_refusal fault stop breaks due
+
+none_has : (tables : Schema) (text : List ℕ) (rule : SqlRule) → query_of_text tables text ≡ Err rule → (q : PlainQuery) → HasQuery tables text q → ⊥
+none_has tables text rule is q has = let found : query_of_text tables text ≡ Ok q = (query_exactly tables text q).0 has in absurd cc
+
+pub query_stops : {A : Type 0} (Is : A → Type 0) (tables : Schema) (text : List ℕ) (rule : SqlRule) (stop : Stop) → query_of_text tables text ≡ Err rule → StopsWith (word_refusal BadQuery) stop →
+    Goes {A = A} (Err stop) Is (HasNoQuery tables text)
+query_stops Is tables text rule (Stop.Due plan) is due = (none_has tables text rule is, due)
+query_stops Is tables text rule Stop.Memory is due = tt
 
 -- ---- the three parts of a source
 

@@ -1,5 +1,7 @@
 -- What only the code's contracts speak of: what comes of a step.
 use Rattle.std.specs.Prelude.{◌≡◌, ℕ, ◌++◌, List, Result, Ok, Err, ⊤}
+use Rattle.std.specs.declared.option.Option.{Option}
+use Rattle.std.specs.declared.option.Option.TheVariants.{Some, None}
 use Rattle.qbs_base.specs.declared.status.Status.{Status}
 use Rattle.plans.specs.declared.plan.Plan.{Plan}
 use Rattle.plans.specs.declared.fetch.Stop.{Stop}
@@ -11,6 +13,11 @@ abbrev pub Goes : {A : Type 0} → Result A Stop → (A → Type 0) → Ends →
 Goes (Ok a) Is Stops = Is a
 Goes (Err (Stop.Due plan)) Is Stops = Stops plan
 Goes (Err Stop.Memory) Is Stops = ⊤
+
+-- the rewritten program where there is one, else the one that was read
+abbrev pub one_run : {A : Type 0} → A → Option A → A
+one_run read None = read
+one_run read (Some other) = other
 
 -- the plan of either outcome, where memory did not run out
 abbrev pub OrMemory : Result Plan Stop → Ends → Type 0

@@ -14,10 +14,7 @@ use Rattle.java_parser.specs.RuleNames as grammatical
 use Rattle.schema.specs.declared.fault.DataFault.{DataFault}
 use Rattle.schema.specs.declared.fault.SchemaFault.{SchemaFault}
 use Rattle.schema.specs.RuleNames as schemas
-
--- a place as line and column
-abbrev pub place_text : Span → List ℕ
-place_text at = decimal at.line ++ codes ":" ++ decimal at.column
+use Rattle.verdicts.specs.Lines.{place_text}
 
 -- a rule by its number and name, and its place
 abbrev pub rule_text : ℕ → List ℕ → Span → List ℕ

@@ -1,4 +1,4 @@
--- The steps that commands begin with: a schema, a source with a well-typed program, and a bundle.
+-- The steps that commands begin with: a schema, a source with a well-typed program, a bundle, and the query of a text.
 use Rattle.std.specs.Prelude.{◌≡◌, ℕ, ◌⊎◌, List, Ok, Err}
 use Rattle.std.specs.declared.option.Option.TheVariants.{Some, None}
 use Rattle.qbs_base.specs.declared.memory.Fail.TheVariants.{Fault}
@@ -12,6 +12,7 @@ use Rattle.java_lex.specs.declared.token.LexFault.{LexFault}
 use Rattle.java_lex.specs.declared.token.Tokens.{Tokens}
 use Rattle.java_lex.specs.Lexing.{lexed}
 use Rattle.java_mean.specs.declared.rule.TypeFault.{TypeFault}
+use Rattle.java_mean.specs.declared.rule.TypeRule.TheVariants.{BadQuery}
 use Rattle.java_mean.specs.WellTyped.{all_faults, IsWellTyped, IsLeast}
 use Rattle.java_parser.specs.declared.fault.ParseFault.{ParseFault}
 use Rattle.java_grammar.specs.Grammar.{HasProgram, IsReadable}
@@ -19,9 +20,12 @@ use Rattle.java_parser.specs.Kept.{IsKept}
 use Rattle.java_parser.specs.Parsed.{parsed}
 use Rattle.java_mean.specs.Least.{least as kept_of}
 use Rattle.java_types.specs.Texts.{read_by}
+use Rattle.sql_ast.specs.Texts.{HasQuery}
+use Rattle.sql_ast.specs.Tree.{PlainQuery}
 use Rattle.schema.specs.declared.fault.SchemaFault.{SchemaFault}
 use Rattle.schema.specs.Schemas.{schema_of}
 use Rattle.plans.specs.declared.plan.Plan.{Plan}
+use Rattle.plans.specs.Calls.{word_refusal}
 use Rattle.plans.specs.Lines.{schema_text, lex_text, parse_text, type_text, bundle_fault_text}
 use Rattle.plans.specs.Plan.{refusal}
 use Rattle.plans.specs.Steps.{Ends, refused, step, finds}
@@ -98,3 +102,9 @@ bundle_refusal fault = refusal Status.Bundle (bundle_fault_text fault)
 
 abbrev pub has_bundle : List ℕ → (List Entry → Ends) → Ends
 has_bundle bytes next = finds (HasBundle bytes) (BreaksBundle bytes) bundle_refusal next
+
+-- ---- The query of a text
+
+-- the text has no query, which is a bad one
+abbrev pub HasNoQuery : Schema → List ℕ → Ends
+HasNoQuery tables text plan = ((q : PlainQuery) → HasQuery tables text q → ⊥) × (plan ≡ word_refusal BadQuery)

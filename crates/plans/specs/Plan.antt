@@ -1,13 +1,10 @@
 -- What is to be answered and written, and what is told of a call.
-use Rattle.std.specs.Prelude.{ℕ, List, [], ◌∷◌, ◌++◌, codes}
+use Rattle.std.specs.Prelude.{ℕ, List, [], ◌++◌, codes}
 use Rattle.std.specs.declared.option.Option.{Option}
 use Rattle.qbs_base.specs.declared.status.Status.{Status}
 use Rattle.qbs_base.specs.Outside.{Rose}
+use Rattle.verdicts.specs.Lines.{line}
 use Rattle.plans.specs.declared.plan.Plan.{Plan}
-
--- a line of text
-abbrev pub line : List ℕ → List ℕ
-line text = text ++ 10 ∷ []
 
 -- nothing for the output, and one line for the report
 abbrev pub refusal : Status → List ℕ → Plan

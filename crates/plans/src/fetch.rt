@@ -1,5 +1,5 @@
 // Reading a file, or what is due where it can't be read.
-ghost use Rattle.std.specs.Prelude.{◌≡◌, ◌<◌, ◌≤◌, MatchResult, IfSome, length};
+ghost use Rattle.std.specs.Prelude.{◌≡◌, ◌<◌, ◌≤◌, MatchResult, IfSome, codes, length};
 ghost use Rattle.qbs_base.specs.Outside.{Rose};
 ghost use Rattle.plans.specs.declared.fetch.Stop.TheVariants.{Memory};
 ghost use Rattle.plans.specs.Code.{Goes, StopsFor};
@@ -60,6 +60,26 @@ pub fn fetch<F: Files>(
         ReadAnswer::Failed => Err(refused(alloc, Status::ReadFault, "qbs: read ", name.as_str())),
         ReadAnswer::NoMemory => Err(Stop::Memory),
     }
+}
+
+/// The bytes of a schema's file, which has 256 KiB at most.
+pub fn fetch_schema<F: Files>(alloc: Global, files: &mut F, name: &Text) -> Result<Bytes, Stop>
+    ensures same { F.told files.new ≡ F.told files.old }
+    ensures later { F.faults files.old ≤ F.faults files.new }
+    ensures read { Goes result (IsRead (given F.told F.faults files.old files.new) name.now 262144)
+        (IsNotRead (given F.told F.faults files.old files.new) name.now 262144 (codes "schema")) }
+{
+    fetch(alloc, files, name, 262144, "schema")
+}
+
+/// The bytes of a source's file, which has 1 MiB at most.
+pub fn fetch_source<F: Files>(alloc: Global, files: &mut F, name: &Text) -> Result<Bytes, Stop>
+    ensures same { F.told files.new ≡ F.told files.old }
+    ensures later { F.faults files.old ≤ F.faults files.new }
+    ensures read { Goes result (IsRead (given F.told F.faults files.old files.new) name.now 1048576)
+        (IsNotRead (given F.told F.faults files.old files.new) name.now 1048576 (codes "source")) }
+{
+    fetch(alloc, files, name, 1048576, "source")
 }
 
 /// A refusal whose line is a text and a name.

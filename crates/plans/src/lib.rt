@@ -3,6 +3,7 @@
 #![tactic(auto)]
 
 pub mod arguments;
+pub mod choice;
 pub mod deliver;
 pub mod fetch;
 pub mod lines;

@@ -1,4 +1,4 @@
-// What commands begin with: a schema, a source with a well-typed program, and a bundle.
+// What commands begin with: a schema, a source with a well-typed program, a bundle, and the query of a text.
 ghost use Rattle.std.specs.Prelude.{◌≡◌};
 ghost use Rattle.deriv_check.specs.Bundles.{entries_of};
 ghost use Rattle.deriv_check.specs.Grammar.{HasBundle};
@@ -6,19 +6,26 @@ ghost use Rattle.java_ast.specs.Reading.{program as plain_program};
 ghost use Rattle.java_mean.specs.WellTyped.{IsWellTyped};
 ghost use Rattle.java_grammar.specs.Grammar.{IsReadable};
 ghost use Rattle.java_types.specs.Texts.{read_by};
+ghost use Rattle.sql_ast.specs.Reading.{query as plain_query};
+ghost use Rattle.sql_ast.specs.Texts.{HasQuery};
 ghost use Rattle.plans.specs.Code.{Goes};
-ghost use Rattle.plans.specs.Opening.{IsSchemaOf, BreaksSchema, schema_refusal, HasTokens, LacksTokens, lex_refusal, HasKept, parse_refusal, HasLeast, type_refusal, IsProgramOf, HasNoProgram, BreaksBundle, bundle_refusal};
+ghost use Rattle.plans.specs.Opening.{IsSchemaOf, BreaksSchema, schema_refusal, HasTokens, LacksTokens, lex_refusal, HasKept, parse_refusal, HasLeast, type_refusal, IsProgramOf, HasNoProgram, BreaksBundle, bundle_refusal, HasNoQuery};
 ghost use Rattle.plans.specs.Steps.{refused};
 
 use crate::fetch::Stop;
-use crate::lines::{bundle_refused, lex_refused, parse_refused, schema_refused, type_refused};
+use crate::lines::{
+    bundle_refused, lex_refused, parse_refused, schema_refused, type_refused, word_refused,
+};
 use deriv_check::{Bundle, parse_bundle};
 use java_ast::Program;
 use java_lex::{Tokens, lex};
+use java_mean::TypeRule;
 use java_parser::parse;
 use java_types::{Typed, check};
-use qbs_base::Fail;
+use qbs_base::{Fail, Text};
 use schema::{Schema, parse_schema};
+use sql_ast::Query;
+use sql_parse::parse_query;
 use std::alloc::Global;
 
 /// The schema that bytes are, or the refusal of its first fault.
@@ -57,12 +64,12 @@ fn open_tree(alloc: Global, tokens: &Tokens) -> Result<Program, Stop>
 
 // The program as one that was checked.
 #[tactic(auto, using(crate::proofs::Opened::types_stop))]
-fn open_typed(alloc: Global, schema: &Schema, program: &Program) -> Result<Typed, Stop>
-    ensures same { Goes result (λ t. plain_program t.program ≡ plain_program program.now) (λ plan. Unit {0}) }
+fn open_typed(alloc: Global, schema: &Schema, program: Program) -> Result<Typed, Stop>
+    ensures same { Goes result (λ t. plain_program t.program ≡ plain_program program) (λ plan. Unit {0}) }
     ensures typed { Goes result (λ t. IsWellTyped schema.now (read_by schema.now) (plain_program t.program))
-        (refused (HasLeast schema.now (plain_program program.now)) type_refusal) }
+        (refused (HasLeast schema.now (plain_program program)) type_refusal) }
 {
-    match check(alloc, schema, program) {
+    match check(alloc, schema, &program) {
         Ok(typed) => Ok(typed),
         Err(Fail::Fault(fault)) => Err(type_refused(alloc, &fault)),
         Err(Fail::NoMemory) => Err(Stop::Memory),
@@ -75,7 +82,7 @@ pub fn open_program(alloc: Global, schema: &Schema, bytes: &[u8]) -> Result<Type
 {
     let tokens = open_tokens(alloc, bytes)?;
     let program = open_tree(alloc, &tokens)?;
-    open_typed(alloc, schema, &program)
+    open_typed(alloc, schema, program)
 }
 
 /// The bundle that bytes are, or the refusal of the first byte with which no bundle goes on.
@@ -86,6 +93,18 @@ pub fn open_bundle(alloc: Global, bytes: &[u8]) -> Result<Bundle, Stop>
     match parse_bundle(alloc, bytes) {
         Ok(bundle) => Ok(bundle),
         Err(Fail::Fault(fault)) => Err(bundle_refused(alloc, &fault)),
+        Err(Fail::NoMemory) => Err(Stop::Memory),
+    }
+}
+
+/// The query that a text has under a schema, or the refusal of a text that has none.
+#[tactic(auto, using(crate::proofs::Opened::query_stops))]
+pub fn open_query(alloc: Global, schema: &Schema, text: &Text) -> Result<Query, Stop>
+    ensures { Goes result (λ q. HasQuery schema.now text.now (plain_query q)) (HasNoQuery schema.now text.now) }
+{
+    match parse_query(alloc, schema, text) {
+        Ok(query) => Ok(query),
+        Err(Fail::Fault(_)) => Err(word_refused(alloc, TypeRule::BadQuery)),
         Err(Fail::NoMemory) => Err(Stop::Memory),
     }
 }

@@ -1,7 +1,7 @@
 // What is written of values.
 ghost use Rattle.std.specs.Prelude.{◌≡◌, ◌++◌, Some, IfOk, OnOk};
 ghost use Rattle.std.specs.List.{flat_map};
-ghost use Rattle.plans.specs.Plan.{line};
+ghost use Rattle.verdicts.specs.Lines.{line};
 ghost use Rattle.plans.specs.Results.{names_of, result_text, output as output_of};
 
 use crate::Plan;

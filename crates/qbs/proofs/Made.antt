@@ -13,7 +13,7 @@ use Rattle.java_mean.specs.Outcome.{Outcome}
 use Rattle.java_mean.specs.Types.{AreArguments}
 use Rattle.java_mean.specs.WellTyped.{IsWellTyped}
 use Rattle.java_types.specs.Texts.{read_by}
-use Rattle.rewrite_core.specs.declared.rewritten.LoopVerdict.{LoopVerdict}
+use Rattle.verdicts.specs.declared.verdict.LoopVerdict.{LoopVerdict}
 use Rattle.rewrite_core.specs.Rewriting.{verdicts_of, StandAsTried}
 use Rattle.rewrite_core.specs.Trying.{all_tried, rewritten}
 use Rattle.sample.specs.Class.{sample_program}

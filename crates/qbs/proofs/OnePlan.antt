@@ -31,7 +31,7 @@ use Rattle.plans.specs.Steps.{Ends, refused, IsRead, IsNotRead, reads}
 use Rattle.plans.specs.Tables.{most_bytes, AreRead, AreNotRead, reads_tables, IsFileOf, IsTableFile, HasRows, LacksRows, data_refusal, has_rows}
 use Rattle.qbs.specs.Check.{tells, checks, check_of, check}
 use Rattle.qbs.specs.Commands.{without_store, command, AreRefused}
-use Rattle.qbs.specs.Reports.{verdict_line}
+use Rattle.verdicts.specs.Reports.{verdict_line}
 use Rattle.qbs.specs.Make.{loops_text, method_text, summary, IsResult, IsNotDone, outcome_over, runs, make}
 use Rattle.qbs.specs.Pruners.{May}
 use Rattle.qbs.specs.Prove.{Proves, prove_of, prove}

@@ -27,7 +27,8 @@ use Rattle.plans.specs.Steps.{IsRead, IsNotRead}
 use Rattle.plans.specs.Tables.{AreNotRead}
 use Rattle.qbs.specs.Commands.{without_store, command, HasNoWords, IsDue}
 use Rattle.qbs.specs.Headline.{IsRewritten, IsHeadline, HasHeadline}
-use Rattle.qbs.specs.Reports.{verdict_line, pruned_line, report_text}
+use Rattle.verdicts.specs.Reports.{verdict_line, pruned_line}
+use Rattle.qbs.specs.Reports.{report_text}
 use Rattle.qbs.specs.Pruners.{May}
 use Rattle.qbs.specs.Rewrite.{size_of, budget_of, rewrite_of, rewrite}
 use Rattle.qbs.specs.Top.{IsDone, CutShort}

@@ -12,7 +12,7 @@ use Rattle.java_types.specs.Texts.{read_by}
 use Rattle.deriv_check.specs.Bundles.{Entry}
 use Rattle.deriv_check.specs.Grammar.{HasBundle, Each, IsWritableEntry}
 use Rattle.deriv_check.specs.Texts.{bundle_text}
-use Rattle.rewrite_core.specs.declared.rewritten.LoopVerdict.{LoopVerdict}
+use Rattle.verdicts.specs.declared.verdict.LoopVerdict.{LoopVerdict}
 use Rattle.rewrite_core.specs.Checking.{LoopsStandApart}
 use Rattle.rewrite_core.specs.Pruned.{ArePruned}
 use Rattle.rewrite_core.specs.Rewriting.{bundle_of, verdicts_of, StandAsTried}
@@ -21,7 +21,7 @@ use Rattle.rewrite_core.proofs.AcceptedBundles.{bundle_accepted}
 use Rattle.rewrite_core.proofs.WritableBundles.{bundle_writable}
 use Rattle.plans.specs.declared.plan.Plan.{Plan}
 use Rattle.plans.specs.Opening.{IsProgramOf}
-use Rattle.qbs.specs.Reports.{verdict_line, pruned_line}
+use Rattle.verdicts.specs.Reports.{verdict_line, pruned_line}
 use Rattle.qbs.specs.Pruners.{May}
 use Rattle.qbs.specs.Prove.{entries_for, Proves}
 use Rattle.qbs.proofs.Rewrote.{is_rewriting}

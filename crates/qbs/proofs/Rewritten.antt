@@ -1,5 +1,5 @@
 -- What is due for the bytes of a schema and a source.
-use Rattle.std.proofs.Common.{◌≡◌, ℕ, Bool, true, false, List, Result, Ok, Err, refl, sym, subst, inl, inr}
+use Rattle.std.proofs.Common.{◌≡◌, ℕ, Bool, true, false, List, Result, Ok, Err, refl, subst, inl, inr}
 use Rattle.rewrite_core.specs.Trying.{rewritten}
 use Rattle.qbs_base.specs.Values.{Schema}
 use Rattle.java_ast.specs.Tree.{PlainProgram}
@@ -59,19 +59,19 @@ pub run_found : (o : Options) (tables : Schema) (call : Call) (source : List ℕ
 run_found o tables call source texts p result is h =
     goes_on (IsProgramOf tables source) (HasNoProgram tables source) (λ q. chooses o tables q (call_of tables texts call (turns_of o))) p result is h
 
-pub run_plain : (o : Options) (tables : Schema) (call : Call) (texts : List (List ℕ)) (turns : ℕ) (p : PlainProgram) (result : Result Plan Stop) → o.rewritten ≡ false → turns ≡ turns_of o →
-    OrMemory result (run_called tables texts call turns p) → OrMemory result (chooses o tables p (call_of tables texts call (turns_of o)))
-run_plain o tables call texts turns p result plainly same h =
-    goes_on (IsChosen o.rewritten tables (size_of o) (budget_of o) p) (λ plan. ⊥) (call_of tables texts call (turns_of o)) p result
-    (subst (λ (b : Bool). IsChosen b tables (size_of o) (budget_of o) p p) (sym plainly) refl)
-    (subst (λ (n : ℕ). OrMemory result (call_of tables texts call n p)) same
-    (due_as (run_called tables texts call turns p) (call_of tables texts call turns p) result (λ plan due. run_steps tables texts call turns p plan due) h))
+-- the program itself is run where the rewritten one isn't asked for
+pub chosen_plainly : (rewritten : Bool) (tables : Schema) (size budget : ℕ) (p : PlainProgram) → rewritten ≡ false → IsChosen rewritten tables size budget p p
+chosen_plainly false tables size budget p plainly = refl
+chosen_plainly true tables size budget p plainly = absurd cc
 
-pub run_other : (o : Options) (tables : Schema) (call : Call) (texts : List (List ℕ)) (turns : ℕ) (p q : PlainProgram) (result : Result Plan Stop) → o.rewritten ≡ true → turns ≡ turns_of o →
-    q ≡ rewritten tables (size_of o) (budget_of o) p → IsRewriting tables (size_of o) (budget_of o) p →
+pub chosen_rewritten : (asked : Bool) (tables : Schema) (size budget : ℕ) (p q : PlainProgram) → asked ≡ true → q ≡ rewritten tables size budget p → IsRewriting tables size budget p → IsChosen asked tables size budget p q
+chosen_rewritten false tables size budget p q other is rewriting = absurd cc
+chosen_rewritten true tables size budget p q other is rewriting = (is, rewriting)
+
+pub run_chosen : (o : Options) (tables : Schema) (call : Call) (texts : List (List ℕ)) (turns : ℕ) (p q : PlainProgram) (result : Result Plan Stop) → turns ≡ turns_of o →
+    IsChosen o.rewritten tables (size_of o) (budget_of o) p q →
     OrMemory result (run_called tables texts call turns q) → OrMemory result (chooses o tables p (call_of tables texts call (turns_of o)))
-run_other o tables call texts turns p q result other same is rewriting h =
-    goes_on (IsChosen o.rewritten tables (size_of o) (budget_of o) p) (λ plan. ⊥) (call_of tables texts call (turns_of o)) q result
-    (subst (λ (b : Bool). IsChosen b tables (size_of o) (budget_of o) p q) (sym other) (is, rewriting))
+run_chosen o tables call texts turns p q result same chosen h =
+    goes_on (IsChosen o.rewritten tables (size_of o) (budget_of o) p) (λ plan. ⊥) (call_of tables texts call (turns_of o)) q result chosen
     (subst (λ (n : ℕ). OrMemory result (call_of tables texts call n q)) same
     (due_as (run_called tables texts call turns q) (call_of tables texts call turns q) result (λ plan due. run_steps tables texts call turns q plan due) h))

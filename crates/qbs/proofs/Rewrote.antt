@@ -8,7 +8,7 @@ use Rattle.java_mean.specs.Keeps.{Keeps}
 use Rattle.java_mean.specs.WellTyped.{IsWellTyped}
 use Rattle.java_grammar.specs.ReadBack.{IsReadBack}
 use Rattle.java_types.specs.Texts.{read_by}
-use Rattle.rewrite_core.specs.declared.rewritten.LoopVerdict.{LoopVerdict}
+use Rattle.verdicts.specs.declared.verdict.LoopVerdict.{LoopVerdict}
 use Rattle.rewrite_core.specs.Output.{IsSourceOf}
 use Rattle.rewrite_core.specs.Patches.{patched_text}
 use Rattle.rewrite_core.specs.Pruned.{ArePruned}
@@ -16,7 +16,7 @@ use Rattle.rewrite_core.specs.Rewriting.{verdicts_of, StandAsTried}
 use Rattle.rewrite_core.specs.Trying.{all_tried, rewritten}
 use Rattle.plans.specs.declared.plan.Plan.{Plan}
 use Rattle.plans.specs.Opening.{IsProgramOf}
-use Rattle.qbs.specs.Reports.{verdict_line, pruned_line}
+use Rattle.verdicts.specs.Reports.{verdict_line, pruned_line}
 use Rattle.qbs.specs.Pruners.{May}
 use Rattle.qbs.specs.Rewrite.{IsRewriting, Rewrites}
 

@@ -22,7 +22,8 @@ use Rattle.words.specs.Plain.{HasWords}
 use Rattle.plans.specs.Deliver.{Change}
 use Rattle.plans.specs.Plan.{Given}
 use Rattle.plans.specs.Steps.{IsRead}
-use Rattle.qbs.specs.Reports.{report_text, pruned_line}
+use Rattle.verdicts.specs.Reports.{pruned_line}
+use Rattle.qbs.specs.Reports.{report_text}
 use Rattle.qbs.specs.Pruners.{May}
 use Rattle.qbs.specs.Rewrite.{size_of, budget_of}
 

@@ -12,16 +12,17 @@ use Rattle.qbs_base.specs.Values.{Schema, Database}
 use Rattle.java_ast.specs.Tree.{PlainMethod, PlainProgram}
 use Rattle.java_mean.specs.Outcome.{Outcome, Done, Faulted, OutOfTurns, Stuck, outcome, world_with}
 use Rattle.java_types.specs.Texts.{read_by}
-use Rattle.rewrite_core.specs.declared.rewritten.Said.{Said}
-use Rattle.rewrite_core.specs.declared.rewritten.Said.TheVariants as says
-use Rattle.rewrite_core.specs.declared.rewritten.LoopVerdict.{LoopVerdict}
+use Rattle.verdicts.specs.declared.verdict.Said.{Said}
+use Rattle.verdicts.specs.declared.verdict.Said.TheVariants as says
+use Rattle.verdicts.specs.declared.verdict.LoopVerdict.{LoopVerdict}
 use Rattle.rewrite_core.specs.Rewriting.{verdicts_of}
 use Rattle.rewrite_core.specs.Trying.{all_tried}
 use Rattle.sample.specs.Class.{sample_program}
 use Rattle.sample.specs.Tables.{sample_schema, sample_rows}
 use Rattle.plans.specs.declared.plan.Plan.{Plan}
 use Rattle.plans.specs.Lines.{fault_text}
-use Rattle.plans.specs.Plan.{line, refusal}
+use Rattle.verdicts.specs.Lines.{line}
+use Rattle.plans.specs.Plan.{refusal}
 use Rattle.plans.specs.Results.{names_of}
 use Rattle.plans.specs.Steps.{Ends, ends, step}
 use Rattle.qbs.specs.Run.{IsChosen}

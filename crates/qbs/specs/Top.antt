@@ -12,7 +12,7 @@ use Rattle.plans.specs.Deliver.{Change, Delivers}
 use Rattle.plans.specs.Plan.{Given}
 use Rattle.plans.specs.Tables.{IsTableFile}
 use Rattle.qbs.specs.Commands.{HasNoWords, program, IsDue}
-use Rattle.qbs.specs.Reports.{pruned_line}
+use Rattle.verdicts.specs.Reports.{pruned_line}
 use Rattle.qbs.specs.Pruners.{May}
 
 -- a plan that is due was delivered

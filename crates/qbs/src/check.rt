@@ -12,7 +12,7 @@ ghost use Rattle.qbs.specs.Check.{accepted_line, refused_line, checks, check_of,
 use deriv_check::Bundle;
 use java_types::Typed;
 use plans::Plan;
-use plans::fetch::{Stop, fetch};
+use plans::fetch::{Stop, fetch, fetch_schema, fetch_source};
 use plans::opening::{open_bundle, open_program, open_schema};
 use qbs_base::{Bytes, Files, Status, Text};
 use rewrite_core::{Checked, check_bundle};
@@ -31,8 +31,8 @@ pub fn plan_check<F: Files>(
     ensures later { F.faults files.old ≤ F.faults files.new }
     ensures due { OrMemory result (check (given F.told F.faults files.old files.new) schema.now source.now bundle.now) }
 {
-    let schema = fetch(alloc, files, schema, 262144, "schema")?;
-    let source = fetch(alloc, files, source, 1048576, "source")?;
+    let schema = fetch_schema(alloc, files, schema)?;
+    let source = fetch_source(alloc, files, source)?;
     let bundle = fetch(alloc, files, bundle, 16777216, "bundle")?;
     plan_texts(
         alloc,

@@ -6,7 +6,6 @@ mod clean;
 pub mod laws;
 mod make;
 mod prove;
-mod report;
 mod rewrite;
 mod run;
 mod sql;

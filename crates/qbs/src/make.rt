@@ -19,10 +19,11 @@ use plans::fetch::{Stop, refused};
 use plans::lines::fault_refused;
 use plans::results::table_names;
 use qbs_base::{Bytes, Db, Name, Names, NoMemory, Scalars, Status, Value, print_value};
-use rewrite_core::{LoopVerdict, Said, replace_loops};
+use rewrite_core::replace_loops;
 use sample::{sample_class, sample_schema, sample_tables};
 use schema::Schema;
 use std::alloc::{AllocError, Global};
+use verdicts::{LoopVerdict, Said};
 
 // ---- The summary
 

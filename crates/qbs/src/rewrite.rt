@@ -6,22 +6,22 @@ ghost use Rattle.qbs_base.specs.Outside.{Rose};
 ghost use Rattle.plans.specs.Code.{OrMemory};
 ghost use Rattle.plans.specs.Opening.{IsProgramOf};
 ghost use Rattle.plans.specs.Plan.{given};
-ghost use Rattle.qbs.specs.Reports.{verdict_line, pruned_line};
+ghost use Rattle.verdicts.specs.Reports.{verdict_line, pruned_line};
 ghost use Rattle.qbs.specs.Pruners.{may};
 ghost use Rattle.qbs.specs.Rewrite.{size_of as size_in, budget_of as budget_in, Rewrites, rewrite_of, rewrite as rewrites};
 ghost use Rattle.qbs.specs.Within.{AreWithin};
 
-use crate::report::report;
 use java_types::Typed;
 use kernel_lang::{Candidate, KFragment, PruneAnswer};
 use plans::Plan;
-use plans::fetch::{Stop, fetch};
+use plans::fetch::{Stop, fetch_schema, fetch_source};
 use plans::opening::{open_program, open_schema};
 use qbs_base::{Files, NoMemory, Status, Text};
 use query_search::Pruner;
 use rewrite_core::{Rewritten, rewrite};
 use schema::Schema;
 use std::alloc::Global;
+use verdicts::report;
 use words::Options;
 
 /// What is due for the files of a schema and a source.
@@ -40,8 +40,8 @@ pub fn plan_rewrite<F: Files>(
         (may (λ p. ⟦<Box<dyn Fn(&KFragment, &Candidate) -> PruneAnswer> as Fn(&KFragment, &Candidate) -> PruneAnswer>⟧.post p.call) pruners.now)
         options.now schema.now source.now) }
 {
-    let schema = fetch(alloc, files, schema, 262144, "schema")?;
-    let source = fetch(alloc, files, source, 1048576, "source")?;
+    let schema = fetch_schema(alloc, files, schema)?;
+    let source = fetch_source(alloc, files, source)?;
     plan_texts(
         alloc,
         options,

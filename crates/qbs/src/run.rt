@@ -7,12 +7,12 @@ ghost use Rattle.java_mean.specs.WellTyped.{IsWellTyped};
 ghost use Rattle.java_types.specs.Texts.{read_by};
 ghost use Rattle.rewrite_core.specs.Output.{IsSourceOf};
 ghost use Rattle.rewrite_core.specs.Trying.{rewritten as rewritten_in};
-ghost use Rattle.plans.specs.Code.{OrMemory};
+ghost use Rattle.plans.specs.Code.{OrMemory, one_run};
 ghost use Rattle.plans.specs.Plan.{given};
 ghost use Rattle.plans.specs.Tables.{over_tables};
 ghost use Rattle.qbs.specs.Code.{call_in, run_called};
 ghost use Rattle.qbs.specs.Rewrite.{size_of as size_in, budget_of as budget_in, IsRewriting};
-ghost use Rattle.qbs.specs.Run.{run as runs, run_of, chooses, call_of, turns_of as turns_in, comes_to};
+ghost use Rattle.qbs.specs.Run.{run as runs, run_of, IsChosen, chooses, call_of, turns_of as turns_in, comes_to};
 ghost use Rattle.qbs.specs.Within.{AreWithin};
 
 use crate::rewrite::{budget_of, size_of};
@@ -21,7 +21,8 @@ use java_mean::TypeRule;
 use java_types::Typed;
 use plans::Plan;
 use plans::arguments::{find_method, read_arguments};
-use plans::fetch::{Stop, fetch, refused};
+use plans::choice::program_run;
+use plans::fetch::{Stop, fetch_schema, fetch_source, refused};
 use plans::lines::{fault_refused, word_refused};
 use plans::opening::{open_program, open_schema};
 use plans::results::output;
@@ -56,8 +57,8 @@ pub fn plan_run<F: Files>(
     ensures later { F.faults files.old ≤ F.faults files.new }
     ensures due { OrMemory result (runs (given F.told F.faults files.old files.new) options.now schema.now source.now folder.now (call_in call.now)) }
 {
-    let schema = fetch(alloc, files, schema, 262144, "schema")?;
-    let source = fetch(alloc, files, source, 1048576, "source")?;
+    let schema = fetch_schema(alloc, files, schema)?;
+    let source = fetch_source(alloc, files, source)?;
     plan_tables(
         alloc,
         files,
@@ -121,7 +122,7 @@ fn plan_source(
 }
 
 // What is due for the program, or for the rewritten one.
-#[tactic(auto, using(crate::proofs::Rewritten::run_plain, crate::proofs::Rewritten::run_other))]
+#[tactic(auto, using(crate::proofs::Rewritten::run_chosen))]
 fn plan_chosen(
     alloc: Global,
     options: &Options,
@@ -140,11 +141,9 @@ fn plan_chosen(
         chooses options.now schema.now (plain_program typed.now.program) (call_of schema.now texts.now (call_in call.now) (turns_in options.now))) }
 {
     let turns = turns_of(options);
-    if !options.rewritten {
-        return plan_call(alloc, schema, typed, texts, call, turns);
-    }
-    let other = rewritten(alloc, options, schema, source, typed, pruners)?;
-    plan_call(alloc, schema, &other, texts, call, turns)
+    let other = rewritten_if_asked(alloc, options, schema, source, typed, pruners)?;
+    let chosen = program_run(typed, &other);
+    plan_call(alloc, schema, chosen, texts, call, turns)
 }
 
 // The turns of a run, where the words give none.
@@ -152,6 +151,30 @@ fn turns_of(options: &Options) -> u64
     ensures { result ≡ turns_in options.now }
 {
     options.turns.unwrap_or(1000000)
+}
+
+// The program after all tries, where the options ask for it.
+#[tactic(auto, using(crate::proofs::Rewritten::chosen_plainly, crate::proofs::Rewritten::chosen_rewritten))]
+fn rewritten_if_asked(
+    alloc: Global,
+    options: &Options,
+    schema: &Schema,
+    source: &[u8],
+    typed: &Typed,
+    pruners: &[Pruner],
+) -> Result<Option<Typed>, NoMemory>
+    requires within { AreWithin options.now }
+    requires typed { IsWellTyped schema.now (read_by schema.now) (plain_program typed.now.program) }
+    requires source { IsSourceOf source.now (plain_program typed.now.program) }
+    ensures chosen { IfOk result (λ other.
+        IsChosen options.now.rewritten schema.now (size_in options.now) (budget_in options.now) (plain_program typed.now.program) (plain_program (one_run typed.now other).program)) }
+    ensures typed { IfOk result (λ other. IsWellTyped schema.now (read_by schema.now) (plain_program (one_run typed.now other).program)) }
+{
+    if !options.rewritten {
+        return Ok(None);
+    }
+    let other = rewritten(alloc, options, schema, source, typed, pruners)?;
+    Ok(Some(other))
 }
 
 // The program after all tries.

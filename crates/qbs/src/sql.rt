@@ -13,17 +13,16 @@ ghost use Rattle.qbs.specs.Sql.{sql as sqls, sql_of, answer_plan};
 
 use java_mean::{RunFault, TypeRule};
 use plans::Plan;
-use plans::fetch::{Stop, fetch};
+use plans::fetch::{Stop, fetch_schema};
 use plans::lines::{fault_refused, nowhere, word_refused};
-use plans::opening::open_schema;
+use plans::opening::{open_query, open_schema};
 use plans::results::output;
 use plans::tables::{TableTexts, fetch_tables, load_tables};
-use qbs_base::{Fail, Files, Scalars, Table, Text, Ty, Value};
+use qbs_base::{Files, Scalars, Table, Text, Ty, Value};
 use schema::Schema;
 use sql_ast::{Query, order_complete};
 use sql_exec::Answer;
 use sql_index::answer_indexed;
-use sql_parse::parse_query;
 use std::alloc::Global;
 
 /// What is due for a schema, the files of its tables in a folder, and a query.
@@ -38,7 +37,7 @@ pub fn plan_sql<F: Files>(
     ensures later { F.faults files.old ≤ F.faults files.new }
     ensures due { OrMemory result (sqls (given F.told F.faults files.old files.new) schema.now folder.now query.now) }
 {
-    let schema = fetch(alloc, files, schema, 262144, "schema")?;
+    let schema = fetch_schema(alloc, files, schema)?;
     plan_tables(alloc, files, schema.as_slice(), folder, query)
 }
 
@@ -61,20 +60,15 @@ fn plan_tables<F: Files>(
     plan_query(alloc, &schema, &texts, query)
 }
 
-#[tactic(auto, using(crate::proofs::Asked::answerable))]
+#[tactic(auto, using(crate::proofs::Asked::answerable, crate::proofs::Asked::asked))]
 fn plan_query(alloc: Global, schema: &Schema, texts: &TableTexts, text: &Text) -> Result<Plan, Stop>
     requires { length texts.now ≡ length schema.now }
     ensures { OrMemory result (λ plan. plan ≡ answer_of schema.now texts.now (read_by schema.now text.now)) }
 {
     let _size = text.as_str().len();
-    match parse_query(alloc, schema, text) {
-        Ok(q) => {
-            let q = Box::new(alloc, q)?;
-            plan_ordered(alloc, schema, texts, &q)
-        }
-        Err(Fail::Fault(_)) => Err(word_refused(alloc, TypeRule::BadQuery)),
-        Err(Fail::NoMemory) => Err(Stop::Memory),
-    }
+    let query = open_query(alloc, schema, text)?;
+    let q = Box::new(alloc, query)?;
+    plan_ordered(alloc, schema, texts, &q)
 }
 
 fn plan_ordered(alloc: Global, schema: &Schema, texts: &TableTexts, q: &Query) -> Result<Plan, Stop>

@@ -10,9 +10,10 @@ use java_ast::Program;
 use java_text::print_program;
 use java_types::{Typed, check};
 use qbs_base::{Fail, NoMemory, Span};
-use rewrite_core::{LoopVerdict, Said, rewrite};
+use rewrite_core::rewrite;
 use schema::Schema;
 use std::alloc::{AllocError, Global};
+use verdicts::{LoopVerdict, Said};
 
 fn put_place(out: &mut String, at: &Span) -> Result<(), AllocError> {
     let line = at.line;

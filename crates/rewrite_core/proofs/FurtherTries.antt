@@ -14,7 +14,7 @@ use Rattle.loop_text.specs.Statements.Loops.{loops_of}
 use Rattle.java_loops.specs.Kernel.Kernel.{setting_at}
 use Rattle.java_loops.specs.Kernel.Setting.{Setting}
 use Rattle.rewrite_core.specs.declared.outcome.Outcome.{Outcome}
-use Rattle.rewrite_core.specs.declared.rewritten.LoopVerdict.{LoopVerdict}
+use Rattle.verdicts.specs.declared.verdict.LoopVerdict.{LoopVerdict}
 use Rattle.rewrite_core.specs.Outcome.{try_with, IsOutcomeOf, program_with, entries_with, standing_with, patches_with, BeginsBefore}
 use Rattle.rewrite_core.specs.declared.patch.Patch.{Patch}
 use Rattle.rewrite_core.specs.declared.progress.AllTried.{AllTried}

@@ -30,9 +30,9 @@ use Rattle.fragments.specs.Lowers.{lowering_in_code}
 use Rattle.rewrite_core.specs.declared.outcome.GivesWay.{GivesWay}
 use Rattle.rewrite_core.specs.declared.outcome.Outcome.{Outcome}
 use Rattle.rewrite_core.specs.declared.patch.Patch.{Patch}
-use Rattle.rewrite_core.specs.declared.rewritten.Said.{Said}
-use Rattle.rewrite_core.specs.declared.rewritten.Said.TheVariants as says
-use Rattle.rewrite_core.specs.declared.rewritten.LoopVerdict.{LoopVerdict}
+use Rattle.verdicts.specs.declared.verdict.Said.{Said}
+use Rattle.verdicts.specs.declared.verdict.Said.TheVariants as says
+use Rattle.verdicts.specs.declared.verdict.LoopVerdict.{LoopVerdict}
 use Rattle.rewrite_core.specs.Asked.{number_of, first_of_run}
 use Rattle.rewrite_core.specs.Asking.{HasAsks, MayBeAsked}
 use Rattle.rewrite_core.specs.Outcome.{try_with, IsOutcomeOf, program_with, entries_with, standing_with, patches_with, BeginsBefore}

@@ -6,7 +6,7 @@ use Rattle.kernel_lang.specs.Plain.{Fragment}
 use Rattle.java_ast.specs.Reading.{program as plain_program}
 use Rattle.java_ast.specs.Tree.{PlainProgram}
 use Rattle.rewrite_core.specs.declared.progress.Report.{Report}
-use Rattle.rewrite_core.specs.declared.rewritten.LoopVerdict.{LoopVerdict}
+use Rattle.verdicts.specs.declared.verdict.LoopVerdict.{LoopVerdict}
 use Rattle.rewrite_core.specs.declared.stage.Stage.{Stage}
 use Rattle.rewrite_core.specs.declared.patch.Patch.{Patch}
 use Rattle.rewrite_core.specs.declared.progress.AllTried.{AllTried}

@@ -9,9 +9,9 @@ use Rattle.java_ast.specs.Path.{statement_at}
 use Rattle.java_ast.specs.Spans.{place_of}
 use Rattle.java_ast.specs.Tree.{Statement, PlainProgram}
 use Rattle.loop_text.specs.Statements.Loops.{loops_of}
-use Rattle.rewrite_core.specs.declared.rewritten.Said.{Said}
-use Rattle.rewrite_core.specs.declared.rewritten.Said.TheVariants as says
-use Rattle.rewrite_core.specs.declared.rewritten.LoopVerdict.{LoopVerdict}
+use Rattle.verdicts.specs.declared.verdict.Said.{Said}
+use Rattle.verdicts.specs.declared.verdict.Said.TheVariants as says
+use Rattle.verdicts.specs.declared.verdict.LoopVerdict.{LoopVerdict}
 use Rattle.rewrite_core.specs.TriedAsking.{standing_paths}
 use Rattle.rewrite_core.specs.Trying.{Answer, Outside, Searched, Tried}
 

@@ -27,4 +27,4 @@ pub use checking::{Checked, check_bundle};
 pub use replaced::{Replaced, replace_loops};
 pub use replacing::replace_loop;
 pub use rewriting::{rewrite, rewrite_with};
-pub use rewritten::{LoopVerdict, Rewritten, Said, Verdicts};
+pub use rewritten::Rewritten;

@@ -15,7 +15,7 @@ ghost use Rattle.loop_text.specs.Statements.Walking.{IsLoopOf};
 ghost use Rattle.sql_ast.specs.Reading.{query};
 ghost use Rattle.sql_parts.specs.Given.{AreKnownTo};
 ghost use Rattle.fragments.specs.Lowers.{lowering_in_code};
-ghost use Rattle.rewrite_core.specs.declared.rewritten.Said.TheVariants as says;
+ghost use Rattle.verdicts.specs.declared.verdict.Said.TheVariants as says;
 ghost use Rattle.rewrite_core.specs.Outcome.{try_with, IsOutcomeOf};
 ghost use Rattle.query_search.specs.Counted.{AreCounted};
 ghost use Rattle.query_search.specs.Seen.{verdict_in, dropped_in, IsFoundOf};
@@ -23,7 +23,6 @@ ghost use Rattle.query_search.specs.Verdicts.{verdict, before};
 ghost use Rattle.rewrite_core.specs.Pruned.{SomeDrops, EachKeeps, OfNumber};
 
 use crate::replacing::{place_there, statements_instead};
-use crate::rewritten::{LoopVerdict, Said};
 use fragments::{Lowered, lower};
 use java_ast::{Path, Stmt};
 use java_types::Typed;
@@ -33,6 +32,7 @@ use query_search::{Extra, Found, PruneAnswer, Pruner, search_with};
 use schema::Schema;
 use std::alloc::Global;
 use tor_axioms::Derivations;
+use verdicts::{LoopVerdict, Said};
 
 /// A loop that gives way: the number of the candidate that was found, the derivations of its conditions, and the statements that come in
 /// place of those from the number `first` to the loop.

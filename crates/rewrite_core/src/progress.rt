@@ -22,7 +22,6 @@ ghost use Rattle.rewrite_core.specs.Trying.{trying, all_tried};
 use crate::outcome::{Outcome, try_loop};
 use crate::patch::Patches;
 use crate::patching::put_patch;
-use crate::rewritten::{LoopVerdict, Verdicts};
 use crate::stage::{Stage, give_way, next_path, stage_of, stand};
 use deriv_check::{Bundle, BundleEntry};
 use java_ast::{Program, Stmt};
@@ -35,6 +34,7 @@ use query_search::{Extra, PruneAnswer, Pruner};
 use schema::Schema;
 use std::alloc::Global;
 use tor_axioms::Derivations;
+use verdicts::{LoopVerdict, Verdicts};
 
 /// What is said and kept of the loops that were tried, how many candidates were dropped, and the patches of the source.
 #[derive(Drop)]

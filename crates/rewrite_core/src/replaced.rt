@@ -11,7 +11,6 @@ ghost use Rattle.rewrite_core.specs.Rewriting.{verdicts_of, StandAsTried};
 ghost use Rattle.rewrite_core.specs.Trying.{all_tried, rewritten};
 
 use crate::progress::try_all;
-use crate::rewritten::Verdicts;
 use java_ast::Program;
 use java_types::Typed;
 use kernel_lang::{Candidate, KFragment};
@@ -19,6 +18,7 @@ use qbs_base::NoMemory;
 use query_search::{Extra, PruneAnswer};
 use schema::Schema;
 use std::alloc::Global;
+use verdicts::Verdicts;
 
 /// The program after all tries, and what is said of each loop in the order of the tries.
 #[derive(Drop)]

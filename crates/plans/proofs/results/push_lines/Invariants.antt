@@ -1,6 +1,6 @@
 use Rattle.std.proofs.Common.{◌≡◌, ◌++◌, drop}
 use Rattle.std.specs.List.{flat_map}
-use Rattle.plans.specs.Plan.{line}
+use Rattle.verdicts.specs.Lines.{line}
 use Rattle.plans.proofs.results.push_lines.Given as goal
 
 -- what is written and the lines that are left are all lines

@@ -13,8 +13,8 @@ pub returns-in_err-schema-clause-due : goal.returns-in_err-schema-clause-due
 returns-in_err-schema-clause-due g c =
     let p = err_from_is_err_and c.from_residual.result c.from_residual.ensures.1 in
     let told = g.F.Files.told c.args.files.now in
-    let rose = Rose (g.F.Files.faults c.args.files.now) (g.F.Files.faults c.fetch.new.files) in
-    let files = given g.F.Files.told g.F.Files.faults c.args.files.now c.fetch.new.files in
+    let rose = Rose (g.F.Files.faults c.args.files.now) (g.F.Files.faults c.fetch_schema.new.files) in
+    let files = given g.F.Files.told g.F.Files.faults c.args.files.now c.fetch_schema.new.files in
     rw (p.1, p.2)
     (unread_there told told rose rose c.args.schema.now 262144 (codes "schema")
     (λ s. reads files c.args.source.now 1048576 (codes "source") (λ t. reads files c.args.bundle.now 16777216 (codes "bundle") (λ b. check_of s t b)))
@@ -25,46 +25,46 @@ returns-in_err-source-clause-due g c =
     let p = err_from_is_err_and c.from_residual-in_err-source.result c.from_residual-in_err-source.ensures.1 in
     let told = g.F.Files.told c.args.files.now in
     let faults = g.F.Files.faults in
-    let rose = Rose (faults c.args.files.now) (faults c.fetch-2.new.files) in
-    let files = given g.F.Files.told g.F.Files.faults c.args.files.now c.fetch-2.new.files in
+    let rose = Rose (faults c.args.files.now) (faults c.fetch_source.new.files) in
+    let files = given g.F.Files.told g.F.Files.faults c.args.files.now c.fetch_source.new.files in
     let further : List ℕ → List ℕ → Ends = λ (s : List ℕ) (t : List ℕ). reads files c.args.bundle.now 16777216 (codes "bundle") (λ b. check_of s t b) in
     rw (p.1, p.2)
-    (read_on told told rose (Rose (faults c.args.files.now) (faults c.fetch.new.files)) c.args.schema.now 262144 (codes "schema") (λ s. reads files c.args.source.now 1048576 (codes "source") (λ t. further s t))
+    (read_on told told rose (Rose (faults c.args.files.now) (faults c.fetch_schema.new.files)) c.args.schema.now 262144 (codes "schema") (λ s. reads files c.args.source.now 1048576 (codes "source") (λ t. further s t))
     c.in_ok-schema.schema (Err c.in_err-source.field-0.0) refl c.in_ok-schema.ensures.read
-    (unread_there told (g.F.Files.told c.fetch.new.files) rose (Rose (faults c.fetch.new.files) (faults c.fetch-2.new.files)) c.args.source.now 1048576 (codes "source") (λ t. further c.in_ok-schema.schema t)
-    c.in_err-source.field-0.0 c.fetch.ensures.same (rose_later (faults c.args.files.now) (faults c.fetch.new.files) (faults c.fetch-2.new.files) c.fetch.ensures.later) c.in_err-source.ensures.read))
+    (unread_there told (g.F.Files.told c.fetch_schema.new.files) rose (Rose (faults c.fetch_schema.new.files) (faults c.fetch_source.new.files)) c.args.source.now 1048576 (codes "source") (λ t. further c.in_ok-schema.schema t)
+    c.in_err-source.field-0.0 c.fetch_schema.ensures.same (rose_later (faults c.args.files.now) (faults c.fetch_schema.new.files) (faults c.fetch_source.new.files) c.fetch_schema.ensures.later) c.in_err-source.ensures.read))
 
 pub returns-in_err-bundle-clause-due : goal.returns-in_err-bundle-clause-due
 returns-in_err-bundle-clause-due g c =
     let p = err_from_is_err_and c.from_residual-in_err-bundle.result c.from_residual-in_err-bundle.ensures.1 in
     let told = g.F.Files.told c.args.files.now in
     let faults = g.F.Files.faults in
-    let rose = Rose (faults c.args.files.now) (faults c.fetch-3.new.files) in
-    let files = given g.F.Files.told g.F.Files.faults c.args.files.now c.fetch-3.new.files in
+    let rose = Rose (faults c.args.files.now) (faults c.fetch.new.files) in
+    let files = given g.F.Files.told g.F.Files.faults c.args.files.now c.fetch.new.files in
     let further : List ℕ → List ℕ → Ends = λ (s : List ℕ) (t : List ℕ). reads files c.args.bundle.now 16777216 (codes "bundle") (λ b. check_of s t b) in
     rw (p.1, p.2)
-    (read_on told told rose (Rose (faults c.args.files.now) (faults c.fetch.new.files)) c.args.schema.now 262144 (codes "schema") (λ s. reads files c.args.source.now 1048576 (codes "source") (λ t. further s t))
+    (read_on told told rose (Rose (faults c.args.files.now) (faults c.fetch_schema.new.files)) c.args.schema.now 262144 (codes "schema") (λ s. reads files c.args.source.now 1048576 (codes "source") (λ t. further s t))
     c.in_ok-schema.schema (Err c.in_err-bundle.field-0.0) refl c.in_ok-schema.ensures.read
-    (read_on told (g.F.Files.told c.fetch.new.files) rose (Rose (faults c.fetch.new.files) (faults c.fetch-2.new.files)) c.args.source.now 1048576 (codes "source") (λ t. further c.in_ok-schema.schema t)
-    c.in_ok-source.source (Err c.in_err-bundle.field-0.0) c.fetch.ensures.same c.in_ok-source.ensures.read
-    (unread_there told (g.F.Files.told c.fetch-2.new.files) rose (Rose (faults c.fetch-2.new.files) (faults c.fetch-3.new.files)) c.args.bundle.now 16777216 (codes "bundle") (λ b. check_of c.in_ok-schema.schema c.in_ok-source.source b)
-    c.in_err-bundle.field-0.0 (c.fetch-2.ensures.same ∙ c.fetch.ensures.same)
-    (rose_later (faults c.args.files.now) (faults c.fetch-2.new.files) (faults c.fetch-3.new.files) (told_later (faults c.args.files.now) (faults c.fetch.new.files) (faults c.fetch-2.new.files) c.fetch.ensures.later c.fetch-2.ensures.later))
+    (read_on told (g.F.Files.told c.fetch_schema.new.files) rose (Rose (faults c.fetch_schema.new.files) (faults c.fetch_source.new.files)) c.args.source.now 1048576 (codes "source") (λ t. further c.in_ok-schema.schema t)
+    c.in_ok-source.source (Err c.in_err-bundle.field-0.0) c.fetch_schema.ensures.same c.in_ok-source.ensures.read
+    (unread_there told (g.F.Files.told c.fetch_source.new.files) rose (Rose (faults c.fetch_source.new.files) (faults c.fetch.new.files)) c.args.bundle.now 16777216 (codes "bundle") (λ b. check_of c.in_ok-schema.schema c.in_ok-source.source b)
+    c.in_err-bundle.field-0.0 (c.fetch_source.ensures.same ∙ c.fetch_schema.ensures.same)
+    (rose_later (faults c.args.files.now) (faults c.fetch_source.new.files) (faults c.fetch.new.files) (told_later (faults c.args.files.now) (faults c.fetch_schema.new.files) (faults c.fetch_source.new.files) c.fetch_schema.ensures.later c.fetch_source.ensures.later))
     c.in_err-bundle.ensures.read)))
 
 pub returns-clause-due : goal.returns-clause-due
 returns-clause-due g c =
     let told = g.F.Files.told c.args.files.now in
     let faults = g.F.Files.faults in
-    let rose = Rose (faults c.args.files.now) (faults c.fetch-3.new.files) in
-    let files = given g.F.Files.told g.F.Files.faults c.args.files.now c.fetch-3.new.files in
+    let rose = Rose (faults c.args.files.now) (faults c.fetch.new.files) in
+    let files = given g.F.Files.told g.F.Files.faults c.args.files.now c.fetch.new.files in
     let further : List ℕ → List ℕ → Ends = λ (s : List ℕ) (t : List ℕ). reads files c.args.bundle.now 16777216 (codes "bundle") (λ b. check_of s t b) in
-    read_on told told rose (Rose (faults c.args.files.now) (faults c.fetch.new.files)) c.args.schema.now 262144 (codes "schema") (λ s. reads files c.args.source.now 1048576 (codes "source") (λ t. further s t))
+    read_on told told rose (Rose (faults c.args.files.now) (faults c.fetch_schema.new.files)) c.args.schema.now 262144 (codes "schema") (λ s. reads files c.args.source.now 1048576 (codes "source") (λ t. further s t))
     c.in_ok-schema.schema c.plan_texts.result refl c.in_ok-schema.ensures.read
-    (read_on told (g.F.Files.told c.fetch.new.files) rose (Rose (faults c.fetch.new.files) (faults c.fetch-2.new.files)) c.args.source.now 1048576 (codes "source") (λ t. further c.in_ok-schema.schema t)
-    c.in_ok-source.source c.plan_texts.result c.fetch.ensures.same c.in_ok-source.ensures.read
-    (read_on told (g.F.Files.told c.fetch-2.new.files) rose (Rose (faults c.fetch-2.new.files) (faults c.fetch-3.new.files)) c.args.bundle.now 16777216 (codes "bundle") (λ b. check_of c.in_ok-schema.schema c.in_ok-source.source b)
-    c.in_ok-bundle.bundle c.plan_texts.result (c.fetch-2.ensures.same ∙ c.fetch.ensures.same) c.in_ok-bundle.ensures.read
+    (read_on told (g.F.Files.told c.fetch_schema.new.files) rose (Rose (faults c.fetch_schema.new.files) (faults c.fetch_source.new.files)) c.args.source.now 1048576 (codes "source") (λ t. further c.in_ok-schema.schema t)
+    c.in_ok-source.source c.plan_texts.result c.fetch_schema.ensures.same c.in_ok-source.ensures.read
+    (read_on told (g.F.Files.told c.fetch_source.new.files) rose (Rose (faults c.fetch_source.new.files) (faults c.fetch.new.files)) c.args.bundle.now 16777216 (codes "bundle") (λ b. check_of c.in_ok-schema.schema c.in_ok-source.source b)
+    c.in_ok-bundle.bundle c.plan_texts.result (c.fetch_source.ensures.same ∙ c.fetch_schema.ensures.same) c.in_ok-bundle.ensures.read
     (subst (λ (b : List ℕ). OrMemory c.plan_texts.result (check_of c.in_ok-schema.schema c.in_ok-source.source b)) c.as_slice-3.ensures
     (subst (λ (t : List ℕ). OrMemory c.plan_texts.result (check_of c.in_ok-schema.schema t c.as_slice-3.result.now)) c.as_slice-2.ensures
     (subst (λ (s : List ℕ). OrMemory c.plan_texts.result (check_of s c.as_slice-2.result.now c.as_slice-3.result.now)) c.as_slice.ensures c.plan_texts.ensures)))))

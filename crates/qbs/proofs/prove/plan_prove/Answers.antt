@@ -10,15 +10,15 @@ pub returns-in_err-schema-clause-due : goal.returns-in_err-schema-clause-due
 returns-in_err-schema-clause-due g c =
     let p = err_from_is_err_and c.from_residual.result c.from_residual.ensures.1 in
     rw (p.1, p.2)
-    (prove_unread (given g.F.Files.told g.F.Files.faults c.args.files.now c.fetch.new.files) _ c.args.options.now c.args.schema.now c.args.source.now c.in_err-schema.field-0.0 c.in_err-schema.ensures.read)
+    (prove_unread (given g.F.Files.told g.F.Files.faults c.args.files.now c.fetch_schema.new.files) _ c.args.options.now c.args.schema.now c.args.source.now c.in_err-schema.field-0.0 c.in_err-schema.ensures.read)
 
 pub returns-in_err-source-clause-due : goal.returns-in_err-source-clause-due
 returns-in_err-source-clause-due g c =
     let p = err_from_is_err_and c.from_residual-in_err-source.result c.from_residual-in_err-source.ensures.1 in
     rw (p.1, p.2)
-    (prove_half_read (g.F.Files.told c.args.files.now) (g.F.Files.told c.fetch.new.files) (Rose (g.F.Files.faults c.args.files.now) (g.F.Files.faults c.fetch-2.new.files)) (Rose (g.F.Files.faults c.fetch.new.files) (g.F.Files.faults c.fetch-2.new.files))
+    (prove_half_read (g.F.Files.told c.args.files.now) (g.F.Files.told c.fetch_schema.new.files) (Rose (g.F.Files.faults c.args.files.now) (g.F.Files.faults c.fetch_source.new.files)) (Rose (g.F.Files.faults c.fetch_schema.new.files) (g.F.Files.faults c.fetch_source.new.files))
     _ c.args.options.now c.args.schema.now c.args.source.now c.in_ok-schema.schema c.in_err-source.field-0.0
-    c.fetch.ensures.same (rose_later (g.F.Files.faults c.args.files.now) (g.F.Files.faults c.fetch.new.files) (g.F.Files.faults c.fetch-2.new.files) c.fetch.ensures.later)
+    c.fetch_schema.ensures.same (rose_later (g.F.Files.faults c.args.files.now) (g.F.Files.faults c.fetch_schema.new.files) (g.F.Files.faults c.fetch_source.new.files) c.fetch_schema.ensures.later)
     c.in_ok-schema.ensures.read c.in_err-source.ensures.read)
 
 pub plan_texts-requires-clause-short : goal.plan_texts-requires-clause-short
@@ -26,6 +26,6 @@ plan_texts-requires-clause-short g c = subst (λ (bytes : List ℕ). length byte
 
 pub returns-clause-due : goal.returns-clause-due
 returns-clause-due g c =
-    prove_read (g.F.Files.told c.args.files.now) (g.F.Files.told c.fetch.new.files) (Rose (g.F.Files.faults c.args.files.now) (g.F.Files.faults c.fetch-2.new.files)) (Rose (g.F.Files.faults c.fetch.new.files) (g.F.Files.faults c.fetch-2.new.files))
+    prove_read (g.F.Files.told c.args.files.now) (g.F.Files.told c.fetch_schema.new.files) (Rose (g.F.Files.faults c.args.files.now) (g.F.Files.faults c.fetch_source.new.files)) (Rose (g.F.Files.faults c.fetch_schema.new.files) (g.F.Files.faults c.fetch_source.new.files))
     _ c.args.options.now c.args.schema.now c.args.source.now c.in_ok-schema.schema c.in_ok-source.source c.as_slice.result.now c.as_slice-2.result.now c.plan_texts.result
-    c.fetch.ensures.same c.in_ok-schema.ensures.read c.in_ok-source.ensures.read c.as_slice.ensures c.as_slice-2.ensures c.plan_texts.ensures
+    c.fetch_schema.ensures.same c.in_ok-schema.ensures.read c.in_ok-source.ensures.read c.as_slice.ensures c.as_slice-2.ensures c.plan_texts.ensures

@@ -14,28 +14,28 @@ pub returns-in_err-schema-clause-due : goal.returns-in_err-schema-clause-due
 returns-in_err-schema-clause-due g c =
     let p = err_from_is_err_and c.from_residual.result c.from_residual.ensures.1 in
     rw (p.1, p.2)
-    (first_unread (given g.F.Files.told g.F.Files.faults c.args.files.now c.fetch.new.files) c.args.schema.now c.args.source.now
-    (λ s t. over_tables (given g.F.Files.told g.F.Files.faults c.args.files.now c.fetch.new.files) c.args.folder.now s (λ tables texts. run_of c.args.options.now tables (call_in c.args.call.now) t texts)) c.in_err-schema.field-0.0 c.in_err-schema.ensures.read)
+    (first_unread (given g.F.Files.told g.F.Files.faults c.args.files.now c.fetch_schema.new.files) c.args.schema.now c.args.source.now
+    (λ s t. over_tables (given g.F.Files.told g.F.Files.faults c.args.files.now c.fetch_schema.new.files) c.args.folder.now s (λ tables texts. run_of c.args.options.now tables (call_in c.args.call.now) t texts)) c.in_err-schema.field-0.0 c.in_err-schema.ensures.read)
 
 pub returns-in_err-source-clause-due : goal.returns-in_err-source-clause-due
 returns-in_err-source-clause-due g c =
     let p = err_from_is_err_and c.from_residual-in_err-source.result c.from_residual-in_err-source.ensures.1 in
     rw (p.1, p.2)
-    (second_unread (g.F.Files.told c.args.files.now) (g.F.Files.told c.fetch.new.files) (Rose (g.F.Files.faults c.args.files.now) (g.F.Files.faults c.fetch-2.new.files)) (Rose (g.F.Files.faults c.fetch.new.files) (g.F.Files.faults c.fetch-2.new.files))
+    (second_unread (g.F.Files.told c.args.files.now) (g.F.Files.told c.fetch_schema.new.files) (Rose (g.F.Files.faults c.args.files.now) (g.F.Files.faults c.fetch_source.new.files)) (Rose (g.F.Files.faults c.fetch_schema.new.files) (g.F.Files.faults c.fetch_source.new.files))
     c.args.schema.now c.args.source.now
-    (λ s t. over_tables (given g.F.Files.told g.F.Files.faults c.args.files.now c.fetch-2.new.files) c.args.folder.now s (λ tables texts. run_of c.args.options.now tables (call_in c.args.call.now) t texts)) c.in_ok-schema.schema c.in_err-source.field-0.0
-    c.fetch.ensures.same (rose_later (g.F.Files.faults c.args.files.now) (g.F.Files.faults c.fetch.new.files) (g.F.Files.faults c.fetch-2.new.files) c.fetch.ensures.later)
+    (λ s t. over_tables (given g.F.Files.told g.F.Files.faults c.args.files.now c.fetch_source.new.files) c.args.folder.now s (λ tables texts. run_of c.args.options.now tables (call_in c.args.call.now) t texts)) c.in_ok-schema.schema c.in_err-source.field-0.0
+    c.fetch_schema.ensures.same (rose_later (g.F.Files.faults c.args.files.now) (g.F.Files.faults c.fetch_schema.new.files) (g.F.Files.faults c.fetch_source.new.files) c.fetch_schema.ensures.later)
     c.in_ok-schema.ensures.read c.in_err-source.ensures.read)
 
 pub returns-clause-due : goal.returns-clause-due
 returns-clause-due g c =
-    let later = rose_later (g.F.Files.faults c.args.files.now) (g.F.Files.faults c.fetch-2.new.files) (g.F.Files.faults c.plan_tables.new.files) (told_later (g.F.Files.faults c.args.files.now) (g.F.Files.faults c.fetch.new.files) (g.F.Files.faults c.fetch-2.new.files) c.fetch.ensures.later c.fetch-2.ensures.later) in
-    both_read (g.F.Files.told c.args.files.now) (g.F.Files.told c.fetch.new.files) (Rose (g.F.Files.faults c.args.files.now) (g.F.Files.faults c.plan_tables.new.files)) (Rose (g.F.Files.faults c.fetch.new.files) (g.F.Files.faults c.plan_tables.new.files))
+    let later = rose_later (g.F.Files.faults c.args.files.now) (g.F.Files.faults c.fetch_source.new.files) (g.F.Files.faults c.plan_tables.new.files) (told_later (g.F.Files.faults c.args.files.now) (g.F.Files.faults c.fetch_schema.new.files) (g.F.Files.faults c.fetch_source.new.files) c.fetch_schema.ensures.later c.fetch_source.ensures.later) in
+    both_read (g.F.Files.told c.args.files.now) (g.F.Files.told c.fetch_schema.new.files) (Rose (g.F.Files.faults c.args.files.now) (g.F.Files.faults c.plan_tables.new.files)) (Rose (g.F.Files.faults c.fetch_schema.new.files) (g.F.Files.faults c.plan_tables.new.files))
     c.args.schema.now c.args.source.now
     (λ s t. over_tables (given g.F.Files.told g.F.Files.faults c.args.files.now c.plan_tables.new.files) c.args.folder.now s (λ tables texts. run_of c.args.options.now tables (call_in c.args.call.now) t texts)) c.in_ok-schema.schema c.in_ok-source.source c.plan_tables.result
-    c.fetch.ensures.same c.in_ok-schema.ensures.read c.in_ok-source.ensures.read
-    (over_there (g.F.Files.told c.args.files.now) (g.F.Files.told c.fetch-2.new.files) (Rose (g.F.Files.faults c.args.files.now) (g.F.Files.faults c.plan_tables.new.files)) (Rose (g.F.Files.faults c.fetch-2.new.files) (g.F.Files.faults c.plan_tables.new.files))
+    c.fetch_schema.ensures.same c.in_ok-schema.ensures.read c.in_ok-source.ensures.read
+    (over_there (g.F.Files.told c.args.files.now) (g.F.Files.told c.fetch_source.new.files) (Rose (g.F.Files.faults c.args.files.now) (g.F.Files.faults c.plan_tables.new.files)) (Rose (g.F.Files.faults c.fetch_source.new.files) (g.F.Files.faults c.plan_tables.new.files))
     c.args.folder.now c.in_ok-schema.schema (λ tables texts. run_of c.args.options.now tables (call_in c.args.call.now) c.in_ok-source.source texts) c.plan_tables.result
-    (c.fetch-2.ensures.same ∙ c.fetch.ensures.same) later
-    (subst (λ (t : List ℕ). OrMemory c.plan_tables.result (over_tables (given g.F.Files.told g.F.Files.faults c.fetch-2.new.files c.plan_tables.new.files) c.args.folder.now c.in_ok-schema.schema (λ tables texts. run_of c.args.options.now tables (call_in c.args.call.now) t texts))) c.as_slice-2.ensures
-    (subst (λ (s : List ℕ). OrMemory c.plan_tables.result (over_tables (given g.F.Files.told g.F.Files.faults c.fetch-2.new.files c.plan_tables.new.files) c.args.folder.now s (λ tables texts. run_of c.args.options.now tables (call_in c.args.call.now) c.as_slice-2.result.now texts))) c.as_slice.ensures c.plan_tables.ensures.due)))
+    (c.fetch_source.ensures.same ∙ c.fetch_schema.ensures.same) later
+    (subst (λ (t : List ℕ). OrMemory c.plan_tables.result (over_tables (given g.F.Files.told g.F.Files.faults c.fetch_source.new.files c.plan_tables.new.files) c.args.folder.now c.in_ok-schema.schema (λ tables texts. run_of c.args.options.now tables (call_in c.args.call.now) t texts))) c.as_slice-2.ensures
+    (subst (λ (s : List ℕ). OrMemory c.plan_tables.result (over_tables (given g.F.Files.told g.F.Files.faults c.fetch_source.new.files c.plan_tables.new.files) c.args.folder.now s (λ tables texts. run_of c.args.options.now tables (call_in c.args.call.now) c.as_slice-2.result.now texts))) c.as_slice.ensures c.plan_tables.ensures.due)))

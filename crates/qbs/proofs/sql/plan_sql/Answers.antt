@@ -13,15 +13,15 @@ pub returns-in_err-schema-clause-due : goal.returns-in_err-schema-clause-due
 returns-in_err-schema-clause-due g c =
     let p = err_from_is_err_and c.from_residual.result c.from_residual.ensures.1 in
     rw (p.1, p.2)
-    (schema_unread (given g.F.Files.told g.F.Files.faults c.args.files.now c.fetch.new.files) c.args.schema.now
-    (λ s. over_tables (given g.F.Files.told g.F.Files.faults c.args.files.now c.fetch.new.files) c.args.folder.now s (λ tables texts. sql_of tables c.args.query.now texts)) c.in_err-schema.field-0.0 c.in_err-schema.ensures.read)
+    (schema_unread (given g.F.Files.told g.F.Files.faults c.args.files.now c.fetch_schema.new.files) c.args.schema.now
+    (λ s. over_tables (given g.F.Files.told g.F.Files.faults c.args.files.now c.fetch_schema.new.files) c.args.folder.now s (λ tables texts. sql_of tables c.args.query.now texts)) c.in_err-schema.field-0.0 c.in_err-schema.ensures.read)
 
 pub returns-clause-due : goal.returns-clause-due
 returns-clause-due g c =
-    schema_read (g.F.Files.told c.args.files.now) (g.F.Files.told c.fetch.new.files) (Rose (g.F.Files.faults c.args.files.now) (g.F.Files.faults c.plan_tables.new.files)) (Rose (g.F.Files.faults c.args.files.now) (g.F.Files.faults c.fetch.new.files))
+    schema_read (g.F.Files.told c.args.files.now) (g.F.Files.told c.fetch_schema.new.files) (Rose (g.F.Files.faults c.args.files.now) (g.F.Files.faults c.plan_tables.new.files)) (Rose (g.F.Files.faults c.args.files.now) (g.F.Files.faults c.fetch_schema.new.files))
     c.args.schema.now (λ s. over_tables (given g.F.Files.told g.F.Files.faults c.args.files.now c.plan_tables.new.files) c.args.folder.now s (λ tables texts. sql_of tables c.args.query.now texts)) c.in_ok-schema.schema c.plan_tables.result
     c.in_ok-schema.ensures.read
-    (over_there (g.F.Files.told c.args.files.now) (g.F.Files.told c.fetch.new.files) (Rose (g.F.Files.faults c.args.files.now) (g.F.Files.faults c.plan_tables.new.files)) (Rose (g.F.Files.faults c.fetch.new.files) (g.F.Files.faults c.plan_tables.new.files))
+    (over_there (g.F.Files.told c.args.files.now) (g.F.Files.told c.fetch_schema.new.files) (Rose (g.F.Files.faults c.args.files.now) (g.F.Files.faults c.plan_tables.new.files)) (Rose (g.F.Files.faults c.fetch_schema.new.files) (g.F.Files.faults c.plan_tables.new.files))
     c.args.folder.now c.in_ok-schema.schema (λ tables texts. sql_of tables c.args.query.now texts) c.plan_tables.result
-    c.fetch.ensures.same (rose_later (g.F.Files.faults c.args.files.now) (g.F.Files.faults c.fetch.new.files) (g.F.Files.faults c.plan_tables.new.files) c.fetch.ensures.later)
-    (subst (λ (s : List ℕ). OrMemory c.plan_tables.result (over_tables (given g.F.Files.told g.F.Files.faults c.fetch.new.files c.plan_tables.new.files) c.args.folder.now s (λ tables texts. sql_of tables c.args.query.now texts))) c.as_slice.ensures c.plan_tables.ensures.due))
+    c.fetch_schema.ensures.same (rose_later (g.F.Files.faults c.args.files.now) (g.F.Files.faults c.fetch_schema.new.files) (g.F.Files.faults c.plan_tables.new.files) c.fetch_schema.ensures.later)
+    (subst (λ (s : List ℕ). OrMemory c.plan_tables.result (over_tables (given g.F.Files.told g.F.Files.faults c.fetch_schema.new.files c.plan_tables.new.files) c.args.folder.now s (λ tables texts. sql_of tables c.args.query.now texts))) c.as_slice.ensures c.plan_tables.ensures.due))

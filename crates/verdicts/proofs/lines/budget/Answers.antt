@@ -1,6 +1,6 @@
 use Rattle.std.proofs.Common.{◌∙◌}
-use Rattle.qbs.proofs.Lined.{budget_lined}
-use Rattle.qbs.proofs.report.budget.Goals as goal
+use Rattle.verdicts.proofs.Lined.{budget_lined}
+use Rattle.verdicts.proofs.lines.budget.Goals as goal
 
 pub returns : goal.returns
 returns c = c.in_ok-text.ensures.ok ∙ budget_lined c.args.b c.args.n

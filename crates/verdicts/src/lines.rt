@@ -1,12 +1,12 @@
-// The report of a rewriting.
+// The lines of a report.
 ghost use Rattle.std.specs.Prelude.{◌≡◌, ◌++◌, IfOk, OnOk, string_bytes};
 ghost use Rattle.std.specs.List.{flat_map};
-ghost use Rattle.rewrite_core.specs.declared.rewritten.Said.{Said};
-ghost use Rattle.plans.specs.Lines.{place_text};
-ghost use Rattle.qbs.specs.Reports.{said_text, verdict_line, pruned_line};
+ghost use Rattle.verdicts.specs.declared.verdict.Said.{Said};
+ghost use Rattle.verdicts.specs.Lines.{place_text};
+ghost use Rattle.verdicts.specs.Reports.{said_text, verdict_line, pruned_line};
 
+use crate::verdict::{LoopVerdict, Said};
 use qbs_base::{Bytes, NoMemory, Span};
-use rewrite_core::{LoopVerdict, Said};
 use std::alloc::{AllocError, Global};
 
 // A place as line and column.

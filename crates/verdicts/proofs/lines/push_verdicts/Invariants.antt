@@ -1,7 +1,7 @@
 use Rattle.std.proofs.Common.{◌≡◌, ◌++◌, drop}
 use Rattle.std.specs.List.{flat_map}
-use Rattle.qbs.specs.Reports.{verdict_line}
-use Rattle.qbs.proofs.report.push_verdicts.Given as goal
+use Rattle.verdicts.specs.Reports.{verdict_line}
+use Rattle.verdicts.proofs.lines.push_verdicts.Given as goal
 
 -- what is written and the lines of the verdicts that are left are all lines
 abbrev pub invariant-loop-v : goal.invariant-loop-v

@@ -1,6 +1,6 @@
 use Rattle.std.proofs.Common.{◌∙◌}
-use Rattle.qbs.proofs.Lined.{pruned_lined}
-use Rattle.qbs.proofs.report.pruned.Goals as goal
+use Rattle.verdicts.proofs.Lined.{pruned_lined}
+use Rattle.verdicts.proofs.lines.pruned.Goals as goal
 
 pub returns : goal.returns
 returns c = c.in_ok-text.ensures.ok ∙ pruned_lined c.args.n

@@ -1,6 +1,6 @@
 use Rattle.std.proofs.Common.{◌∙◌}
-use Rattle.qbs.proofs.Lined.{found_lined}
-use Rattle.qbs.proofs.report.found.Goals as goal
+use Rattle.verdicts.proofs.Lined.{found_lined}
+use Rattle.verdicts.proofs.lines.found.Goals as goal
 
 pub returns : goal.returns
 returns c = c.in_ok-text.ensures.ok ∙ found_lined c.args.k

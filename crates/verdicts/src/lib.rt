@@ -1,0 +1,8 @@
+//! What is said of loops that were tried, and the lines of a report on them.
+#![tactic(auto)]
+
+mod lines;
+mod verdict;
+
+pub use lines::report;
+pub use verdict::{LoopVerdict, Said, Verdicts};
