@@ -1,5 +1,5 @@
 // The statement that a path leads to.
-ghost use Rattle.std.specs.Prelude.{◌≡◌, map, slice_get};
+ghost use Rattle.std.specs.Prelude.{◌≡◌, ◌==◌, map, slice_get};
 ghost use Rattle.std.specs.Option.{option_map, option_copied};
 ghost use Rattle.java_ast.specs.Reading.{statement, statements, method as plain_method, program as plain_program};
 ghost use Rattle.java_ast.specs.Path.{numbered, first_branch, either_branch, branch_of, statement_in, statement_at};
@@ -54,6 +54,13 @@ pub fn branch(s: &Stmt, number: u64) -> Option<&[Stmt]>
         | StmtNode::Return { .. }
         | StmtNode::Break => None,
     }
+}
+
+/// Whether this number in a path names what is done where a condition fails.
+pub fn names_other(number: u64) -> bool
+    ensures { result ≡ (number == 1) }
+{
+    number == 1
 }
 
 /// The method with this number.

@@ -1,7 +1,6 @@
 -- Statements, methods and programs in which some parts are replaced where they stand.
 use Rattle.std.specs.Prelude.{ℕ, zero, suc, List, [], ◌∷◌, ◌++◌, map, Result, Ok, Err, OnOk}
 use Rattle.std.proofs.Common.{◌≡◌, ◌<◌, ◌≤◌, refl, sym, ap, ◌∙◌, length, get_or, set, take, drop, arith, append_assoc}
-use Rattle.std.proofs.lemmas.List.{take-take}
 use Rattle.java_ast.specs.declared.tree.Stmt.{Stmt}
 use Rattle.java_ast.specs.declared.tree.Method.{Method}
 use Rattle.java_ast.specs.Reading.{statement, statements, method}
@@ -16,9 +15,6 @@ both_ok (Ok x) f p q = f p q
 both_ok (Err e) f p q = tt
 
 -- ---- ranges
-
-pub front_of_front : {T : Type 0} (first last : ℕ) (xs ys : List T) → first ≤ last → ys ≡ take (suc last) xs → take first ys ≡ take first xs
-front_of_front first last xs ys below is = ap (take first) is ∙ take-take first (suc last) xs (omega arith)
 
 pub range_put : (first last : ℕ) (block others new : List Stmt) → new ≡ (take first block ++ others) ++ drop (suc last) block → statements new ≡ with_range first last (statements others) (statements block)
 range_put first last block others new is =

@@ -4,7 +4,9 @@ ghost use Rattle.std.specs.Option.{option_map};
 ghost use Rattle.java_ast.specs.Reading.{spelled, expression, expressions, statement, statements, param};
 ghost use Rattle.java_ast.specs.Tree as plain;
 
-use crate::build::{for_each, if_else, if_only, query, query_boolean, query_long, while_loop};
+use java_ast::build::{
+    binary, for_each, if_else, if_only, query, query_boolean, query_long, while_loop,
+};
 use java_ast::{Expr, ExprNode, JTy, Param, Params, Stmt, StmtNode};
 use qbs_base::{Bools, Name, NoMemory, Scalar, Span, Text, copy_names};
 use std::alloc::Global;
@@ -164,8 +166,7 @@ pub fn copy_expression(alloc: Global, e: &Expr) -> Result<Expr, NoMemory>
         ExprNode::Binary(op, a, b) => {
             let a = copy_boxed(alloc, a)?;
             let b = copy_boxed(alloc, b)?;
-            let node = ExprNode::Binary(*op, a, b);
-            Ok(Expr { span, node })
+            Ok(binary(span, *op, a, b))
         }
         ExprNode::Not(inner) => {
             let node = ExprNode::Not(copy_boxed(alloc, inner)?);

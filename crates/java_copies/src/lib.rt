@@ -1,7 +1,6 @@
 //! Copies of programs and of their parts, and programs in which some statements are replaced.
 #![tactic(auto)]
 
-mod build;
 mod copy;
 mod placed;
 mod programs;

@@ -10,6 +10,7 @@ use crate::copy::{
     copy_contains, copy_fetch, copy_field, copy_get, copy_literal, copy_query, copy_query_boolean,
     copy_query_long, copy_size, copy_variable,
 };
+use java_ast::build::binary;
 use java_ast::{Expr, ExprNode};
 use qbs_base::{NoMemory, Span};
 use std::alloc::Global;
@@ -26,8 +27,7 @@ pub fn copy_placed(alloc: Global, at: Span, e: &Expr) -> Result<Expr, NoMemory>
         ExprNode::Binary(op, a, b) => {
             let a = placed_boxed(alloc, at, a)?;
             let b = placed_boxed(alloc, at, b)?;
-            let node = ExprNode::Binary(*op, a, b);
-            Ok(Expr { span: at, node })
+            Ok(binary(at, *op, a, b))
         }
         ExprNode::Not(inner) => {
             let node = ExprNode::Not(placed_boxed(alloc, at, inner)?);

@@ -4,42 +4,12 @@ ghost use Rattle.java_ast.specs.Tree.{PlainMethod};
 ghost use Rattle.java_ast.specs.Reading.{statement, statements, method as plain_method, program as plain_program};
 ghost use Rattle.java_ast.specs.Path.{with_range, with_branch, with_body, with_method, replaced_in, replaced_at, last_of};
 
-use crate::build::{for_each, if_else, if_only, while_loop};
-use java_ast::{Method, Methods, Path, Program, Stmt, StmtNode, Stmts};
+use java_ast::build::{for_each, if_else, if_only, while_loop};
+use java_ast::lists::put_items;
+use java_ast::{Method, Methods, Path, Program, Stmt, StmtNode, Stmts, names_other};
 use qbs_base::NoMemory;
 use std::alloc::Global;
 use std::mem;
-
-/// Takes the items behind the one with the number `last` out of a list.
-fn split_behind<T>(list: &mut Vec<T>, last: u64) -> Result<Vec<T>, NoMemory>
-    ensures stay { OnOk result (list.new.items ≡ take (suc last) list.old.items) }
-    ensures taken { IfOk result (λ behind. behind.items ≡ drop (suc last) list.old.items) }
-{
-    if (last as usize) < list.len() {
-        Ok(list.split_off(last as usize + 1)?)
-    } else {
-        Ok(list.split_off(list.len())?)
-    }
-}
-
-/// Others in place of the items from one number to another.
-#[tactic(auto, using(crate::proofs::Moved::front_of_front))]
-fn put_items<T: Drop>(
-    list: &mut Vec<T>,
-    first: u64,
-    last: u64,
-    others: Vec<T>,
-) -> Result<(), NoMemory>
-    requires { first ≤ last }
-    ensures { OnOk result (list.new.items ≡ (take first list.old.items ++ others.items) ++ drop (suc last) list.old.items) }
-{
-    let mut others = others;
-    let mut behind = split_behind(list, last)?;
-    list.truncate(first as usize);
-    list.append(&mut others)?;
-    list.append(&mut behind)?;
-    Ok(())
-}
 
 /// Others in place of the statements from one number to another.
 fn put_range(
@@ -167,7 +137,7 @@ fn put_in_either(
     if at == 0 {
         put_in_block(yes, number, path, first, others)
     } else {
-        put_in_branch(other, at == 1, number, path, first, others)
+        put_in_branch(other, names_other(at), number, path, first, others)
     }
 }
 
