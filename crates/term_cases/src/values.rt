@@ -2,7 +2,8 @@
 use crate::words::whole_at;
 use qbs_base::{Items, NoMemory, Scalar, Value, boxed};
 use std::alloc::Global;
-use tor_terms::{Env, Term, eval};
+use tor_eval::eval;
+use tor_terms::{Env, Term};
 
 // An environment that holds one number, and nothing else.
 fn holding(alloc: Global, number: i64) -> Result<Box<Env>, NoMemory> {

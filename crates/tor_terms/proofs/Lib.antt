@@ -1,5 +1,3 @@
 pub mod Scalars
 pub mod Identical
-pub mod Evaluated
-pub mod Steps
-pub mod Shown
+pub mod Sums

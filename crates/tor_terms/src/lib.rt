@@ -1,19 +1,14 @@
-//! Terms of ordered relations, their formulas and atoms, and the environments in which they have
-//! a value.
+//! Terms of ordered relations, their formulas and atoms, the environments in which they have a value,
+//! and the tests, copies and sums that others make of them.
 #![tactic(auto)]
 
 mod compared;
 mod copy;
 mod env;
+mod eval_first;
 mod eval_found;
-mod eval_lists;
 mod eval_numbers;
-mod eval_parts;
-mod eval_rows;
-mod eval_terms;
-mod eval_truth;
 mod eval_within;
-pub mod laws;
 mod rows;
 mod same;
 mod term;
@@ -23,9 +18,10 @@ pub use copy::{
     copy_atom, copy_atoms, copy_boxed_term, copy_formula, copy_formulas, copy_operand, copy_term,
 };
 pub use env::{Env, FlagTable, FlagTables};
-pub use eval_numbers::{better, number_of};
-pub use eval_terms::eval;
+pub use eval_first::first_of;
+pub use eval_found::{Found, Tuple, TupleList};
+pub use eval_numbers::{added, better, number, number_of};
 pub use eval_within::{formula_within, has_loop, has_loops};
-pub use rows::{has_row, plain_row, same_row};
+pub use rows::{has_row, is_no_cell, plain_row, same_row};
 pub use same::{same_flag, same_formula, same_numbers, same_operand, same_term};
 pub use term::{Atom, Atoms, Elem, Formula, Formulas, Index, Loops, Operand, Term, TermPath, Way};

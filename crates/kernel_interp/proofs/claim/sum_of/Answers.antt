@@ -1,6 +1,6 @@
 use Rattle.std.proofs.Common.{arith}
 use Rattle.std.proofs.lemmas.Int.{ints}
-use Rattle.tor_terms.proofs.Steps.{sum-more}
+use Rattle.tor_terms.proofs.Sums.{sum-more}
 use Rattle.kernel_interp.proofs.claim.sum_of.Goals as goal
 
 pub loop-row-preserved : goal.loop-row-preserved

@@ -1,7 +1,0 @@
-use Rattle.std.proofs.Common.{◌≡◌, drop}
-use Rattle.tor_terms.specs.Truth as truths
-use Rattle.tor_terms.specs.Worlds.{world_of}
-use Rattle.tor_terms.proofs.eval_rows.row_at.Given as goal
-
-abbrev pub invariant-loop-own : goal.invariant-loop-own
-invariant-loop-own l = truths.row_at (world_of l.env).current l.tuple l.j ≡ truths.row_at (world_of l.env).current (drop l.own-index l.tuple) l.j

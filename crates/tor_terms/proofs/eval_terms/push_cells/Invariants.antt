@@ -1,5 +1,0 @@
-use Rattle.std.proofs.Common.{◌≡◌, take, ◌++◌}
-use Rattle.tor_terms.proofs.eval_terms.push_cells.Given as goal
-
-abbrev pub invariant-loop-cell : goal.invariant-loop-cell
-invariant-loop-cell l = l.all ≡ l.initial.all ++ take l.cell-index l.cells
