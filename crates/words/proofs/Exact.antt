@@ -4,6 +4,7 @@ use Rattle.std.proofs.lemmas.Grind.{common_steps}
 use Rattle.std.specs.declared.option.Option.{Option}
 use Rattle.std.specs.Fmt.{decimal}
 use Rattle.std.specs.Str.{bytes_eq}
+use Rattle.word_values.specs.Values.{behind, number_within}
 use Rattle.words.specs.declared.command.Command.{Command}
 use Rattle.words.specs.declared.command.Command.TheVariants as commands
 use Rattle.words.specs.declared.command.Key.{Key}
@@ -14,9 +15,9 @@ use Rattle.words.specs.declared.command.Verb.TheVariants.{Rewrite, Prove, Check,
 use Rattle.words.specs.Options.{name_of, word_of, has_value, takes, unset}
 use Rattle.words.specs.Plain.{Spells, flag, next, same, Sets, HasOptions, none, more, all_bare, begins_with_dash, HasOthers, bare, dashed, Names, HasWords, plainly}
 use Rattle.words.specs.Plain as has
-use Rattle.words.specs.Reading.{verb_of, behind, Spelled, Flag, Next, Same, Other, value_or, spelled, number_within, set_number, set_text, set, set_for, with, options_of, value_then, seen, others_of, made, two_names, three_names, run_names, make_names, command_of, plain, ReadsPlainWords}
-use Rattle.words.proofs.Numbers.{bytes_equal, IsWithin, number_within_decimal, number_within_is}
-use Rattle.words.proofs.Spelt.{behind_is}
+use Rattle.words.specs.Reading.{verb_of, Spelled, Flag, Next, Same, Other, value_or, spelled, set_number, set_text, set, set_for, with, options_of, value_then, seen, others_of, made, two_names, three_names, run_names, make_names, command_of, plain, ReadsPlainWords}
+use Rattle.word_values.proofs.Numbers.{bytes_equal, IsWithin, number_within_decimal, number_within_is}
+use Rattle.word_values.proofs.Spelt.{behind_is}
 
 abbrev pub Word : Type 0
 Word = List ℕ

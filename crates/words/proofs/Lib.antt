@@ -1,4 +1,2 @@
 pub mod Exact
-pub mod Numbers
-pub mod Spelt
 pub mod Marked

@@ -2,6 +2,7 @@
 use Rattle.std.proofs.Common.{◌≡◌, ℕ, ◌≤◌, ◌-◌, arith, get_or, length, take, drop, Bool, true, false, List, [], ◌∷◌, Option, Some, None, is_some, refl, sym, ap, ◌∙◌, subst}
 use Rattle.std.specs.Prelude.{if◌then◌else◌}
 use Rattle.std.proofs.lemmas.List.{take_all}
+use Rattle.word_values.specs.Values.{number_within}
 use Rattle.words.specs.declared.command.Command.{Command}
 use Rattle.words.specs.declared.command.Key.{Key}
 use Rattle.words.specs.declared.command.Key.TheVariants.{Size, Candidates, Turns, Rewritten, Store}
@@ -11,7 +12,7 @@ use Rattle.words.specs.declared.command.Verb.TheVariants as verbs
 use Rattle.words.specs.declared.marks.Marks.{Marks}
 use Rattle.words.specs.Marks.{schema_of, schema_in, marks_of, where_free, mark, mark_for, behind_options, behind_value, first_name, unmarked, schema_behind}
 use Rattle.words.specs.Options.{takes, unset}
-use Rattle.words.specs.Reading.{Spelled, Flag, Next, Same, Other, spelled, number_within, set_number, set_text, set, set_for, with, options_of, value_then, others_of, made, command_of, command_with, verb_of, plain}
+use Rattle.words.specs.Reading.{Spelled, Flag, Next, Same, Other, spelled, set_number, set_text, set, set_for, with, options_of, value_then, others_of, made, command_of, command_with, verb_of, plain}
 
 pub at_same : (verb : Verb) (w : List ℕ) (ws : List (List ℕ)) (m : Marks) (k : Key) (v : List ℕ) → spelled w ≡ Same k v → behind_options verb (w ∷ ws) m ≡ with (mark_for verb k v m) (λ p. behind_options verb ws p)
 unfolding behind_options

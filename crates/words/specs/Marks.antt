@@ -2,6 +2,7 @@
 use Rattle.std.specs.Prelude.{ℕ, List, [], ◌∷◌, Bool, true, false, is_some, if◌then◌else◌}
 use Rattle.std.specs.declared.option.Option.{Option}
 use Rattle.std.specs.declared.option.Option.TheVariants.{Some, None}
+use Rattle.word_values.specs.Values.{number_within}
 use Rattle.words.specs.declared.command.Command.{Command}
 use Rattle.words.specs.declared.command.Command.TheVariants as commands
 use Rattle.words.specs.declared.command.Key.{Key}
@@ -11,7 +12,7 @@ use Rattle.words.specs.declared.command.Verb.{Verb}
 use Rattle.words.specs.declared.command.Verb.TheVariants.{Rewrite, Prove, Run}
 use Rattle.words.specs.declared.marks.Marks.{Marks}
 use Rattle.words.specs.Options.{takes}
-use Rattle.words.specs.Reading.{Flag, Next, Same, Other, spelled, number_within, others_of, with, plain}
+use Rattle.words.specs.Reading.{Flag, Next, Same, Other, spelled, others_of, with, plain}
 
 -- SCHEMA of `rewrite`, `prove` and `run`
 abbrev pub schema_of : Command → Option (List ℕ)

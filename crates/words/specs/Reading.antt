@@ -1,11 +1,10 @@
 -- Reading words from left to right.
-use Rattle.std.specs.Prelude.{◌≡◌, ◌↔◌, ℕ, nat_le, List, [], ◌∷◌, true, codes, ◌&&◌, if◌then◌else◌, length, take, drop}
+use Rattle.std.specs.Prelude.{◌≡◌, ◌↔◌, ℕ, List, [], ◌∷◌, true, codes, if◌then◌else◌}
 use Rattle.std.proofs.Common.{Bor}
-use Rattle.std.specs.Fmt.{decimal}
 use Rattle.std.specs.Str.{bytes_eq}
-use Rattle.std.specs.Str.Parse.{digits_value}
 use Rattle.std.specs.declared.option.Option.{Option}
 use Rattle.std.specs.declared.option.Option.TheVariants.{Some, None}
+use Rattle.word_values.specs.Values.{behind, number_within}
 use Rattle.words.specs.declared.command.Command.{Command}
 use Rattle.words.specs.declared.command.Command.TheVariants as commands
 use Rattle.words.specs.declared.command.Key.{Key}
@@ -31,10 +30,6 @@ verb_of w =
     else (if bytes_eq w (codes "inline") then Some Inline
     else (if bytes_eq w (codes "gather") then Some Gather
     else None))))))))
-
--- what stands behind a prefix
-abbrev pub behind : List ℕ → List ℕ → Option (List ℕ)
-behind prefix w = if bytes_eq (take (length prefix) w) prefix then Some (drop (length prefix) w) else None
 
 -- how a word spells an option
 pub data Spelled : Type 0 where
@@ -70,13 +65,6 @@ spelling spellings.Flag = Flag
 spelling (spellings.Next k) = Next k
 spelling (spellings.Same k v) = Same k v.now
 spelling spellings.Other = Other
-
--- the number that a word is the decimal digits of, within a range
-abbrev pub within : ℕ → ℕ → ℕ → List ℕ → Option ℕ
-within n low high w = if nat_le low n && nat_le n high && bytes_eq w (decimal n) then Some n else None
-
-abbrev pub number_within : ℕ → ℕ → List ℕ → Option ℕ
-number_within low high w = within (digits_value 10 w) low high w
 
 abbrev pub set_number : Option ℕ → Option ℕ → (ℕ → Options) → Option Options
 set_number None (Some n) make = Some (make n)

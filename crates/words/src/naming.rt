@@ -3,7 +3,8 @@ ghost use Rattle.std.specs.Prelude.{◌≡◌, option_copied};
 ghost use Rattle.std.specs.Fmt.{decimal};
 ghost use Rattle.std.specs.Str.{bytes_eq};
 ghost use Rattle.words.specs.Marks as spec;
-ghost use Rattle.words.specs.Reading.{number_within, with};
+ghost use Rattle.word_values.specs.Values.{number_within};
+ghost use Rattle.words.specs.Reading.{with};
 
 use crate::marks::Marks;
 use crate::read::{Spelling, others_of, spelling_of, takes, verb_of};

@@ -1,14 +1,13 @@
 // Reading the words of a command line.
-ghost use Rattle.std.specs.Prelude.{◌≡◌, ◌<◌, ◌^◌, IfOk, MatchOption, Some, None};
-ghost use Rattle.std.specs.Fmt.{decimal};
-ghost use Rattle.std.specs.Str.{bytes_eq};
+ghost use Rattle.std.specs.Prelude.{◌≡◌, IfOk, MatchOption, Some, None};
 ghost use Rattle.words.specs.Options.{takes, unset};
 ghost use Rattle.words.specs.Plain.{all_bare, begins_with_dash};
-ghost use Rattle.words.specs.Reading.{plain, spelled, spelled_within, behind, spelling, verb_of, number_within, set, set_for, seen, with, value_then, options_of, others_of, command_of, command_with, ReadsPlainWords};
+ghost use Rattle.words.specs.Reading.{plain, spelled, spelled_within, spelling, verb_of, set, set_for, seen, with, value_then, options_of, others_of, command_of, command_with, ReadsPlainWords};
 
 use crate::{Command, Key, Options, Verb};
 use qbs_base::{Text, Words};
 use std::alloc::{AllocError, Global};
+use word_values::{first_of, number_within, size_value, size_within, value_behind};
 
 /// How a word spells an option: as a flag, with its value in the next word, with its value behind
 /// `=`, or not at all.
@@ -58,18 +57,11 @@ pub fn spelling_of(word: &str) -> Spelling<'_>
     value_of(word)
 }
 
-// What stands behind a prefix.
-fn value_behind<'a>(prefix: &'static str, word: &'a str) -> Option<&'a str>
-    ensures { MatchOption result (behind prefix.now word.now ≡ None) (λ value. behind prefix.now word.now ≡ Some value.now) }
-{
-    word.strip_prefix(prefix)
-}
-
 // The option whose value stands behind `=`.
 fn value_of(word: &str) -> Spelling<'_>
     ensures { spelling result ≡ spelled_within word.now }
 {
-    if let Some(value) = value_behind("--size=", word) {
+    if let Some(value) = size_value(word) {
         return Spelling::Same(Key::Size, value);
     }
     if let Some(value) = value_behind("--candidates=", word) {
@@ -93,31 +85,6 @@ pub fn takes(verb: Verb, key: Key) -> bool
         Verb::Unnest | Verb::Gather => matches!(key, Key::Size | Key::Candidates),
         Verb::Check | Verb::Sql | Verb::Make | Verb::Inline => false,
     }
-}
-
-// Whether the word is the decimal digits of the number.
-fn is_decimal(alloc: Global, word: &str, number: u64) -> Result<bool, AllocError>
-    ensures { IfOk result (λ same. same ≡ bytes_eq word.now (decimal number)) }
-{
-    let shown = format!(in alloc; "{number}")?;
-    Ok(word == shown.as_str())
-}
-
-// The number that the word is the decimal digits of, where it lies within the range.
-fn number_within(alloc: Global, word: &str, low: u64, high: u64) -> Result<Option<u64>, AllocError>
-    ensures { IfOk result (λ n. n ≡ number_within low high word.now) }
-{
-    let Ok(number) = word.parse::<u64>() else {
-        return Ok(None);
-    };
-    if number < low {
-        return Ok(None);
-    }
-    if high < number {
-        return Ok(None);
-    }
-    let same = is_decimal(alloc, word, number)?;
-    if same { Ok(Some(number)) } else { Ok(None) }
 }
 
 // The options with one more; None where it is set already or its value isn't one.
@@ -144,7 +111,7 @@ fn set_size(alloc: Global, value: &str, mut options: Options) -> Result<Option<O
     if options.size.is_some() {
         return Ok(None);
     }
-    match number_within(alloc, value, 0, 8)? {
+    match size_within(alloc, value)? {
         Some(size) => {
             options.size = Some(size);
             Ok(Some(options))
@@ -510,7 +477,7 @@ pub fn read_words(alloc: Global, words: &Words) -> Result<Option<Command>, Alloc
     ensures read { IfOk result (λ command. command ≡ plain words.now) }
     ensures exact { ReadsPlainWords }
 {
-    let [word, rest @ ..] = words.as_slice() else {
+    let Some((word, rest)) = first_of(words.as_slice()) else {
         return Ok(None);
     };
     match verb_of(word.as_str()) {

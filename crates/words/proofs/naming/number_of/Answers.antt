@@ -1,7 +1,7 @@
 use Rattle.std.proofs.Common.{◌≡◌, ◌<◌, ◌^◌, sym, ◌∙◌, true, false, arith}
 use Rattle.std.specs.Fmt.{decimal}
 use Rattle.std.specs.Str.{bytes_eq}
-use Rattle.words.proofs.Numbers.{number_some, number_none, bytes_equal, equal_bytes}
+use Rattle.word_values.proofs.Numbers.{number_some, number_none, bytes_equal, equal_bytes}
 use Rattle.words.proofs.naming.number_of.Goals as goal
 
 pub returns-in_default : goal.returns-in_default

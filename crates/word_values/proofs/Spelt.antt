@@ -6,8 +6,8 @@ use Rattle.std.specs.declared.option.Option.{Option}
 use Rattle.std.specs.Prelude.{MatchOption}
 use Rattle.std.proofs.Math.Seq.{take-append_seam, drop-append_seam}
 use Rattle.std.proofs.lemmas.List.{take-append-drop}
-use Rattle.words.specs.Reading.{behind}
-use Rattle.words.proofs.Numbers.{bytes_equal, equal_bytes}
+use Rattle.word_values.specs.Values.{behind}
+use Rattle.word_values.proofs.Numbers.{bytes_equal, equal_bytes}
 
 pub behind_prefix : (p v : List ℕ) → behind p (p ++ v) ≡ Some v
 behind_prefix p v =
