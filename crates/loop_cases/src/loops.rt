@@ -12,7 +12,8 @@ use java_lex::{Tokens, lex};
 use java_parser::parse;
 use java_types::{Typed, check};
 use qbs_base::{Fail, NoMemory, Span, Text};
-use schema::{Schema, parse_schema};
+use schema::Schema;
+use schema_text::parse_schema;
 use std::alloc::{AllocError, Global};
 
 /// How much is said of a loop of the kernel form.

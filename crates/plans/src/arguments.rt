@@ -11,7 +11,7 @@ use crate::lines::word_refused;
 use java_ast::{JTy, Method, Param};
 use java_mean::TypeRule;
 use qbs_base::{Fail, Name, NoMemory, Scalar, Scalars, Text, Ty, Words};
-use schema::read_field;
+use schema_text::read_field;
 use std::alloc::Global;
 
 fn method_place(methods: &[Method], name: &Name) -> Option<usize>

@@ -8,7 +8,8 @@ ghost use Rattle.plans.specs.Tables.{table_file as file_of, IsFresh, Reads, Load
 use crate::fetch::{Stop, fetch};
 use crate::lines::data_refused;
 use qbs_base::{Bytes, Db, Fail, Files, Items, NoMemory, Rows, Table, Text};
-use schema::{Schema, load_table};
+use schema::Schema;
+use schema_text::load_table;
 use std::alloc::{AllocError, Global};
 
 /// The texts of tables.

@@ -13,7 +13,7 @@ use Rattle.java_mean.specs.Types.{IsArgument, AreArguments, single_spelled}
 use Rattle.schema.specs.declared.fault.DataFault.{DataFault}
 use Rattle.schema.specs.declared.fault.DataRule.{DataRule}
 use Rattle.schema.specs.Rows.{cell_of, table_rows, most_rows}
-use Rattle.schema.proofs.Typed.{field_has, rows_of_table, few_rows}
+use Rattle.schema_text.proofs.Typed.{field_has, rows_of_table, few_rows}
 use Rattle.plans.specs.Calls.{param_type, found, argument_of, with_argument, fields_of, or_mismatch, arguments}
 use Rattle.plans.specs.Tables.{TableFault, with_rows, loaded_from, loaded}
 use Rattle.plans.proofs.Called.{scalar_param}

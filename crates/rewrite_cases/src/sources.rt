@@ -7,7 +7,8 @@ use crate::rewriting::put_rewritten;
 use java_lex::{Tokens, lex};
 use java_parser::parse;
 use qbs_base::{Fail, NoMemory};
-use schema::{Schema, parse_schema};
+use schema::Schema;
+use schema_text::parse_schema;
 use std::alloc::Global;
 
 fn put_tokens(

@@ -7,7 +7,8 @@ ghost use Rattle.qbs_base.specs.Values.{IsDatabaseOf};
 ghost use Rattle.sample.specs.Tables as specs;
 
 use qbs_base::{Cells, Db, Fail, Kind, Name, NoMemory, Row, Scalar, Text};
-use schema::{Schema, parse_schema};
+use schema::Schema;
+use schema_text::parse_schema;
 use std::alloc::{AllocError, Global};
 
 static TEXT: &str =

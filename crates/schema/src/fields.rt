@@ -1,16 +1,11 @@
-// The cells that fields stand for.
-ghost use Rattle.std.specs.Prelude.{◌≡◌, Ok, IfOk, option_map, codes, Some, None, true, false};
-ghost use Rattle.std.specs.Str.{bytes_eq};
-ghost use Rattle.qbs_base.specs.Values.{HasTy};
-ghost use Rattle.schema.specs.Rows.{long_of, text_of, cell_of};
-ghost use Rattle.qbs_base.specs.Memory.{Answers};
+//! Fields that are whole numbers, and the numbers of rows.
+ghost use Rattle.std.specs.Prelude.{◌≡◌, ◌+◌, ◌≤◌, length};
+ghost use Rattle.schema.specs.Rows.{long_of, most_rows};
 
-use crate::fault::DataRule;
-use qbs_base::{Fail, NoMemory, Scalar, Text, Ty};
-use std::alloc::Global;
+use qbs_base::Rows;
 
 /// The whole number of 64 bits that a field is: an optional sign and decimal digits.
-fn long(field: &[u8]) -> Option<i64>
+pub fn long(field: &[u8]) -> Option<i64>
     ensures { result ≡ long_of field.now }
 {
     let Ok(text) = str::from_utf8(field) else {
@@ -19,48 +14,10 @@ fn long(field: &[u8]) -> Option<i64>
     text.parse::<i64>().ok()
 }
 
-/// The text that a field is, which is None where it isn't UTF-8.
-fn text(alloc: Global, field: &[u8]) -> Result<Option<Text>, NoMemory>
-    ensures { IfOk result (λ text. text ≡ text_of field.now) }
+/// The number of the row behind these, which are numbered from 1.
+pub fn next_number(rows: &Rows) -> u64
+    requires { length rows.now ≤ most_rows }
+    ensures { result ≡ length rows.now + 1 }
 {
-    let mut bytes = Vec::new(alloc);
-    bytes.extend_from_slice(field)?;
-    Ok(Text::from_vec(bytes))
-}
-
-/// What a field of a type stands for, or the rule that it breaks.
-#[tactic(auto, unfolding(crate::specs::Rows::cell_of))]
-pub fn cell(alloc: Global, ty: Ty, field: &[u8]) -> Result<Scalar, Fail<DataRule>>
-    ensures { Answers result (cell_of ty field.now) }
-{
-    match ty {
-        Ty::Long => match long(field) {
-            Some(number) => Ok(Scalar::Long(number)),
-            None => Err(Fail::Fault(DataRule::BadLong)),
-        },
-        Ty::Bool => {
-            if field == b"true".as_slice() {
-                Ok(Scalar::Bool(true))
-            } else if field == b"false".as_slice() {
-                Ok(Scalar::Bool(false))
-            } else {
-                Err(Fail::Fault(DataRule::BadBool))
-            }
-        }
-        Ty::Text => match text(alloc, field)? {
-            Some(text) => Ok(Scalar::Text(text)),
-            None => Err(Fail::Fault(DataRule::BadUtf8)),
-        },
-    }
-}
-
-/// What a field of a type stands for, as in a table: a Long field is an optional sign and decimal digits in
-/// the range of 64 bits, a Bool field `true` or `false`, a Text field any UTF-8. Otherwise the fault is
-/// `BadLong`, `BadBool` or `BadUtf8`.
-#[tactic(auto, using(crate::proofs::Typed::field_has))]
-pub fn read_field(alloc: Global, ty: Ty, field: &[u8]) -> Result<Scalar, Fail<DataRule>>
-    ensures value { Answers result (cell_of ty field.now) }
-    ensures typed { IfOk result (λ x. HasTy ty x) }
-{
-    cell(alloc, ty, field)
+    rows.len() as u64 + 1
 }

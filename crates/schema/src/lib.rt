@@ -1,20 +1,13 @@
-//! Schemas and tables: DDL texts read as tables and columns, CSV texts read as rows of a table.
+//! Schemas as tables and columns, what is wrong with their texts, and the small decisions that reading them is made of.
 #![tactic(auto)]
 
 mod fault;
-mod fields;
-mod keywords;
-pub mod laws;
-mod lexing;
-mod loading;
+pub mod fields;
+pub mod keywords;
 mod model;
-mod names;
-mod parsing;
-mod records;
-mod token;
+pub mod names;
+pub mod token;
 
 pub use fault::{DataFault, DataRule, SchemaFault, SchemaRule};
-pub use fields::read_field;
-pub use loading::load_table;
-pub use model::{Schema, parse_schema};
+pub use model::Schema;
 pub use qbs_base::{Column, Table};

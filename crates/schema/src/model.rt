@@ -1,24 +1,10 @@
-// Schemas: reading one, and its tables.
-ghost use Rattle.std.specs.Prelude.{◌≡◌, ◌<◌, List, IfOk, IfErr, IfSome, Ok, length};
+// Schemas, and what stands in them.
+ghost use Rattle.std.specs.Prelude.{◌≡◌, ◌<◌, IfSome, length};
 ghost use Rattle.schema.specs.Numbers.{column_number_at};
-ghost use Rattle.qbs_base.specs.declared.columns.Table.{Table as PlainTable};
 ghost use Rattle.qbs_base.specs.Columns.{table_number, column_number};
-ghost use Rattle.qbs_base.specs.Memory.{Answers};
-ghost use Rattle.schema.specs.Tokens.{tokens_of, kinds_of};
-ghost use Rattle.schema.specs.Grammar.{HasSchema};
 ghost use Rattle.schema.specs.Rules.{IsSchema, AreNamed};
-ghost use Rattle.schema.specs.Reading.{read_of};
-ghost use Rattle.schema.specs.Schemas.{left_of, first_span as first_span_of, schema_from, schema_of};
-ghost use Rattle.schema.specs.Faults.{IsRightFault};
 
-use crate::fault::{SchemaFault, SchemaRule};
-use crate::lexing::{Tokens, lex};
-use crate::names::first_broken;
-use crate::parsing::read;
-use crate::token::Token;
-use qbs_base::{Column, Fail, Name, Span, Table, Tables};
-use readers::{Fault, ReadError};
-use std::alloc::Global;
+use qbs_base::{Column, Name, Table, Tables};
 use std::marker::Model;
 
 /// The tables of a database in order, with their columns.
@@ -40,6 +26,15 @@ impl Model for Schema {
 }
 
 impl Schema {
+    /// The schema of these tables.
+    pub fn from_tables(tables: Tables) -> Schema
+        requires sound { IsSchema tables }
+        requires named { AreNamed tables }
+        ensures { result ≡ tables }
+    {
+        Schema { tables }
+    }
+
     /// The tables in order. It takes no memory.
     pub fn tables(&self) -> &[Table]
         ensures value { result.now ≡ self.now }
@@ -82,78 +77,4 @@ fn column_place(columns: &[Column], name: &Name) -> Option<usize>
     ensures within { IfSome result (λ place. place < length columns.now) }
 {
     columns.iter().position(|column| column.name == *name)
-}
-
-/// How many tokens are left from a fault on.
-fn left(fault: Fault) -> usize
-    ensures { result ≡ left_of fault }
-{
-    match fault {
-        Fault::Unexpected(left) => left,
-        Fault::TooDeep(left) => left,
-    }
-}
-
-/// Where the first of these tokens stands, or else the end.
-fn first_span(end: Span, tokens: &[Token]) -> Span
-    ensures { result ≡ first_span_of end tokens.now }
-{
-    match tokens {
-        [] => end,
-        [first, ..] => first.at,
-    }
-}
-
-/// The tables of the tokens, or their fault.
-fn judge(alloc: Global, tokens: &Tokens) -> Result<Tables, Fail<SchemaFault>>
-    ensures { Answers result (schema_from tokens.now.end tokens.now.list.items (read_of (kinds_of tokens.now.list.items))) }
-{
-    let list = tokens.list.as_slice();
-    let fault = match read(alloc, list) {
-        Ok(tables) => {
-            return match first_broken(alloc, list, 0)? {
-                Some(fault) => Err(Fail::Fault(fault)),
-                None => Ok(Tables::from_vec(tables)),
-            };
-        }
-        Err(ReadError::Memory) => return Err(Fail::NoMemory),
-        Err(ReadError::Fault(fault)) => fault,
-    };
-    let behind = left(fault);
-    match first_broken(alloc, list, behind)? {
-        Some(fault) => Err(Fail::Fault(fault)),
-        None => Err(Fail::Fault(SchemaFault {
-            rule: SchemaRule::BadToken,
-            at: first_span(tokens.end, &list[list.len() - behind..]),
-        })),
-    }
-}
-
-/// The tables of a text, or its fault.
-#[tactic(auto, unfolding(crate::specs::Schemas::schema_of))]
-fn tables_of(alloc: Global, bytes: &[u8]) -> Result<Tables, Fail<SchemaFault>>
-    ensures { Answers result (schema_of bytes.now) }
-{
-    let tokens = lex(alloc, bytes)?;
-    judge(alloc, &tokens)
-}
-
-/// Reads a schema. The fault is the first in the text, and at one name the rule of the smallest
-/// number. `BadToken` stands at the first token, or the first byte that begins no token, with which
-/// no schema goes on, or at the end of the text; every other rule at the name that breaks it, which
-/// is the second of two equal names, the name of the 65th table or that of a 33rd column.
-pub fn parse_schema(alloc: Global, bytes: &[u8]) -> Result<Schema, Fail<SchemaFault>>
-    ensures value { Answers result (schema_of bytes.now) }
-    // What is read is a schema by the grammar and the rules.
-    ensures found { IfOk result (λ schema. HasSchema (kinds_of (tokens_of bytes.now)) schema) }
-    ensures sound { IfOk result (λ schema. IsSchema schema) }
-    ensures named { IfOk result (λ schema. AreNamed schema) }
-    // What is one is read.
-    ensures only { (tables : List PlainTable) → HasSchema (kinds_of (tokens_of bytes.now)) tables → IsSchema tables → Answers result (Ok tables) }
-    ensures fault { IfErr result (IsRightFault bytes.now) }
-{
-    match tables_of(alloc, bytes) {
-        Ok(tables) => Ok(Schema { tables }),
-        Err(fail) => Err(fail),
-    }
 }

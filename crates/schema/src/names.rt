@@ -1,15 +1,5 @@
-// The names that tokens declare, and the rules that they break.
-use crate::fault::{SchemaFault, SchemaRule};
-use crate::keywords::{is_reserved, is_reserved_table, spells};
-use crate::token::{Kind, Sign, Token};
-use qbs_base::{Name, Names, NoMemory};
-use std::alloc::Global;
-
-/// A schema has no more tables.
-const MOST_TABLES: usize = 64;
-
-/// A table has no more columns.
-const MOST_COLUMNS: usize = 32;
+//! What the names of a schema are the names of, and how many tables there may be.
+use qbs_base::Names;
 
 /// What the next token is in a schema.
 #[derive(Clone, Copy, PartialEq, Eq)]
@@ -46,177 +36,14 @@ pub struct Seen {
     pub columns: Names,
 }
 
-ghost use Rattle.std.specs.Prelude.{◌≡◌, ◌++◌, List, IfOk, OnOk, Some, option_map};
-ghost use Rattle.std.specs.Str.{bytes_eq};
-ghost use Rattle.readers.specs.Reading.{option_cases};
-ghost use Rattle.schema.specs.Words.{is_among};
-ghost use Rattle.schema.specs.Naming.{Declared, next_where, begins_key as begins_key_clause, role_of, declares, declared_before, nothing_seen, seen_with, broken_by, first_broken as first_broken_name};
-ghost use Rattle.schema.specs.declared.names.Where.TheVariants.{Create};
+ghost use Rattle.std.specs.Prelude.{◌≡◌, nat_le};
 
-/// Whether a name is one of these.
-fn holds(names: &[Name], name: &Name) -> bool
-    ensures { result ≡ is_among bytes_eq names.now name.now }
+/// A schema has no more tables.
+const MOST_TABLES: usize = 64;
+
+/// Whether no table may follow so many.
+pub fn is_full(tables: usize) -> bool
+    ensures { result ≡ nat_le 64 tables }
 {
-    for other in names {
-        if *other == *name {
-            return true;
-        }
-    }
-    false
-}
-
-impl Seen {
-    /// The rule of the smallest number that a name breaks behind these.
-    fn rule(&self, role: Role, name: &Name) -> Option<SchemaRule>
-        ensures { result ≡ broken_by self.now role name.now }
-    {
-        match role {
-            Role::Table => self.table_rule(name),
-            Role::Column => self.column_rule(name),
-        }
-    }
-
-    fn table_rule(&self, name: &Name) -> Option<SchemaRule>
-        ensures { result ≡ broken_by self.now Role.Table name.now }
-    {
-        if holds(self.tables.as_slice(), name) {
-            Some(SchemaRule::DoubleTable)
-        } else if is_reserved_table(name.as_str()) {
-            Some(SchemaRule::NameReserved)
-        } else if self.tables.len() >= MOST_TABLES {
-            Some(SchemaRule::TooManyTables)
-        } else {
-            None
-        }
-    }
-
-    fn column_rule(&self, name: &Name) -> Option<SchemaRule>
-        ensures { result ≡ broken_by self.now Role.Column name.now }
-    {
-        if holds(self.columns.as_slice(), name) {
-            Some(SchemaRule::DoubleColumn)
-        } else if is_reserved(name.as_str()) {
-            Some(SchemaRule::NameReserved)
-        } else if self.columns.len() >= MOST_COLUMNS {
-            Some(SchemaRule::TooManyColumns)
-        } else {
-            None
-        }
-    }
-
-    /// Adds a name. The columns are those of the table that was added last.
-    fn add(&mut self, alloc: Global, role: Role, name: &Name) -> Result<(), NoMemory>
-        ensures { OnOk result (self.new ≡ seen_with self.old role name.now) }
-    {
-        let name = name.clone()?;
-        match role {
-            Role::Table => {
-                self.columns = Names::new(alloc);
-                self.tables.push(name)
-            }
-            Role::Column => self.columns.push(name),
-        }
-    }
-}
-
-/// Where the token behind this one stands.
-fn next(place: Where, token: &Token) -> Where
-    ensures { result ≡ next_where place token.now.kind }
-{
-    match place {
-        Where::Create => Where::Table,
-        Where::Table => Where::TableName,
-        Where::TableName => Where::Open,
-        Where::Open => Where::ColumnName,
-        Where::ColumnName => Where::Body,
-        Where::Body => match &token.kind {
-            Kind::Sign(Sign::Comma) => Where::ColumnName,
-            Kind::Sign(Sign::Open) => Where::Inner,
-            Kind::Sign(Sign::Close) => Where::End,
-            _ => Where::Body,
-        },
-        Where::Inner => match &token.kind {
-            Kind::Sign(Sign::Close) => Where::Body,
-            _ => Where::Inner,
-        },
-        Where::End => Where::Create,
-    }
-}
-
-/// Whether a word before these tokens begins a key clause.
-fn begins_key(word: &Name, rest: &[Token]) -> bool
-    ensures { result ≡ begins_key_clause word.now rest.now }
-{
-    match rest {
-        [] => false,
-        [first, ..] => spells("PRIMARY", word.as_slice()) && first.is_word("KEY"),
-    }
-}
-
-/// What a token declares, before these.
-fn declared_by<'a>(place: Where, token: &'a Token, rest: &[Token]) -> Option<(Role, &'a Name)>
-    ensures { option_map (λ x. (x.0, x.1.now)) result ≡ role_of place token.now.kind rest.now }
-{
-    match (place, &token.kind) {
-        (Where::TableName, Kind::Word(name)) => Some((Role::Table, name)),
-        (Where::ColumnName, Kind::Word(name)) if !begins_key(name, rest) => {
-            Some((Role::Column, name))
-        }
-        _ => None,
-    }
-}
-
-impl Seen {
-    /// The fault of the name that a token declares before these, and none where it declares none
-    /// or breaks no rule. The name is then added.
-    fn judge(
-        &mut self,
-        alloc: Global,
-        place: Where,
-        token: &Token,
-        rest: &[Token],
-    ) -> Result<Option<SchemaFault>, NoMemory>
-        ensures { IfOk result (λ fault.
-            (names : List Declared)
-            → first_broken_name self.old (declares (role_of place token.now.kind rest.now) token.now.at ++ names)
-            ≡ option_cases fault (first_broken_name self.new names) (λ f. Some f)) }
-    {
-        let Some((role, name)) = declared_by(place, token, rest) else {
-            return Ok(None);
-        };
-        if let Some(rule) = self.rule(role, name) {
-            return Ok(Some(SchemaFault { rule, at: token.at }));
-        }
-        self.add(alloc, role, name)?;
-        Ok(None)
-    }
-}
-
-/// The fault of the first name that breaks a rule, among those that all but the last so many of the
-/// tokens of a schema declare.
-pub fn first_broken(
-    alloc: Global,
-    tokens: &[Token],
-    left: usize,
-) -> Result<Option<SchemaFault>, NoMemory>
-    ensures { IfOk result (λ fault. fault ≡ first_broken_name nothing_seen (declared_before left Create tokens.now)) }
-{
-    let mut seen = Seen {
-        tables: Names::new(alloc),
-        columns: Names::new(alloc),
-    };
-    let mut place = Where::Create;
-    let mut rest = tokens;
-    while let Some((token, after)) = rest.split_first() {
-        if after.len() < left {
-            return Ok(None);
-        }
-        let fault = seen.judge(alloc, place, token, after)?;
-        if fault.is_some() {
-            return Ok(fault);
-        }
-        place = next(place, token);
-        rest = after;
-    }
-    Ok(None)
+    tables >= MOST_TABLES
 }

@@ -1,4 +1,4 @@
-// The tokens of a schema.
+//! The tokens of a schema.
 use crate::keywords::spells;
 use qbs_base::{Name, Span, Ty};
 
@@ -31,6 +31,7 @@ pub struct Token {
 ghost use Rattle.std.specs.Prelude.{◌≡◌};
 ghost use Rattle.std.specs.Option.{option_copied};
 ghost use Rattle.schema.specs.Reading.{type_in, type_of as type_of_word, word_in, is_word as is_word_kind, is_sign as is_sign_kind, is_digits as is_digits_kind, same_sign as are_same_sign};
+ghost use Rattle.schema.specs.Schemas.{first_span as first_span_of};
 
 /// The type that a word names by itself.
 fn type_of(word: &[u8]) -> Option<Ty>
@@ -97,5 +98,15 @@ impl Token {
         ensures { result ≡ is_digits_kind self.now.kind }
     {
         matches!(&self.kind, Kind::Digits)
+    }
+}
+
+/// Where the first of these tokens stands, or else the end.
+pub fn first_span(end: Span, tokens: &[Token]) -> Span
+    ensures { result ≡ first_span_of end tokens.now }
+{
+    match tokens {
+        [] => end,
+        [first, ..] => first.at,
     }
 }

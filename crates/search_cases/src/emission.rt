@@ -7,7 +7,7 @@ use crate::known::{arguments_of, queries_of};
 use crate::words::{numbers_from, word_at};
 use kernel_lang::{Candidate, KFragment};
 use qbs_base::{NoMemory, NumberLists};
-use schema::parse_schema;
+use schema_text::parse_schema;
 use sql_ast::{Queries, print_query};
 use sql_emit::{Emitted, emit_exactly};
 use std::alloc::Global;

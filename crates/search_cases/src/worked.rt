@@ -9,7 +9,8 @@ use crate::refuting::is_known;
 use crate::words::numbers_from;
 use kernel_lang::{Candidate, KFragment};
 use qbs_base::{Items, NoMemory, Ty};
-use schema::{Schema, parse_schema};
+use schema::Schema;
+use schema_text::parse_schema;
 use sql_emit::{Emitted, emit};
 use std::alloc::Global;
 

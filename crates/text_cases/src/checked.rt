@@ -7,7 +7,8 @@ use java_lex::Tokens;
 use java_parser::parse;
 use java_types::check;
 use qbs_base::{Fail, NoMemory};
-use schema::{Schema, parse_schema};
+use schema::Schema;
+use schema_text::parse_schema;
 use std::alloc::Global;
 
 fn put_verdict(

@@ -1,7 +1,8 @@
 // Fronts of the text of a schema, and tables and columns by name.
 use crate::places::{field, text_of};
 use qbs_base::{Fail, NoMemory};
-use schema::{Schema, SchemaFault, SchemaRule, parse_schema};
+use schema::{Schema, SchemaFault, SchemaRule};
+use schema_text::parse_schema;
 use std::alloc::{AllocError, Global};
 
 fn mark_of_fault(fault: &SchemaFault, len: usize) -> &str {

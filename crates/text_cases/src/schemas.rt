@@ -3,7 +3,8 @@ use crate::escapes::put_line;
 use crate::places::{field, put_span};
 use crate::repeats::source_of;
 use qbs_base::{Column, Fail, NoMemory, Scalar, Table, Ty};
-use schema::{Schema, load_table, parse_schema};
+use schema::Schema;
+use schema_text::{load_table, parse_schema};
 use std::alloc::{AllocError, Global};
 
 fn put_column(out: &mut String, column: &Column) -> Result<(), AllocError> {
