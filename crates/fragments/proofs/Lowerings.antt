@@ -1,4 +1,3 @@
-pub mod AskedGuards
 pub mod LoweredBeside
 pub mod LoweredLists
 pub mod Tallies

@@ -28,7 +28,7 @@ fn paths_of_method(alloc: Global, methods: &[Method], number: usize) -> Result<P
     }
 }
 
-/// The first method from a number on whose loops reach past those that stand, or the end of the methods.
+/// The first method from a number on whose loops reach past those that stand, or the end of the methods. Its only error is want of memory.
 pub fn listed_from(
     alloc: Global,
     methods: &[Method],
@@ -61,7 +61,7 @@ pub fn listed_from(
     })
 }
 
-/// The same list as long as it reaches past the loops that stand, and else that of the next method with loops.
+/// The same list as long as it reaches past the loops that stand, and else that of the next method with loops. Its only error is want of memory.
 pub fn listed_past(
     alloc: Global,
     methods: &[Method],

@@ -9,13 +9,12 @@ use Rattle.qbs_base.specs.declared.span.Span.{Span}
 use Rattle.query_search.specs.Verdicts.{Found, NoneOf, Budget}
 use Rattle.sql_ast.proofs.Tools.{all_joined}
 use Rattle.sql_parts.proofs.Tools.{get_map}
-use Rattle.java_lex.specs.Bytes.{is_in_line}
-use Rattle.java_ast.specs.Path.{and_then, statement_at, replaced_at, last_of}
+use Rattle.java_ast.specs.Path.{and_then, statement_at, last_of}
 use Rattle.java_ast.specs.Spans.{place_of}
 use Rattle.java_ast.specs.Tree.{Statement, Statements, Nothing, Then, PlainProgram}
 use Rattle.java_grammar.specs.Grammar.{IsProgram}
 use Rattle.java_grammar.specs.ReadBack.{IsReadBack}
-use Rattle.java_stretches.specs.Lines.{IsMargin, AreLines, CanBeWritten, CanStandFor}
+use Rattle.java_stretches.specs.Lines.{IsMargin, CanStandFor}
 use Rattle.java_stretches.proofs.Kept.{readable}
 use Rattle.java_stretches.proofs.Margins.{margin_of, joined_stands}
 use Rattle.java_mean.specs.Queries.{Reader}
@@ -33,7 +32,6 @@ use Rattle.java_loops.specs.Meant.LoopStands.{LoopStands}
 use Rattle.java_loops.specs.Walks.Replacing.{Ask, asking, asked}
 use Rattle.java_loops.proofs.Kept.KeptPath.{setting_fragment, setting_stands}
 use Rattle.java_stretches.specs.Carries.{Carries, MayComeFor}
-use Rattle.java_stretches.specs.Focus.{Chain}
 use Rattle.java_stretches.specs.Laid.{Patched, with_texts, ended_before, begun_at}
 use Rattle.java_stretches.proofs.Carried.{carried, read_back, one_more, RunStands, run_stands, no_branches}
 use Rattle.java_stretches.proofs.Runs.{run_begins, chain_joined, chain_kept, simple_joined, simple_kept, are_lines}
@@ -43,12 +41,12 @@ use Rattle.rewrite_core.specs.declared.patch.Patch.{Patch}
 use Rattle.rewrite_core.specs.Asked.{Place, asks_of, number_of, first_of_run, replaced}
 use Rattle.rewrite_core.specs.Asking.{HasAsks}
 use Rattle.rewrite_core.specs.Output.{IsSourceOf}
-use Rattle.rewrite_core.specs.Patches.{stretch, is_blank, is_broken, last_line, blanks_of, margin_behind, is_before, earlier, begins_at, patched, margin_by, margin_at, with_patches, joined_lines, patch_of, start_of, end_of, sibling, put_patch, instead, patches_by, patches_left, patched_text}
+use Rattle.rewrite_core.specs.Patches.{stretch, is_broken, last_line, blanks_of, earlier, begins_at, patched, margin_by, margin_at, with_patches, joined_lines, patch_of, start_of, end_of, put_patch, instead, patches_by, patches_left, patched_text}
 use Rattle.rewrite_core.specs.Patches as patches
 use Rattle.rewrite_core.specs.Trying.{Answer, Outside, Searched, answer_unless, Tried, tried_in, tried_at, program_by, program_after, standing_after, and_further, trying, left_of, rewritten, all_tried}
 use Rattle.rewrite_core.specs.TriedAsking.{MayBeAskedBy, AllMayBeAsked}
 use Rattle.rewrite_core.proofs.HasAsks.{has_asks}
-use Rattle.rewrite_core.proofs.LoopPlaces.{places_among, places_of, places_at, sited, stretch_out}
+use Rattle.rewrite_core.proofs.LoopPlaces.{places_among, places_of, sited, stretch_out}
 use Rattle.rewrite_core.proofs.PlacesInOrder.{no_loops, methods_ascend, AllFrom, from_one, one_from, one_less, still_from}
 use Rattle.rewrite_core.proofs.SomeAsked.{SomeAsk, some_ask, all_asked_simple, asks_chain}
 use Rattle.rewrite_core.proofs.SourceFits.{source_fits}

@@ -1,7 +1,7 @@
 -- The bundle of what is tried is within the limits of its grammar.
 use Rattle.std.proofs.Common.{◌≡◌, ℕ, zero, suc, ◌+◌, ◌<◌, ◌≤◌, ◌^◌, Bool, true, not, ◌&&◌, ◌==◌, nat_le, List, [], ◌∷◌, ◌++◌, length, take, Option, Some, None, Ok, refl, sym, subst, arith, false}
-use Rattle.std.specs.Prelude.{slice_get, count_by}
-use Rattle.std.specs.List.{AllByRecursion, flat_map, list_all, suffix_len}
+use Rattle.std.specs.Prelude.{slice_get}
+use Rattle.std.specs.List.{AllByRecursion, flat_map, list_all}
 use Rattle.std.proofs.lemmas.Bool.{and_parts}
 use Rattle.std.proofs.lemmas.Bool.Decides.{nat_tests}
 use Rattle.std.proofs.lemmas.List.{length-take-le}
@@ -28,7 +28,7 @@ use Rattle.kernel_lang.specs.Pools.{Member, members}
 use Rattle.kernel_lang.specs.Postcondition.{loops_of as loops_round, start_term, whole, part}
 use Rattle.kernel_lang.specs.Running.{Layer, outside, inside}
 use Rattle.kernel_lang.specs.Validity.{count_conditions}
-use Rattle.vc_gen.specs.Conditions.{by_paths, entry, true_steps, false_steps, exit, at_level, level, conditions_in, ways_through, own_conditions, all_conditions, conditions}
+use Rattle.vc_gen.specs.Conditions.{by_paths, true_steps, false_steps, exit, at_level, level, conditions_in, ways_through, own_conditions, all_conditions, conditions}
 use Rattle.query_search.specs.Firsts.{IsVerdict}
 use Rattle.query_search.specs.Verdicts.{with_derivation, all_derived, Hit, Found, NoneOf, Budget}
 use Rattle.query_search.proofs.Firsts.{verdict-first}
@@ -49,7 +49,7 @@ use Rattle.java_types.specs.Texts.{read_by}
 use Rattle.loop_text.specs.Sites.Sites.{place_of as site_place}
 use Rattle.loop_text.specs.Statements.Fragment.{accumulators, needed_of}
 use Rattle.loop_text.specs.Statements.Loops.{loops_of}
-use Rattle.java_loops.specs.Kernel.Kernel.{Broken, has_small_pool, is_small, broken, lowering, setting_at}
+use Rattle.java_loops.specs.Kernel.Kernel.{has_small_pool, is_small, broken, lowering, setting_at}
 use Rattle.java_loops.specs.Kernel.Setting.{Setting}
 use Rattle.java_loops.specs.Lowering.Lowered.{fragment_with}
 use Rattle.java_loops.specs.Lowering.Numbering.{numbers_of, count_flags}

@@ -1,5 +1,5 @@
 -- Down a chain of conditions, as the code takes it apart.
-use Rattle.std.proofs.Common.{◌≡◌, ℕ, List, [], ◌∷◌, ◌++◌, Option, Some, refl, sym, ap, ap₂, ◌∙◌, subst}
+use Rattle.std.proofs.Common.{◌≡◌, ℕ, List, [], ◌∷◌, ◌++◌, Option, Some, sym, ap, ap₂, ◌∙◌, subst}
 use Rattle.std.specs.Global.{Box}
 use Rattle.qbs_base.specs.Values.{Schema}
 use Rattle.sql_ast.specs.declared.known.Known.{Known}

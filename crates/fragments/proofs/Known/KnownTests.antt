@@ -1,7 +1,6 @@
 -- The tests of known lists in a lowered fragment: what is tested has the type of the column of the list's query.
-use Rattle.std.proofs.Common.{◌≡◌, ℕ, zero, suc, true, List, [], ◌∷◌, map, Option, Some, None, refl, sym, ap, ◌∙◌, subst, slice_get}
+use Rattle.std.proofs.Common.{◌≡◌, ℕ, zero, suc, true, List, [], ◌∷◌, map, Some, refl, sym, ap, ◌∙◌, subst, slice_get}
 use Rattle.std.specs.List.{AllByRecursion, list_all}
-use Rattle.qbs_base.specs.declared.scalar.Ty.{Ty}
 use Rattle.sql_ast.specs.Tree.{Listing}
 use Rattle.sql_ast.specs.Typing.{ty_of_col}
 use Rattle.kernel_lang.specs.Typed.{atom_is_typed}

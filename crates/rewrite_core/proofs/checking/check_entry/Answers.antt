@@ -2,7 +2,6 @@ use Rattle.std.proofs.Common.{sym, ap, ◌∙◌}
 use Rattle.java_ast.specs.Reading.{program as plain_program}
 use Rattle.java_ast.specs.declared.tree.Program.{Program}
 use Rattle.loop_text.specs.Statements.Loops.{loops_of}
-use Rattle.loop_lists.specs.Places.{path_to}
 use Rattle.rewrite_core.proofs.ShownLoops.{found_is_loop}
 use Rattle.rewrite_core.proofs.checking.check_entry.Goals as goal
 
