@@ -9,6 +9,7 @@ ghost use Rattle.vc_gen.specs.Levels.{layer_seen, layers_seen};
 
 use crate::level::Level;
 use crate::terms::{part, whole, whole_level};
+use condition_parts::next_turn;
 use kernel_lang::Update;
 use qbs_base::{Items, NoMemory, boxed};
 use std::alloc::Global;
@@ -120,7 +121,7 @@ pub fn true_step(
         post.whole chosen.now.update (forms_of chosen.now.formulas.now) (place.now.outer ++ y.now.over ∷ []) (
         post.part chosen.now.update (forms_of chosen.now.formulas.now) place.now.outer (tree_of place.now.entry.value) (layer_seen y.now) (layers_seen ys.now) (indexes.At y.now.over)) (layers_seen ys.now))) }
 {
-    let advanced = turns(alloc, chosen, place, y, ys, Index::Next(y.over))?;
+    let advanced = turns(alloc, chosen, place, y, ys, next_turn(y.over))?;
     let inside = with_loop(alloc, place.outer.as_slice(), y.over)?;
     let before = turns(alloc, chosen, place, y, ys, Index::At(y.over))?;
     let right = whole(
@@ -149,7 +150,7 @@ pub fn false_step(
         post.part chosen.now.update (forms_of chosen.now.formulas.now) place.now.outer (tree_of place.now.entry.value) (layer_seen y.now) (layers_seen ys.now) (indexes.Next y.now.over)) (
         post.part chosen.now.update (forms_of chosen.now.formulas.now) place.now.outer (tree_of place.now.entry.value) (layer_seen y.now) (layers_seen ys.now) (indexes.At y.now.over))) }
 {
-    let left = turns(alloc, chosen, place, y, ys, Index::Next(y.over))?;
+    let left = turns(alloc, chosen, place, y, ys, next_turn(y.over))?;
     let right = turns(alloc, chosen, place, y, ys, Index::At(y.over))?;
     by_path(alloc, path, left, right)
 }

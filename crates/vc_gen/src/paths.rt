@@ -1,24 +1,14 @@
 // The ways to decide a formula by its atoms.
 ghost use Rattle.std.specs.Prelude.{◌≡◌, ◌++◌, ◌∷◌, [], map, IfOk};
 ghost use Rattle.tor_terms.specs.Plain.{form_of};
-ghost use Rattle.tor_terms.specs.Truth.{same_bool};
 ghost use Rattle.kernel_lang.specs.Paths as spec;
 ghost use Rattle.kernel_lang.specs.Plain.{guard_of};
 
+use condition_parts::{one_path, same_truth};
+pub use condition_parts::{Path, Paths};
 use qbs_base::{Items, NoMemory};
 use std::alloc::Global;
 use tor_terms::Formula;
-
-/// Atoms, by their numbers, each with its truth.
-pub type Path = Items<(u32, bool)>;
-
-pub type Paths = Items<Path>;
-
-fn same_truth(s: bool, want: bool) -> bool
-    ensures { result ≡ same_bool s want }
-{
-    s == want
-}
 
 /// A path followed by another.
 pub fn joined(alloc: Global, p: &[(u32, bool)], q: &[(u32, bool)]) -> Result<Path, NoMemory>
@@ -72,16 +62,6 @@ fn and_combined(alloc: Global, alone: Paths, first: Paths, second: Paths) -> Res
 {
     let both = combined(alloc, first, second)?;
     followed(alone, both)
-}
-
-fn one_path(alloc: Global, atom: u32, holds: bool) -> Result<Paths, NoMemory>
-    ensures { IfOk result (λ r. r ≡ ((atom, holds) ∷ []) ∷ []) }
-{
-    let mut path = Items::new(alloc);
-    path.push((atom, holds))?;
-    let mut paths = Items::new(alloc);
-    paths.push(path)?;
-    Ok(paths)
 }
 
 /// The path that decides nothing.
