@@ -4,9 +4,7 @@
 mod derived;
 mod known;
 mod names;
-mod ranks;
 
 pub use derived::{most_splits, where_same, with_behind};
 pub use known::{Known, denies, is_yes};
 pub use names::{are_left, is_live};
-pub use ranks::behind_not;

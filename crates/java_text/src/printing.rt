@@ -7,8 +7,8 @@ ghost use Rattle.qbs_base.specs.Literal.{text_literal};
 ghost use Rattle.java_text.specs.Canonical.{line_end, indent, separated, canonical_type, rank_of, operator_text, opening, closing, canonical_expression, canonical_arguments, first_or_false, reversed_text, comparing_text, canonical_key, canonical_keys, braced, returned_text, declared_text, walked_text, tested_text, canonical_statement, canonical_statements, access_text, word_if, result_text, canonical_param, modifiers_text, named_text, head_text, canonical_method, package_text, import_text, imports_text, class_text, canonical};
 
 use crate::literals::put_literal;
-use decisions::behind_not;
 use java_ast::{Access, Expr, ExprNode, JTy, Method, Op, Param, Program, Stmt, StmtNode};
+use java_ranks::behind_not;
 use qbs_base::{Name, NoMemory, Text, push_text_literal};
 use std::alloc::{AllocError, Global};
 

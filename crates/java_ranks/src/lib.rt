@@ -1,4 +1,6 @@
-// How loosely the parts of an expression may bind.
+//! How loosely the parts of an expression of the source language bind, as ranks: the smaller the tighter.
+#![tactic(auto)]
+
 ghost use Rattle.std.specs.Prelude.{◌≡◌};
 
 /// The rank of `!`, and of what may stand behind it without parentheses.
