@@ -4,7 +4,8 @@ use Rattle.std.specs.List.{filter, flat_map}
 use Rattle.std.proofs.lemmas.List.{map-append}
 use Rattle.std.proofs.lemmas.List.Elements.{filter-append}
 use Rattle.tor_terms.specs.Plain.{Form}
-use Rattle.kernel_lang.specs.Pools.{entered, all_entered, negated, conjuncts}
+use Rattle.tor_terms.specs.Same.{entered}
+use Rattle.kernel_lang.specs.Pools.{all_entered, negated, conjuncts}
 
 pub all_entered-append : (pool fs gs : List Form) → all_entered pool (fs ++ gs) ≡ all_entered (all_entered pool fs) gs
 all_entered-append pool [] gs = refl

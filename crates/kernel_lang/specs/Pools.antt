@@ -3,7 +3,7 @@ use Rattle.std.specs.Prelude.{if◌then◌else◌, ℕ, suc, ◌+◌, ◌<◌, �
 use Rattle.std.specs.List.{filter, flat_map, list_any}
 use Rattle.tor_terms.specs.declared.term.Atom.{Atom}
 use Rattle.tor_terms.specs.Plain.{Form, Is, Both, Either}
-use Rattle.tor_terms.specs.Same.{same_form}
+use Rattle.tor_terms.specs.Same.{entered}
 use Rattle.tor_terms.specs.Truth.{form_within}
 use Rattle.kernel_lang.specs.Plain.{Accumulator, Fragment}
 use Rattle.kernel_lang.specs.Validity.{reads_no_flag}
@@ -18,9 +18,6 @@ abbrev pub negated : Form → Form
 negated (Is k s) = Is k (not s)
 negated (Both f g) = Either (negated f) (negated g)
 negated (Either f g) = Both (negated f) (negated g)
-
-abbrev pub entered : List Form → Form → List Form
-entered pool f = if list_any (same_form f) pool then pool else pool ++ f ∷ []
 
 -- each one and its opposite, where they aren't there yet
 abbrev pub all_entered : List Form → List Form → List Form

@@ -1,14 +1,13 @@
 // The pool of an accumulator, from the conditions of a fragment's `if`s.
 ghost use Rattle.std.specs.Prelude.{◌≡◌, IfOk, [], ◌∷◌};
-ghost use Rattle.std.specs.List.{filter, list_any};
+ghost use Rattle.std.specs.List.{filter};
 ghost use Rattle.kernel_lang.specs.Pools as spec;
 ghost use Rattle.tor_terms.specs.Plain.{form_of, forms_of};
-ghost use Rattle.tor_terms.specs.Same.{same_form};
 
 use crate::valid::flags::reads_no_flag;
 use qbs_base::{Items, NoMemory};
 use std::alloc::Global;
-use tor_terms::{Atom, Formula, Formulas, copy_formula, formula_within, same_formula};
+use tor_terms::{Atom, Formula, Formulas, copy_formula, enter, formula_within};
 
 /// What decides which formulas an accumulator's pool has: the atoms, its chain and its base.
 #[derive(Clone, Copy)]
@@ -23,15 +22,6 @@ fn may_enter(scope: Scope, f: &Formula) -> bool
 {
     formula_within(scope.atoms, scope.chain, f)
         && (scope.base == 0 || reads_no_flag(scope.atoms, f))
-}
-
-fn is_there(pool: &[Formula], f: &Formula) -> bool
-    ensures { result ≡ list_any (same_form (form_of f.now)) (forms_of pool.now) }
-{
-    match pool.split_first() {
-        None => false,
-        Some((g, rest)) => same_formula(f, g) || is_there(rest, f),
-    }
 }
 
 // The opposite, without a negation.
@@ -51,19 +41,6 @@ fn negated(alloc: Global, f: &Formula) -> Result<Formula, NoMemory>
             Ok(Formula::Both(Box::new(alloc, first)?, Box::new(alloc, second)?))
         }
     }
-}
-
-// Enters a formula that isn't there yet.
-#[tactic(auto, using(crate::proofs::Entering::entering))]
-fn enter(pool: Formulas, f: Formula) -> Result<Formulas, NoMemory>
-    ensures { IfOk result (λ all. forms_of all ≡ spec.entered (forms_of pool) (form_of f)) }
-{
-    if is_there(pool.as_slice(), &f) {
-        return Ok(pool);
-    }
-    let mut all = pool;
-    all.push(f)?;
-    Ok(all)
 }
 
 // Enters a conjunct and its opposite, where it may enter.

@@ -1,3 +1,4 @@
 pub mod Scalars
 pub mod Identical
 pub mod Sums
+pub mod Pushed

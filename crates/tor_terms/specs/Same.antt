@@ -1,5 +1,6 @@
 -- Whether two trees are identical.
-use Rattle.std.specs.Prelude.{ℕ, Bool, true, false, ◌&&◌, List, [], ◌∷◌, nat_eq}
+use Rattle.std.specs.Prelude.{if◌then◌else◌, ℕ, Bool, true, false, ◌&&◌, List, [], ◌∷◌, ◌++◌, nat_eq}
+use Rattle.std.specs.List.{list_any}
 use Rattle.qbs_base.specs.Scalar.{scalar_same}
 use Rattle.tor_terms.specs.declared.term.Elem.{Elem}
 use Rattle.tor_terms.specs.declared.term.Elem.TheVariants as elems
@@ -70,3 +71,7 @@ same_tree (Pick i r s) (Pick j t u) = same_way i j && (same_tree r t && same_tre
 same_tree (Add r s) (Add t u) = same_tree r t && same_tree s u
 same_tree (Or r s) (Or t u) = same_tree r t && same_tree s u
 same_tree _ _ = false
+
+-- formulas with one more behind them, where it isn't there yet
+abbrev pub entered : List Form → Form → List Form
+entered pool f = if list_any (same_form f) pool then pool else pool ++ f ∷ []

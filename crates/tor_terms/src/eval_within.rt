@@ -1,5 +1,5 @@
 // Whether the atoms of formulas are there, and their loops among given ones.
-ghost use Rattle.std.specs.Prelude.{◌≡◌};
+ghost use Rattle.std.specs.Prelude.{◌≡◌, take};
 ghost use Rattle.tor_terms.specs.Plain.{form_of};
 ghost use Rattle.tor_terms.specs.Truth as spec;
 
@@ -63,4 +63,22 @@ pub fn formula_within(atoms: &[Atom], loops: &[u32], f: &Formula) -> bool
         Formula::Both(g, h) => formula_within(atoms, loops, g) && formula_within(atoms, loops, h),
         Formula::Either(g, h) => formula_within(atoms, loops, g) && formula_within(atoms, loops, h),
     }
+}
+
+/// The first loops of a chain.
+pub fn first_loops(loops: &[u32], count: usize) -> &[u32]
+    ensures { result.now ≡ take count loops.now }
+{
+    if count < loops.len() {
+        &loops[..count]
+    } else {
+        loops
+    }
+}
+
+/// Whether the atoms of a formula are there, and all their loops among the first of a chain.
+pub fn within_first(atoms: &[Atom], loops: &[u32], count: usize, f: &Formula) -> bool
+    ensures { result ≡ spec.form_within atoms.now (take count loops.now) (form_of f.now) }
+{
+    formula_within(atoms, first_loops(loops, count), f)
 }

@@ -4,6 +4,7 @@
 
 mod compared;
 mod copy;
+mod entering;
 mod env;
 mod eval_first;
 mod eval_found;
@@ -17,11 +18,12 @@ pub use compared::{both_less, both_same, is_member, is_true, same_bool, same_cel
 pub use copy::{
     copy_atom, copy_atoms, copy_boxed_term, copy_formula, copy_formulas, copy_operand, copy_term,
 };
+pub use entering::enter;
 pub use env::{Env, FlagTable, FlagTables};
 pub use eval_first::first_of;
 pub use eval_found::{Found, Tuple, TupleList};
 pub use eval_numbers::{added, better, number, number_of};
-pub use eval_within::{formula_within, has_loop, has_loops};
+pub use eval_within::{first_loops, formula_within, has_loop, has_loops, within_first};
 pub use rows::{has_row, is_no_cell, plain_row, same_row};
 pub use same::{same_flag, same_formula, same_numbers, same_operand, same_term};
 pub use term::{Atom, Atoms, Elem, Formula, Formulas, Index, Loops, Operand, Term, TermPath, Way};

@@ -4,8 +4,8 @@ use Rattle.std.specs.List.{filter, flat_map, list_any}
 use Rattle.std.proofs.lemmas.Bool.Decides.{nat_tests}
 use Rattle.std.proofs.lemmas.List.{map-append, length-append, length-map}
 use Rattle.tor_terms.specs.Plain.{Form, Is, Both, Either}
-use Rattle.tor_terms.specs.Same.{same_form, same_flag}
-use Rattle.kernel_lang.specs.Pools.{entered, all_entered, negated, conjuncts}
+use Rattle.tor_terms.specs.Same.{entered, same_form, same_flag}
+use Rattle.kernel_lang.specs.Pools.{all_entered, negated, conjuncts}
 use Rattle.kernel_lang.proofs.Entering.{both_entered}
 use Rattle.fragments.specs.Helping.Capped.{IsCapped, whole, many, all_in}
 

@@ -2,8 +2,9 @@
 use Rattle.std.specs.Prelude.{◌<◌, Bool, List, [], ◌∷◌, length, nat_le}
 use Rattle.tor_terms.specs.declared.term.Atom.{Atom}
 use Rattle.tor_terms.specs.Plain.{Form}
+use Rattle.tor_terms.specs.Same.{entered}
 use Rattle.kernel_lang.specs.Plain.{Accumulator}
-use Rattle.kernel_lang.specs.Pools.{entered, pool_of}
+use Rattle.kernel_lang.specs.Pools.{pool_of}
 
 -- a pool, or some formulas in place of one, where both have more than 16 members
 pub data IsCapped : List Form → List Form → Type 0 where

@@ -4,7 +4,7 @@ ghost use Rattle.std.specs.List.{filter, list_all, list_any};
 ghost use Rattle.kernel_lang.specs.Plain.{accumulator};
 ghost use Rattle.kernel_lang.specs.Pools as specs;
 ghost use Rattle.tor_terms.specs.Plain.{form_of, forms_of};
-ghost use Rattle.tor_terms.specs.Same.{same_form};
+ghost use Rattle.tor_terms.specs.Same.{entered, same_form};
 ghost use Rattle.fragments.specs.Helping.Capped.{IsCapped, all_in, has_few};
 
 use kernel_lang::{Acc, pool_of};
@@ -34,7 +34,7 @@ fn is_there(pool: &[Formula], f: &Formula) -> bool
 // Enters a formula that isn't there yet.
 #[tactic(auto, using(crate::proofs::Ruled::CappedPools::capped))]
 fn enter(alloc: Global, f: &Formula, pool: &mut Formulas) -> Result<(), NoMemory>
-    ensures { OnOk result (forms_of pool.new ≡ specs.entered (forms_of pool.old) (form_of f.now)) }
+    ensures { OnOk result (forms_of pool.new ≡ entered (forms_of pool.old) (form_of f.now)) }
 {
     if is_there(pool.as_slice(), f) {
         return Ok(());

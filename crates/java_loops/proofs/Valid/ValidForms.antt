@@ -6,11 +6,11 @@ use Rattle.std.proofs.lemmas.List.Folds.{list_all-append}
 use Rattle.std.proofs.lemmas.Option.{slice_get_within}
 use Rattle.java_ast.specs.Tree as tree
 use Rattle.java_ast.specs.Tree.{Expression}
-use Rattle.kernel_lang.specs.Pools.{conjuncts, negated, entered, all_entered, may_enter, pool_of}
+use Rattle.kernel_lang.specs.Pools.{conjuncts, negated, all_entered, may_enter, pool_of}
 use Rattle.kernel_lang.specs.Validity.{guard_all, formula_is_there, reads_no_flag, is_no_flag, guards_within}
 use Rattle.tor_terms.specs.declared.term.Atom.{Atom}
 use Rattle.tor_terms.specs.Plain.{Form, Is, Both, Either}
-use Rattle.tor_terms.specs.Same.{same_form}
+use Rattle.tor_terms.specs.Same.{entered, same_form}
 use Rattle.tor_terms.specs.Truth.{known_within, form_within}
 use Rattle.loop_text.specs.Kernel.Counting.{is_and}
 use Rattle.loop_text.specs.Kernel.KernelConditions.{leaves, is_excepted}

@@ -8,10 +8,9 @@ ghost use Rattle.kernel_lang.specs.Validity as spec;
 ghost use Rattle.tor_terms.specs.Plain.{form_of, forms_of};
 ghost use Rattle.tor_terms.specs.Same as same;
 
-use super::loops::first_loops;
 use super::starts::is_mark;
 use crate::parts::{Acc, Parts};
-use tor_terms::{Atom, Formula, same_formula, same_numbers};
+use tor_terms::{Atom, Formula, first_loops, same_formula, same_numbers};
 
 // The accumulator with that number.
 #[tactic(auto, using(crate::proofs::Mapped::mapped))]

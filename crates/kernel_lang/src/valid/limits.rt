@@ -7,6 +7,7 @@ ghost use Rattle.kernel_lang.specs.Plain.{accumulator, guard_of};
 ghost use Rattle.kernel_lang.specs.Validity as spec;
 
 use crate::parts::{Acc, ListDef, Parts, Update};
+use kernel_limits::limit_stands;
 use tor_terms::Formula;
 
 fn limit_is_valid(loops: usize, limit: Option<u64>) -> bool
@@ -14,7 +15,7 @@ fn limit_is_valid(loops: usize, limit: Option<u64>) -> bool
 {
     match limit {
         None => true,
-        Some(n) => n < 9223372036854775808 && loops == 1,
+        Some(n) => limit_stands(n, loops),
     }
 }
 

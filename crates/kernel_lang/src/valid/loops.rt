@@ -9,7 +9,7 @@ ghost use Rattle.tor_terms.specs.Truth as truth;
 
 use super::names::element_of;
 use crate::parts::{Acc, Parts};
-use tor_terms::{Atom, Elem, Formula, formula_within, has_loop};
+use tor_terms::{Atom, Elem, Formula, formula_within, has_loop, within_first};
 
 fn rises_after(first: u32, rest: &[u32]) -> bool
     ensures { result ≡ spec.rises_after first rest.now }
@@ -39,23 +39,12 @@ pub fn chain_is_valid(a: &Acc) -> bool
     count <= 3 && rises(a.chain.as_slice()) && (a.base as usize) < count && a.guards.len() == count
 }
 
-fn guard_within(atoms: &[Atom], loops: &[u32], guard: &Option<Formula>) -> bool
-    ensures { result ≡ spec.guard_all (truth.form_within atoms.now loops.now) (guard_of guard.now) }
+fn guard_within(atoms: &[Atom], chain: &[u32], level: usize, guard: &Option<Formula>) -> bool
+    ensures { result ≡ spec.guard_all (truth.form_within atoms.now (take level chain.now)) (guard_of guard.now) }
 {
     match guard {
         None => true,
-        Some(f) => formula_within(atoms, loops, f),
-    }
-}
-
-/// The first loops of a chain.
-pub fn first_loops(loops: &[u32], count: usize) -> &[u32]
-    ensures { result.now ≡ take count loops.now }
-{
-    if count < loops.len() {
-        &loops[..count]
-    } else {
-        loops
+        Some(f) => within_first(atoms, chain, level, f),
     }
 }
 
@@ -66,8 +55,7 @@ fn guards_within(atoms: &[Atom], chain: &[u32], level: usize, guards: &[Option<F
     match guards.split_first() {
         None => true,
         Some((g, rest)) => {
-            guard_within(atoms, first_loops(chain, level), g)
-                && guards_within(atoms, chain, level + 1, rest)
+            guard_within(atoms, chain, level, g) && guards_within(atoms, chain, level + 1, rest)
         }
     }
 }

@@ -1,5 +1,5 @@
 use Rattle.std.proofs.Common.{length}
-use Rattle.kernel_lang.proofs.pool.+is_there.Given as goal
+use Rattle.tor_terms.proofs.entering.+is_there.Given as goal
 
 abbrev pub decreases-is_there : goal.decreases-is_there
 decreases-is_there l = length l.pool.now
