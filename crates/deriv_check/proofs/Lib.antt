@@ -4,4 +4,3 @@ pub mod Steps
 pub mod Derivations
 pub mod Bundled
 pub mod Whole
-pub mod Validity

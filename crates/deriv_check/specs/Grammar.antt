@@ -3,6 +3,7 @@ use Rattle.std.specs.Prelude.{◌≡◌, ◌≤◌, ◌<◌, ◌^◌, ℕ, zero,
 use Rattle.readers.specs.Reading.{BeginsOne}
 use Rattle.tor_axioms.specs.declared.derivation.Step.{Step}
 use Rattle.tor_axioms.specs.Accepts.{Proof, Steps, Split, Absurd}
+use Rattle.deriv_accept.specs.Limits.{most_splits}
 use Rattle.deriv_check.specs.Bundles.{Entry}
 use Rattle.deriv_check.specs.Texts.{derivation_text, bundle_text}
 
@@ -23,9 +24,6 @@ IsNested room (Steps left right) = Each HasSmallStep left × Each HasSmallStep r
 IsNested zero (Split atom first second) = ⊥
 IsNested (suc room) (Split atom first second) = IsSmall atom × IsNested room first × IsNested room second
 IsNested room Absurd = Unit {0}
-
-abbrev pub most_splits : ℕ
-most_splits = 10
 
 abbrev pub IsWritable : Proof → Type 0
 IsWritable d = IsNested most_splits d

@@ -3,5 +3,3 @@ pub mod Texts
 pub mod Grammar
 pub mod Reading
 pub mod Answers
-pub mod Ends
-pub mod Accepted

@@ -5,7 +5,7 @@ use Rattle.readers.specs.Reading.{◌>>=◌, Read, token_at, both, made, either,
 use Rattle.tor_axioms.specs.declared.derivation.Step.{Step}
 use Rattle.tor_axioms.specs.Accepts.{Proof, Steps, Split, Absurd}
 use Rattle.deriv_check.specs.Bundles.{Entry}
-use Rattle.deriv_check.specs.Grammar.{most_splits}
+use Rattle.deriv_accept.specs.Limits.{most_splits}
 
 abbrev pub Reader : Type 0 → Type 0
 Reader A = List ℕ → Read ℕ A

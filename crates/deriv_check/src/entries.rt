@@ -7,14 +7,11 @@ ghost use Rattle.deriv_check.specs.Reading as spec;
 
 use crate::bundle::BundleEntry;
 use crate::bytes::{byte, is_over_at, number, word};
-use crate::reading::derivation;
+use crate::reading::derivation_within;
 use qbs_base::Items;
 use readers::ReadError;
 use std::alloc::Global;
 use tor_axioms::Derivation;
-
-/// How many splits may stand inside of each other.
-pub const MOST_SPLITS: u32 = 10;
 
 /// Whether no derivation goes on here: a loop, the end of the bundle, or the end of the bytes.
 fn ends_proofs(bytes: &[u8]) -> bool
@@ -36,7 +33,7 @@ fn proofs(alloc: Global, bytes: &[u8]) -> Result<(Vec<Derivation>, &[u8]), ReadE
         if ends_proofs(rest) {
             break;
         }
-        let (proof, after) = derivation(alloc, MOST_SPLITS, rest)?;
+        let (proof, after) = derivation_within(alloc, rest)?;
         proofs.push(proof)?;
         rest = after;
     }

@@ -1,8 +1,6 @@
-//! The checker of derivations, and the text of derivations and bundles.
+//! The text of derivations and bundles.
 #![tactic(auto)]
 
-mod accept;
-mod accept_all;
 mod bundle;
 mod bytes;
 mod entries;
@@ -12,8 +10,6 @@ mod parse;
 mod print;
 mod reading;
 
-pub use accept::accepts;
-pub use accept_all::are_accepted;
 pub use bundle::{Bundle, BundleEntry};
 pub use fault::BundleFault;
 pub use parse::{parse_bundle, parse_derivation};

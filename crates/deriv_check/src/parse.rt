@@ -10,9 +10,10 @@ ghost use Rattle.std.specs.Prelude.{List};
 
 use crate::bundle::{Bundle, BundleEntry};
 use crate::bytes::unexpected;
-use crate::entries::{MOST_SPLITS, bundle};
+use crate::entries::bundle;
 use crate::fault::BundleFault;
-use crate::reading::derivation;
+use crate::reading::derivation_within;
+use deriv_accept::offset_of;
 use qbs_base::{Fail, Items};
 use readers::{Fault, ReadError};
 use std::alloc::Global;
@@ -33,7 +34,7 @@ fn placed(bytes: &[u8], fault: Fault) -> BundleFault
     ensures { result.offset ≡ length bytes.now - left_of fault }
 {
     BundleFault {
-        offset: bytes.len().saturating_sub(left(fault)) as u64,
+        offset: offset_of(bytes.len(), left(fault)),
     }
 }
 
@@ -42,7 +43,7 @@ fn placed(bytes: &[u8], fault: Fault) -> BundleFault
 fn whole_derivation(alloc: Global, bytes: &[u8]) -> Result<Derivation, ReadError>
     ensures { Gives proof_of result (read_derivation bytes.now) }
 {
-    let (derivation, rest) = derivation(alloc, MOST_SPLITS, bytes)?;
+    let (derivation, rest) = derivation_within(alloc, bytes)?;
     if rest.is_empty() {
         Ok(derivation)
     } else {

@@ -2,9 +2,11 @@
 ghost use Rattle.std.specs.Prelude.{◌≡◌, IfOk, IfErr};
 ghost use Rattle.readers.specs.Reading.{Gives, is_over};
 ghost use Rattle.tor_axioms.specs.Accepts.{Split, proof_of};
+ghost use Rattle.deriv_accept.specs.Limits.{most_splits};
 ghost use Rattle.deriv_check.specs.Reading as spec;
 
 use crate::bytes::{byte, is_next, is_over_at, number, word};
+use deriv_accept::most_splits;
 use qbs_base::Items;
 use readers::ReadError;
 use std::alloc::Global;
@@ -195,4 +197,11 @@ pub fn derivation(alloc: Global, room: u32, bytes: &[u8]) -> Result<(Derivation,
     let (yes, rest) = derivation(alloc, room - 1, rest)?;
     let (no, rest) = derivation(alloc, room - 1, rest)?;
     Ok((joined(alloc, atom, yes, no)?, rest))
+}
+
+/// A derivation with as many splits inside of each other as a text may have.
+pub fn derivation_within(alloc: Global, bytes: &[u8]) -> Result<(Derivation, &[u8]), ReadError>
+    ensures { Gives (λ x. (proof_of x.0, x.1.now)) result (spec.derivation_at most_splits bytes.now) }
+{
+    derivation(alloc, most_splits(), bytes)
 }

@@ -5,7 +5,7 @@ use Rattle.std.proofs.lemmas.Bool.{and_from}
 use Rattle.std.proofs.lemmas.Option.{slice_get_within}
 use Rattle.qbs_base.specs.Values.{Schema}
 use Rattle.tor_axioms.specs.Accepts.{Claim, Proof, accepts}
-use Rattle.deriv_check.specs.Accepted.{are_accepted}
+use Rattle.deriv_accept.specs.Accepted.{are_accepted}
 use Rattle.deriv_check.specs.Bundles.{Entry}
 use Rattle.kernel_lang.specs.Plain.{Fragment}
 use Rattle.templates.specs.Numbered.{candidates_of}

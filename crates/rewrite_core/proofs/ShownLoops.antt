@@ -5,7 +5,7 @@ use Rattle.std.proofs.lemmas.Bool.{and_parts}
 use Rattle.std.proofs.lemmas.List.{at_drop_more}
 use Rattle.qbs_base.specs.Values.{Schema}
 use Rattle.tor_axioms.specs.Accepts.{Claim, Proof, accepts}
-use Rattle.deriv_check.specs.Accepted.{are_accepted}
+use Rattle.deriv_accept.specs.Accepted.{are_accepted}
 use Rattle.deriv_check.specs.Bundles.{Entry}
 use Rattle.kernel_lang.specs.Plain.{Fragment}
 use Rattle.kernel_lang.specs.Validity.{broken as breach}

@@ -2,7 +2,7 @@
 use Rattle.std.specs.Prelude.{◌≡◌, ℕ, suc, List, [], ◌∷◌, slice_get, Option, Some, None, if◌then◌else◌}
 use Rattle.qbs_base.specs.Values.{Schema}
 use Rattle.tor_axioms.specs.Accepts.{Proof}
-use Rattle.deriv_check.specs.Accepted.{are_accepted}
+use Rattle.deriv_accept.specs.Accepted.{are_accepted}
 use Rattle.deriv_check.specs.Bundles.{Entry}
 use Rattle.kernel_lang.specs.Plain.{Fragment}
 use Rattle.templates.specs.Numbered.{candidates_of}

@@ -23,7 +23,8 @@ ghost use Rattle.loop_text.specs.Statements.Walking.{IsLoopOf};
 ghost use Rattle.loop_text.specs.Statements.Loops.{loops_of};
 
 use crate::replacing::{put_instead, statements_instead};
-use deriv_check::{Bundle, BundleEntry, are_accepted};
+use deriv_accept::are_accepted;
+use deriv_check::{Bundle, BundleEntry};
 use fragments::{Lowered, lower};
 use java_ast::{Path, Program, Stmt};
 use java_copies::copy_program;

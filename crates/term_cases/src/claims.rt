@@ -2,7 +2,8 @@
 // accepted, and what is derived.
 use crate::terms::term_of;
 use crate::words::word_at;
-use deriv_check::{accepts, parse_derivation, print_derivation};
+use deriv_accept::accepts;
+use deriv_check::{parse_derivation, print_derivation};
 use qbs_base::{Items, NoMemory, Scalar};
 use std::alloc::{AllocError, Global};
 use tor_axioms::{Condition, Literal, Literals, Vc};

@@ -1,5 +1,5 @@
 use Rattle.tor_axioms.specs.Accepts.{proof_of}
-use Rattle.deriv_check.specs.Grammar.{most_splits}
+use Rattle.deriv_accept.specs.Limits.{most_splits}
 use Rattle.deriv_check.specs.Reading.{read_derivation}
 use Rattle.deriv_check.proofs.Derivations.{exact_derivation}
 use Rattle.deriv_check.proofs.Whole.{answer_found, answer_only, answer_fault}

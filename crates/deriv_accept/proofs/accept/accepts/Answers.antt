@@ -1,6 +1,6 @@
 use Rattle.tor_axioms.specs.Accepts.{proof_of, claim_of}
-use Rattle.deriv_check.proofs.Validity.{answer-sound, answer-anywhere, answer-valid}
-use Rattle.deriv_check.proofs.accept.accepts.Goals as goal
+use Rattle.deriv_accept.proofs.Validity.{answer-sound, answer-anywhere, answer-valid}
+use Rattle.deriv_accept.proofs.accept.accepts.Goals as goal
 
 pub returns-clause-sound : goal.returns-clause-sound
 returns-clause-sound c = answer-sound (claim_of c.args.vc.now) (proof_of c.args.d.now) c.check.result c.check.ensures

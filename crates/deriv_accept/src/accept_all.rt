@@ -1,7 +1,7 @@
 // Whether conditions have derivations that show that they hold.
 ghost use Rattle.std.specs.Prelude.{◌≡◌, IfOk, map};
 ghost use Rattle.tor_axioms.specs.Accepts.{proof_of, claim_of};
-ghost use Rattle.deriv_check.specs.Accepted as spec;
+ghost use Rattle.deriv_accept.specs.Accepted as spec;
 
 use crate::accept::accepts;
 use qbs_base::NoMemory;

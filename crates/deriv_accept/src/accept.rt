@@ -5,7 +5,7 @@ ghost use Rattle.tor_axioms.specs.Accepts as spec;
 ghost use Rattle.tor_axioms.specs.Decide.{literal, with_fact as with_fact_of};
 ghost use Rattle.tor_axioms.specs.Paths.{run as run_of};
 ghost use Rattle.tor_axioms.specs.Validity.{IsValid, IsValidAnywhere};
-ghost use Rattle.deriv_check.specs.Ends.{end_of};
+ghost use Rattle.deriv_accept.specs.Ends.{end_of};
 
 use qbs_base::NoMemory;
 use std::alloc::Global;

@@ -1,7 +1,7 @@
 use Rattle.std.proofs.Common.{◌≡◌, drop}
 use Rattle.tor_terms.specs.Plain.{tree_of}
 use Rattle.tor_axioms.specs.Paths.{run}
-use Rattle.deriv_check.proofs.accept.run.Given as goal
+use Rattle.deriv_accept.proofs.accept.run.Given as goal
 
 -- the steps that are left lead to where all of them lead
 abbrev pub invariant-loop-step : goal.invariant-loop-step
