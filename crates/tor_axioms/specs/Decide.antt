@@ -7,8 +7,9 @@ use Rattle.tor_terms.specs.declared.term.Atom.TheVariants.{Less, Same, Truth, Me
 use Rattle.tor_terms.specs.declared.term.Operand.{Operand}
 use Rattle.tor_terms.specs.Plain.{Form, Is, Both, Either}
 use Rattle.tor_terms.specs.Truth.{World, same_operand, truth}
-use Rattle.tor_axioms.specs.declared.facts.Known.{Known}
-use Rattle.tor_axioms.specs.declared.facts.Known.TheVariants.{Yes, No, Open}
+use Rattle.decisions.specs.declared.known.Known.{Known}
+use Rattle.decisions.specs.declared.known.Known.TheVariants.{Yes, No, Open}
+pub use Rattle.decisions.specs.Known.{is_yes, denies}
 use Rattle.tor_axioms.specs.declared.facts.Literal.{Literal}
 
 abbrev pub or_else : Known → Known → Known
@@ -78,18 +79,8 @@ abbrev pub is_no : Known → Bool
 is_no No = true
 is_no _ = false
 
-abbrev pub is_yes : Known → Bool
-is_yes Yes = true
-is_yes _ = false
-
 abbrev pub literal : ℕ → Bool → Literal
 literal k s = record { atom = k; holds = s }
-
--- whether what is known says that a literal is false
-abbrev pub denies : Known → Bool → Bool
-denies Yes s = cond s false true
-denies No s = s
-denies Open s = false
 
 -- the facts with one literal more, or none where they contradict it
 abbrev pub with_fact : List Atom → List Literal → Literal → Option (List Literal)

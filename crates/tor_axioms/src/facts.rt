@@ -1,17 +1,10 @@
 // Facts: which atoms are recorded to hold, and which not to.
-use crate::judged::{decide, denies};
+use crate::judged::decide;
+use decisions::{Known, denies, with_behind};
 use qbs_base::{Items, NoMemory};
 use std::alloc::Global;
 use std::marker::Model;
 use tor_terms::Atoms;
-
-/// What facts say of an atom.
-#[derive(Clone, Copy, PartialEq, Eq)]
-pub enum Known {
-    Yes,
-    No,
-    Open,
-}
 
 /// An atom, by its number, that holds or doesn't.
 #[derive(Clone, Copy, PartialEq, Eq)]
@@ -98,8 +91,8 @@ impl Facts {
     fn with_literal(&self, alloc: Global, more: Literal) -> Result<Facts, NoMemory>
         ensures { IfOk result (λ facts. facts ≡ self.now ++ more ∷ []) }
     {
-        let mut literals = Items::from_vec(self.literals.as_slice().to_vec(alloc)?);
-        literals.push(more)?;
+        let literals = Items::from_vec(self.literals.as_slice().to_vec(alloc)?);
+        let literals = with_behind(literals, more)?;
         Ok(Facts { literals })
     }
 

@@ -3,7 +3,8 @@ ghost use Rattle.std.specs.Prelude.{◌≡◌, ◌&&◌, not, Some, slice_get};
 ghost use Rattle.tor_terms.specs.Plain.{form_of, forms_of};
 ghost use Rattle.tor_axioms.specs.Decide as spec;
 
-use crate::facts::{Known, Literal};
+use crate::facts::Literal;
+use decisions::Known;
 use tor_terms::{Atom, Formula, Operand, same_operand};
 
 /// What the shape of an atom says of it.
@@ -152,16 +153,5 @@ pub fn decide_formula(atoms: &[Atom], facts: &[Literal], f: &Formula) -> Known
             decide_formula(atoms, facts, g),
             decide_formula(atoms, facts, h),
         ),
-    }
-}
-
-/// Whether what is known says that a literal is false.
-pub fn denies(known: Known, holds: bool) -> bool
-    ensures { result ≡ spec.denies known holds }
-{
-    match known {
-        Known::Yes => !holds,
-        Known::No => holds,
-        Known::Open => false,
     }
 }

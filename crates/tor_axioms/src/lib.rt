@@ -16,8 +16,9 @@ mod select;
 mod selections;
 mod truths;
 
+pub use decisions::Known;
 pub use derivation::{Condition, Derivation, Derivations, Step, Steps, Vc, Vcs};
-pub use facts::{Facts, Known, Literal, Literals, WithAnswer, with_fact, with_facts};
+pub use facts::{Facts, Literal, Literals, WithAnswer, with_fact, with_facts};
 pub use judged::{decide, decide_formula};
 pub use paths::apply;
 pub use select::{all_yes, some_no};

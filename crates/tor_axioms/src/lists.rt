@@ -6,7 +6,7 @@ ghost use Rattle.tor_axioms.specs.Rules as spec;
 use crate::make::{make_cat, make_join, make_one, make_top};
 use qbs_base::NoMemory;
 use std::alloc::Global;
-use tor_terms::{Index, Term, copy_boxed_term};
+use tor_terms::{Index, Term, copy_boxed_term, next_of};
 
 /// `Top(Zero, r)` is `Nil`.
 pub fn top_zero(t: &Term) -> Option<Term>
@@ -23,18 +23,21 @@ pub fn top_next(alloc: Global, t: &Term) -> Result<Option<Box<Term>>, NoMemory>
     ensures { IfOk result (λ o. option_map (λ u. tree_of u.value) o ≡ spec.top_next (tree_of t.now)) }
 {
     match t {
-        Term::Top(Index::Next(j), r) => match &**r {
-            Term::Walk(k) => {
-                if *j == *k {
-                    let walk = Box::new(alloc, Term::Walk(*j))?;
-                    let before = make_top(alloc, Index::At(*j), walk)?;
-                    let current = make_one(alloc, &[*j], &[])?;
-                    Ok(Some(make_cat(alloc, before, current)?))
-                } else {
-                    Ok(None)
+        Term::Top(index, r) => match next_of(*index) {
+            Some(j) => match &**r {
+                Term::Walk(k) => {
+                    if j == *k {
+                        let walk = Box::new(alloc, Term::Walk(j))?;
+                        let before = make_top(alloc, Index::At(j), walk)?;
+                        let current = make_one(alloc, &[j], &[])?;
+                        Ok(Some(make_cat(alloc, before, current)?))
+                    } else {
+                        Ok(None)
+                    }
                 }
-            }
-            _ => Ok(None),
+                _ => Ok(None),
+            },
+            None => Ok(None),
         },
         _ => Ok(None),
     }

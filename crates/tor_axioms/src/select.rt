@@ -3,8 +3,9 @@ ghost use Rattle.std.specs.Prelude.{◌≡◌, ◌&&◌, not, ◌∷◌, [], IfO
 ghost use Rattle.tor_terms.specs.Plain.{form_of, forms_of};
 ghost use Rattle.tor_axioms.specs.Rules as spec;
 
-use crate::facts::{Known, Literal};
+use crate::facts::Literal;
 use crate::judged::decide_formula;
+use decisions::{Known, is_yes};
 use qbs_base::{Items, NoMemory};
 use std::alloc::Global;
 use tor_terms::{Atom, Formula, Formulas, copy_formula, formula_within};
@@ -26,9 +27,8 @@ pub fn all_yes(atoms: &[Atom], facts: &[Literal], fs: &[Formula]) -> bool
     ensures { result ≡ spec.all_yes atoms.now facts.now (forms_of fs.now) }
 {
     for f in fs {
-        match decide_formula(atoms, facts, f) {
-            Known::Yes => {}
-            _ => return false,
+        if !is_yes(decide_formula(atoms, facts, f)) {
+            return false;
         }
     }
     true

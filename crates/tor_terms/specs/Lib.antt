@@ -8,3 +8,4 @@ pub mod Fits
 pub mod Same
 pub mod Worked
 pub mod Evaluation
+pub mod Next
