@@ -27,7 +27,8 @@ use Rattle.sql_ast.specs.Valid.{IsQueryOf}
 use Rattle.sql_emit.specs.declared.emission.Emitted.{Emitted}
 use Rattle.sql_parts.specs.Emitted.{query_by, query_of, where_of}
 use Rattle.sql_parts.specs.Given.{AreKnownTo, IsHeld, IsOutermost, QueryIsCounted, SaysWhatIsClaimed, AnswersWhatIsClaimed, HasEntries, TextsAreUtf8, QueryIsUtf8}
-use Rattle.sql_parts.specs.Numbered.{Emission, filter_in, filter_uses, first_uses, renumbered_filter, with_filter, type_of, numbered_by, in_order, emission, emitted}
+use Rattle.sql_build.specs.Types.{type_of}
+use Rattle.sql_parts.specs.Numbered.{Emission, filter_in, filter_uses, first_uses, renumbered_filter, with_filter, numbered_by, in_order, emission, emitted}
 use Rattle.sql_parts.specs.Reading.{number_first}
 use Rattle.sql_emit.specs.Reading.{emission_of}
 use Rattle.sql_parts.specs.Scopes.{Ground, ground}

@@ -19,11 +19,11 @@ ghost use Rattle.sql_parts.specs.Scopes.{ground as plain_ground};
 
 use crate::filter::{accumulator_filter, first_number};
 use crate::query::query_by;
-use crate::types::types_in;
 use kernel_lang::{Acc, Candidate, KFragment};
 use qbs_base::{NoMemory, NumberLists, Numbers, Ty};
 use schema::Schema;
 use sql_ast::{Queries, Query};
+use sql_build::types::types_in;
 use sql_parts::counted::count_queries;
 use sql_parts::ground::Ground;
 use sql_parts::held::read_numbers;

@@ -12,10 +12,12 @@ use crate::literal::{quiet_atom, quiet_formula};
 use kernel_lang::{Acc, Update};
 use qbs_base::NoMemory;
 use sql_ast::{Cond, SqlOpnd};
-use sql_parts::build::{both, either, exists};
+use sql_build::conditions::{both, either, exists};
+use sql_build::filters::{also, also_compared};
+use sql_build::scope::{Scope, inside};
 use sql_parts::comparisons::{fixed, signed, way_test};
-use sql_parts::ground::{Ground, Scope, elem_col, from_items};
-use sql_parts::limiting::{also, limits};
+use sql_parts::ground::{Ground, elem_col, from_items};
+use sql_parts::limiting::limits;
 use sql_parts::within::sum;
 use std::alloc::Global;
 use tor_terms::{Atom, Formula};
@@ -47,8 +49,7 @@ fn better(
     };
     let col = SqlOpnd::Column(elem_col(alloc, g, s, e)?);
     let start = SqlOpnd::Lit(start.clone()?);
-    let test = Box::new(alloc, Cond::Compare(way_test(way), col, start))?;
-    also(alloc, filter, test)
+    also_compared(alloc, filter, way_test(way), col, start)
 }
 
 /// The chosen ones of formulas that read no flag; the first has the number `first`.
@@ -168,7 +169,7 @@ fn flag_exists(
 {
     let own = flag_loops(acc);
     with_room(first, acc.pool.len())?;
-    let inner = Scope { own, outer: s.own };
+    let inner = inside(own, s);
     let filter = quiet_filter(alloc, g, inner, s.own.len() as u32, acc, first)?;
     let from = from_items(alloc, g, own)?;
     exists(alloc, from, filter)

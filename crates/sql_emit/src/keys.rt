@@ -5,8 +5,9 @@ ghost use Rattle.sql_parts.specs.Reading.{ground_of};
 
 use qbs_base::{Items, NoMemory};
 use sql_ast::SqlKeys;
+use sql_build::keys::put_position;
 use sql_parts::ground::Ground;
-use sql_parts::sort_keys::{add_list_keys, list_cols, position_key};
+use sql_parts::sort_keys::{add_list_keys, list_cols};
 use std::alloc::Global;
 
 /// For each of these loops, whose FROM items have the numbers after `n`, the keys of its list and
@@ -25,7 +26,7 @@ fn add_keys(
         None => Ok(()),
         Some((j, rest)) => {
             add_list_keys(alloc, g, n + 1, *j, list_cols(g, *j), all)?;
-            all.push(position_key(false, n + 1))?;
+            put_position(n + 1, all)?;
             add_keys(alloc, g, n + 1, rest, all)
         }
     }

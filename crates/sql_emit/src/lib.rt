@@ -6,6 +6,5 @@ mod filter;
 mod keys;
 mod literal;
 mod query;
-mod types;
 
 pub use emission::{Emitted, emit, emit_exactly};

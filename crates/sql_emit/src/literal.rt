@@ -7,9 +7,10 @@ ghost use Rattle.sql_parts.specs.Reading.{ground_of, scope_of, IsSmall};
 
 use qbs_base::NoMemory;
 use sql_ast::{Cond, ListQuery, Query};
-use sql_parts::build::{both, either, within};
+use sql_build::conditions::{both, either, membership};
+use sql_build::scope::Scope;
 use sql_parts::comparisons::{compared, fixed, less, same_test, side, signed, truth};
-use sql_parts::ground::{Ground, Scope, count};
+use sql_parts::ground::{Ground, count};
 use sql_parts::within::{item_col, moved_col, moved_filter};
 use std::alloc::Global;
 use tor_terms::{Atom, Formula, Operand};
@@ -30,7 +31,7 @@ fn within_listing(
     let col = moved_col(count(s), &item_col(&q.item)?)?;
     let from = q.from.clone()?;
     let filter = moved_filter(alloc, count(s), args, &q.filter)?;
-    within(alloc, opnd, !holds, col, from, filter)
+    membership(alloc, opnd, holds, col, from, filter)
 }
 
 /// The operand is in the list of a known query.

@@ -11,7 +11,8 @@ use crate::keys::keys;
 use kernel_lang::{Acc, Update};
 use qbs_base::{NoMemory, Tys};
 use sql_ast::{Cond, ListQuery, NumberKind, Query};
-use sql_parts::ground::{Ground, Scope, from_items};
+use sql_build::scope::Scope;
+use sql_parts::ground::{Ground, from_items};
 use sql_parts::query::{
     best_query, item, number_query, sum_query, truth_query, unboxed, values_query,
 };

@@ -2,7 +2,8 @@
 use Rattle.std.proofs.Common.{◌≡◌, List, [], ◌∷◌, ◌++◌, map, slice_get, option_map, refl, ℕ, zero, suc}
 use Rattle.sql_ast.specs.Tree.{Condition, Both, Filter, Everything, Where}
 use Rattle.sql_parts.specs.Emitted.{joined_from, joined}
-use Rattle.sql_parts.specs.Reading.{with_also, all_also}
+use Rattle.sql_build.specs.Filters.{with_also}
+use Rattle.sql_parts.specs.Reading.{all_also}
 
 pub also_append : (f : Filter) (xs ys : List Condition) → all_also f (xs ++ ys) ≡ all_also (all_also f xs) ys
 also_append f [] ys = refl

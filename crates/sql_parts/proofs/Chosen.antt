@@ -32,8 +32,10 @@ use Rattle.sql_ast.proofs.Combinations.{all_append, all_map, all_flat_map}
 use Rattle.sql_ast.proofs.Marks.{positions_decided}
 use Rattle.sql_ast.proofs.OneAnswer.{has_one_answer}
 use Rattle.sql_ast.proofs.Order.{before_order}
-use Rattle.sql_parts.specs.Scopes.{Ground, list_of, from_item, from_items, column, position}
-use Rattle.sql_parts.specs.Emitted.{key, position_key, keys}
+use Rattle.sql_build.specs.Keys.{position}
+use Rattle.sql_parts.specs.Scopes.{Ground, list_of, from_item, from_items, column}
+use Rattle.sql_build.specs.Keys.{position_key}
+use Rattle.sql_parts.specs.Emitted.{key, keys}
 use Rattle.sql_parts.proofs.Rows.{column_is}
 use Rattle.sql_parts.proofs.Tools.{lt_true, eq_itself, or_left, or_right, length_map}
 

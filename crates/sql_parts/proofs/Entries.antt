@@ -13,7 +13,8 @@ use Rattle.sql_ast.specs.Tree.{Filter, PlainQuery, Listing, Number, Truth}
 use Rattle.sql_ast.specs.Valid.{params_in}
 use Rattle.sql_parts.specs.Emitted.{query_of}
 use Rattle.sql_parts.specs.Given.{AreKnownTo, EntriesAreThere}
-use Rattle.sql_parts.specs.Numbered.{filter_in, filter_uses, first_uses, renumbered_filter, with_filter, type_of}
+use Rattle.sql_build.specs.Types.{type_of}
+use Rattle.sql_parts.specs.Numbered.{filter_in, filter_uses, first_uses, renumbered_filter, with_filter}
 use Rattle.sql_parts.specs.Scopes.{ground}
 use Rattle.sql_parts.proofs.Good.{filter_use}
 use Rattle.sql_parts.proofs.Numbering.{FilterParam}

@@ -21,6 +21,7 @@ use Rattle.sql_ast.specs.Typing.{ty_of_column, ty_of_col}
 use Rattle.sql_ast.specs.Valid.{IsWord, IsFromItem, IsColOf}
 use Rattle.sql_parts.specs.Scopes.{column}
 use Rattle.sql_parts.specs.Scopes as scopes
+use Rattle.sql_build.specs.Keys as keys
 use Rattle.sql_parts.proofs.Tools.{get_map, lt_true}
 use Rattle.kernel_lang.proofs.Listing.{all_at, some_eq}
 
@@ -103,10 +104,10 @@ module _ (schema : Schema) (is : IsSchema schema) (named : AreNamed schema) wher
 
   module _ (froms : List FromItem) (n : ℕ) (from : FromItem) (at : nth froms n ≡ Some from) (t : Table) (there : slice_get schema from.table ≡ Some t) where
     -- the position of an item
-    pub is_position : IsColOf schema froms (scopes.position n)
+    pub is_position : IsColOf schema froms (keys.position n)
     is_position = record { from = from; item = at; table = t; held = there; column = refl; word = (refl, refl) }
 
-    pub position_long : ty_of_col schema froms (scopes.position n) ≡ Some tys.Long
+    pub position_long : ty_of_col schema froms (keys.position n) ≡ Some tys.Long
     position_long = ap (λ o. o >>= λ from. slice_get schema from.table >>= λ table. ty_of_column table.columns columns.Pos) at ∙ ap (λ o. o >>= λ table. ty_of_column table.columns columns.Pos) there
 
     -- a column of an item

@@ -18,7 +18,8 @@ use Rattle.sql_ast.specs.Names.{◌>>=◌}
 use Rattle.sql_ast.specs.Tree.{Condition, Both, Either, Not, Compare, Bare, Exists, Within, Filter, Everything, Where}
 use Rattle.sql_ast.specs.Typing.{ty_of_col, ty_beside, tys_beside, filter_tys, one_ty, ty_of_param, source_fits, opnd_param, last_param, filter_param, tys_up_to, source_params}
 use Rattle.sql_ast.specs.Valid.{IsFilterOf}
-use Rattle.sql_parts.specs.Numbered.{opnd_uses, uses, filter_uses, entered, first_uses, number_among, renumbered_opnd, renumbered, renumbered_filter, type_of}
+use Rattle.sql_build.specs.Types.{type_of}
+use Rattle.sql_parts.specs.Numbered.{opnd_uses, uses, filter_uses, entered, first_uses, number_among, renumbered_opnd, renumbered, renumbered_filter}
 use Rattle.sql_parts.proofs.Grammar.{HasType, Good, GoodFilter, IsOrder, place_of, filter_named, all_tys_same, all_fits}
 use Rattle.sql_parts.proofs.Numbering.{IsIn, uses_in}
 use Rattle.sql_parts.proofs.Tools.{or_left, or_right, eq_true, eq_itself}

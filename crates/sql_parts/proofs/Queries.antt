@@ -33,7 +33,8 @@ use Rattle.sql_ast.specs.Meaning.{nth}
 use Rattle.sql_ast.specs.Tree.{Filter, PlainQuery}
 use Rattle.sql_ast.specs.Typing.{ty_of_col}
 use Rattle.sql_ast.specs.Valid.{AreItems, IsColOf, IsItemOf}
-use Rattle.sql_parts.specs.Scopes.{Ground, ground, Scope, numbered, number_in, outermost, inner, def_of, list_of, from_item, from_items, column, position}
+use Rattle.sql_build.specs.Keys.{position}
+use Rattle.sql_parts.specs.Scopes.{Ground, ground, Scope, numbered, number_in, outermost, inner, def_of, list_of, from_item, from_items, column}
 use Rattle.sql_parts.specs.Emitted.{FlagCondition, formula, joined, limits, elem_col, best_tests, conditions, no_flag, flag_exists, flag_condition, where_of}
 use Rattle.sql_parts.specs.Given.{AreKnownTo, StartIsHeld, IsHeld, QueryIsCounted}
 use Rattle.sql_parts.specs.Numbered.{filter_uses}
@@ -53,8 +54,10 @@ use Rattle.kernel_lang.specs.Validity.{is_small, pool_is_small, rises, is_flag, 
 use Rattle.kernel_lang.proofs.Sentences.{valid as valid_of}
 use Rattle.kernel_lang.proofs.Listing.{all_at, and_left, and_right, and_three, list_all_at}
 use Rattle.tor_terms.specs.Same.{same_numbers}
-use Rattle.sql_parts.specs.Emitted.{key, position_key, keys, sorted_limit, limit_of, item, rows_query, values_query, number_query, best_kind, query_by, query_of}
-use Rattle.sql_parts.specs.Numbered.{first_uses, renumbered_filter, with_filter, type_of, in_order}
+use Rattle.sql_build.specs.Keys.{position_key}
+use Rattle.sql_parts.specs.Emitted.{key, keys, sorted_limit, limit_of, item, rows_query, values_query, number_query, best_kind, query_by, query_of}
+use Rattle.sql_build.specs.Types.{type_of}
+use Rattle.sql_parts.specs.Numbered.{first_uses, renumbered_filter, with_filter, in_order}
 use Rattle.sql_parts.proofs.Claims.{members_pass, all_updates}
 use Rattle.sql_parts.proofs.Complete.{one_loop, takes_itself}
 use Rattle.sql_parts.proofs.Flags.{some_flag, same_numbers-true, number_behind, in_loops, bool_cases, start_valid, column_taken, flags_named, all_drop, drop_some}

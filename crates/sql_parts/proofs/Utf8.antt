@@ -30,7 +30,8 @@ use Rattle.sql_ast.proofs.Utf8.{canonical_is_utf8}
 use Rattle.sql_parts.specs.Scopes.{Ground, ground, Scope, outermost, inner, list_of}
 use Rattle.sql_parts.specs.Emitted.{side, less_test, greater_test, signed, args_of, entry_param, moved_opnd, moved, moved_filter, within_query, FlagCondition, literal, formula, joined_from, joined, limit_tests, limits, best_tests, conditions, no_flag, flag_loops, flag_exists, flag_condition, where_of, query_by, query_of}
 use Rattle.sql_parts.specs.Given.{LiteralIsUtf8, AtomIsUtf8, TextsAreUtf8, QueriesAreUtf8}
-use Rattle.sql_parts.specs.Numbered.{filter_in, filter_uses, first_uses, renumbered_opnd, renumbered, renumbered_filter, with_filter, type_of}
+use Rattle.sql_build.specs.Types.{type_of}
+use Rattle.sql_parts.specs.Numbered.{filter_in, filter_uses, first_uses, renumbered_opnd, renumbered, renumbered_filter, with_filter}
 use Rattle.sql_parts.proofs.Flags.{start_valid}
 use Rattle.sql_parts.proofs.Good.{all_both}
 use Rattle.sql_parts.proofs.Valid.{IsValidMember, all_members}

@@ -31,7 +31,9 @@ use Rattle.sql_ast.specs.declared.tree.SqlOpnd.TheVariants as opnds
 use Rattle.sql_ast.specs.Meaning.{nth, number_of}
 use Rattle.sql_ast.specs.Tree.{Condition, Not, Compare, Bare, Exists, Within, Filter, Everything, Where, PlainQuery, Listing, Number, Truth}
 use Rattle.sql_ast.specs.Tree as sql
-use Rattle.sql_parts.specs.Scopes.{Ground, Scope, number_in, outermost, inner, list_of, from_items, column, position}
+use Rattle.sql_build.specs.Keys.{position}
+use Rattle.sql_build.specs.Keys.{position_key}
+use Rattle.sql_parts.specs.Scopes.{Ground, Scope, number_in, outermost, inner, list_of, from_items, column}
 
 -- ---- Literals
 
@@ -186,9 +188,6 @@ where_of g m = joined (conditions (flag_condition g) g (outermost m.0.chain) 0 m
 
 abbrev pub key : Ground → ℕ → ℕ → Col → SqlKey
 key g n j k = record { least = false; col = column g n j k.column; down = k.down }
-
-abbrev pub position_key : Bool → ℕ → SqlKey
-position_key least n = record { least = least; col = position n; down = false }
 
 -- for each loop the keys of its list, and then the position
 abbrev pub keys : Ground → ℕ → List ℕ → List SqlKey

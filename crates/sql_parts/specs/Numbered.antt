@@ -11,6 +11,7 @@ use Rattle.qbs_base.specs.Values.{Schema}
 use Rattle.sql_ast.specs.declared.tree.SqlOpnd.{SqlOpnd}
 use Rattle.sql_ast.specs.declared.tree.SqlOpnd.TheVariants as opnds
 use Rattle.sql_ast.specs.Tree.{Condition, Both, Either, Not, Compare, Bare, Exists, Within, Filter, Everything, Where, PlainQuery, Listing, Number, Truth}
+use Rattle.sql_build.specs.Types.{type_of}
 use Rattle.sql_parts.specs.Scopes.{ground}
 use Rattle.sql_parts.specs.Emitted.{query_of}
 
@@ -81,10 +82,6 @@ with_filter (Truth q) filter_ types = Truth (record q { filter = filter_; params
 pub record Emission : Type 0 where
   pub query : PlainQuery
   pub entries : List ℕ
-
-abbrev pub type_of : Option Ty → Ty
-type_of None = tys.Long
-type_of (Some ty) = ty
 
 abbrev pub numbered_by : List Ty → List ℕ → PlainQuery → Emission
 numbered_by types order q = record { query = with_filter q (renumbered_filter order (filter_in q)) (map (λ k. type_of (slice_get types k)) order); entries = order }

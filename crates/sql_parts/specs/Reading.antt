@@ -5,8 +5,9 @@ use Rattle.kernel_lang.specs.Plain.{Accumulator, accumulator}
 use Rattle.kernel_lang.specs.Pools.{members_from}
 use Rattle.sql_ast.specs.Reading.{query}
 use Rattle.sql_ast.specs.Tree.{Condition, Both, Filter, Everything, Where}
+use Rattle.sql_build.specs.Filters.{with_also}
 use Rattle.sql_parts.specs.declared.ground.Ground.{Ground as CodeGround}
-use Rattle.sql_parts.specs.declared.ground.Scope.{Scope as CodeScope}
+use Rattle.sql_build.specs.declared.scope.Scope.{Scope as CodeScope}
 use Rattle.sql_parts.specs.Scopes.{Ground, Scope, outermost, inner}
 
 abbrev pub ground_of : CodeGround → Ground
@@ -36,11 +37,7 @@ abbrev pub number_or : ℕ → List ℕ → ℕ → ℕ → ℕ
 number_or n [] j other = other
 number_or n (k ∷ js) j other = if nat_eq k j then suc n else number_or (suc n) js j other
 
--- a WHERE with one condition more, and with several
-abbrev pub with_also : Filter → Condition → Filter
-with_also Everything c = Where c
-with_also (Where a) c = Where (Both a c)
-
+-- a WHERE with several conditions more
 abbrev pub all_also : Filter → List Condition → Filter
 all_also f [] = f
 all_also f (c ∷ cs) = all_also (with_also f c) cs

@@ -84,6 +84,3 @@ name_of g j c = column_name (slice_get (columns_of (slice_get g.schema (list_of 
 -- the column c of the loop j, whose FROM item has the number n
 abbrev pub column : Ground → ℕ → ℕ → ℕ → SqlCol
 column g n j c = record { item = n; column = columns.Named (name_of g j c) c }
-
-abbrev pub position : ℕ → SqlCol
-position n = record { item = n; column = columns.Pos }

@@ -23,7 +23,7 @@ use Rattle.sql_ast.specs.declared.tree.SqlOpnd.TheVariants as opnds
 use Rattle.sql_ast.specs.Canonical.{canonical}
 use Rattle.sql_ast.specs.Tree.{PlainQuery, Listing, Compare, Where}
 use Rattle.sql_ast.specs.Worked.{staff_schema}
-use Rattle.sql_parts.specs.Emitted.{position_key}
+use Rattle.sql_build.specs.Keys.{position_key}
 use Rattle.sql_parts.specs.Given.{TextsAreUtf8}
 use Rattle.sql_parts.specs.Numbered.{Emission, emitted}
 

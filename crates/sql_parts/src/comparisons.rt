@@ -6,11 +6,12 @@ ghost use Rattle.sql_ast.specs.Tree as plain;
 ghost use Rattle.sql_parts.specs.Emitted as spec;
 ghost use Rattle.sql_parts.specs.Reading.{ground_of, scope_of, IsSmall};
 
-use crate::build::opposite;
-use crate::ground::{Ground, Scope, column, number_in};
+use crate::ground::{Ground, column, number_in};
 use crate::within::next;
 use qbs_base::{NoMemory, Scalar};
 use sql_ast::{Cmp, Cond, SqlOpnd};
+use sql_build::conditions::opposite;
+use sql_build::scope::Scope;
 use std::alloc::Global;
 use tor_terms::{Operand, Way};
 

@@ -7,6 +7,8 @@ ghost use Rattle.sql_parts.specs.Reading.{ground_of, scope_of, IsSmall, number_o
 use kernel_lang::{Acc, ListDef};
 use qbs_base::{Items, Name, NoMemory, Numbers, Table};
 use sql_ast::{FromItem, FromItems, Query, SqlCol, SqlColumn};
+use sql_build::keys::position;
+use sql_build::scope::Scope;
 use std::alloc::Global;
 use tor_terms::{Atom, Elem};
 
@@ -21,13 +23,6 @@ pub struct Ground<'a> {
     pub cand: &'a [u32],
     pub known: &'a [Query],
     pub args: &'a [Numbers],
-}
-
-/// The loops in FROM of a SELECT, and those of the SELECT round it, if there is one.
-#[derive(Clone, Copy)]
-pub struct Scope<'a> {
-    pub own: &'a [u32],
-    pub outer: &'a [u32],
 }
 
 /// The number of a loop, counted on from `n`, or another number.
@@ -117,16 +112,6 @@ pub fn column(alloc: Global, g: Ground, n: u32, j: u32, c: u32) -> Result<SqlCol
         item: n,
         column: SqlColumn::Named { name, number: c },
     })
-}
-
-/// The position of the FROM item of this number.
-pub fn position(n: u32) -> SqlCol
-    ensures { result ≡ spec.position n }
-{
-    SqlCol {
-        item: n,
-        column: SqlColumn::Pos,
-    }
 }
 
 /// The column of an element of a loop.

@@ -1,7 +1,6 @@
 //! The queries of postconditions as they are defined, the laws on them, and the parts of which they are made.
 #![tactic(auto)]
 
-pub mod build;
 pub mod comparisons;
 pub mod counted;
 pub mod ground;

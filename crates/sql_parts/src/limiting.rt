@@ -3,28 +3,16 @@ ghost use Rattle.std.specs.Prelude.{◌≡◌, ◌+◌, ◌<◌, ◌^◌, length
 ghost use Rattle.sql_ast.specs.Reading.{condition, inner_filter};
 ghost use Rattle.sql_parts.specs.Emitted as spec;
 ghost use Rattle.sql_parts.specs.Scopes.{list_of};
-ghost use Rattle.sql_parts.specs.Reading.{ground_of, with_also, all_also};
+ghost use Rattle.sql_build.specs.Filters.{with_also};
+ghost use Rattle.sql_parts.specs.Reading.{ground_of, all_also};
 
-use crate::build::both;
-use crate::ground::{Ground, position};
+use crate::ground::Ground;
 use kernel_lang::ListDef;
 use qbs_base::{NoMemory, Scalar};
 use sql_ast::{Cmp, Cond, SqlOpnd};
+use sql_build::filters::also_compared;
+use sql_build::keys::position;
 use std::alloc::Global;
-
-/// A WHERE with one condition more.
-pub fn also(
-    alloc: Global,
-    filter: Option<Box<Cond>>,
-    c: Box<Cond>,
-) -> Result<Option<Box<Cond>>, NoMemory>
-    ensures { IfOk result (λ f. inner_filter f ≡ with_also (inner_filter filter) (condition c.value)) }
-{
-    match filter {
-        None => Ok(Some(c)),
-        Some(a) => Ok(Some(both(alloc, a, c)?)),
-    }
-}
 
 /// The first rows of a list without keys.
 fn limit_of_list(
@@ -48,8 +36,7 @@ fn limit_of_list(
     };
     let first = SqlOpnd::Column(position(n));
     let limit = SqlOpnd::Lit(Scalar::Long(limit));
-    let test = Box::new(alloc, Cond::Compare(Cmp::Lt, first, limit))?;
-    also(alloc, filter, test)
+    also_compared(alloc, filter, Cmp::Lt, first, limit)
 }
 
 fn limit_of_loop(

@@ -5,10 +5,10 @@ ghost use Rattle.sql_ast.specs.Reading.{condition, inner_filter};
 ghost use Rattle.sql_ast.specs.Tree as plain;
 ghost use Rattle.sql_parts.specs.Numbered as spec;
 
-use crate::build::{both, either, exists_in, opposite, within};
 use crate::within::{Membership, next};
 use qbs_base::{Items, NoMemory, Numbers};
 use sql_ast::{Cmp, Cond, SqlOpnd};
+use sql_build::conditions::{both, either, exists_in, opposite, within};
 use std::alloc::Global;
 
 fn is_among(seen: &[u64], n: u64) -> bool

@@ -8,13 +8,14 @@ ghost use Rattle.sql_parts.specs.Numbered.{with_filter};
 ghost use Rattle.sql_parts.specs.Reading.{ground_of, scope_of, IsSmall};
 ghost use Rattle.sql_parts.specs.Scopes.{outermost, from_items as from_items_of};
 
-use crate::ground::{Ground, Scope, column, elem_col, from_items, number_in};
-use crate::sort_keys::position_key;
+use crate::ground::{Ground, column, elem_col, from_items, number_in};
 use kernel_lang::Acc;
 use qbs_base::{NoMemory, Scalar, Tys};
 use sql_ast::{
     Cond, ListQuery, NumberKind, NumberQuery, Query, SqlCol, SqlItem, SqlKeys, TruthQuery,
 };
+use sql_build::keys::position_key;
+use sql_build::scope::Scope;
 use std::alloc::Global;
 use tor_terms::{Elem, Way};
 

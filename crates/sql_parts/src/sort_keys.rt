@@ -4,7 +4,7 @@ ghost use Rattle.sql_parts.specs.Emitted as spec;
 ghost use Rattle.sql_parts.specs.Reading.{ground_of};
 ghost use Rattle.sql_parts.specs.Scopes.{list_of};
 
-use crate::ground::{Ground, column, position};
+use crate::ground::{Ground, column};
 use kernel_lang::{Col, ListDef};
 use qbs_base::NoMemory;
 use sql_ast::{SqlKey, SqlKeys};
@@ -20,17 +20,6 @@ fn key(alloc: Global, g: Ground, n: u32, j: u32, k: Col) -> Result<SqlKey, NoMem
         col,
         down: k.down,
     })
-}
-
-/// The position of a FROM item as a key, or the least position of a group.
-pub fn position_key(least: bool, n: u32) -> SqlKey
-    ensures { result ≡ spec.position_key least n }
-{
-    SqlKey {
-        least,
-        col: position(n),
-        down: false,
-    }
 }
 
 /// Adds the keys of the list of the loop `j`, whose FROM item has the number `n`.

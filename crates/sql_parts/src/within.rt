@@ -5,10 +5,10 @@ ghost use Rattle.sql_ast.specs.Reading.{condition, filter_of, inner_filter};
 ghost use Rattle.sql_ast.specs.Tree as plain;
 ghost use Rattle.sql_parts.specs.Emitted as spec;
 
-use crate::build::{both, either, exists_in, opposite, within};
-use crate::ground::position;
 use qbs_base::NoMemory;
 use sql_ast::{Cmp, Cond, FromItems, SqlCol, SqlItem, SqlOpnd};
+use sql_build::conditions::{both, either, exists_in, opposite, within};
+use sql_build::keys::position;
 use std::alloc::Global;
 
 /// The next number. A number past 32 bits wants more memory than there is.

@@ -3,7 +3,8 @@ use Rattle.tor_terms.specs.Plain.{forms_of}
 use Rattle.kernel_lang.specs.Plain.{accumulator}
 use Rattle.kernel_lang.specs.Pools.{chosen}
 use Rattle.sql_ast.specs.Reading.{inner_filter}
-use Rattle.sql_parts.specs.Numbered.{renumbered_filter, type_of}
+use Rattle.sql_build.specs.Types.{type_of}
+use Rattle.sql_parts.specs.Numbered.{renumbered_filter}
 use Rattle.sql_parts.specs.Reading.{ground_of}
 use Rattle.sql_emit.proofs.Emitting.{emission_is}
 use Rattle.sql_emit.proofs.emission.emission.Goals as goal

@@ -1,5 +1,5 @@
 // Conditions, made of their parts.
-ghost use Rattle.std.specs.Prelude.{◌≡◌, IfOk};
+ghost use Rattle.std.specs.Prelude.{◌≡◌, IfOk, not};
 ghost use Rattle.sql_ast.specs.Reading.{condition, inner_filter};
 ghost use Rattle.sql_ast.specs.Tree as plain;
 
@@ -93,4 +93,18 @@ pub fn within(
             },
         )?),
     }
+}
+
+/// IN over FROM items where `holds`, else NOT IN.
+pub fn membership(
+    alloc: Global,
+    opnd: SqlOpnd,
+    holds: bool,
+    col: SqlCol,
+    from: FromItems,
+    filter: Option<Box<Cond>>,
+) -> Result<Box<Cond>, NoMemory>
+    ensures { IfOk result (λ c. condition c.value ≡ plain.Within opnd (not holds) col from (inner_filter filter)) }
+{
+    within(alloc, opnd, !holds, col, from, filter)
 }

@@ -1,6 +1,6 @@
 // The types of parameters.
 ghost use Rattle.std.specs.Prelude.{◌≡◌, IfOk, map, slice_get};
-ghost use Rattle.sql_parts.specs.Numbered as spec;
+ghost use Rattle.sql_build.specs.Types as spec;
 
 use qbs_base::{Items, NoMemory, Ty, Tys};
 use std::alloc::Global;
