@@ -18,8 +18,8 @@ use Rattle.schema.specs.declared.fault.DataRule.{DataRule}
 use Rattle.schema.specs.Rows.{cell_of}
 use Rattle.plans.specs.Calls.{param_type, found, argument_of, with_argument, fields_of, method_at, method_named, word_refusal}
 use Rattle.java_mean.specs.declared.rule.TypeRule.TheVariants as types
-use Rattle.plans.specs.declared.fetch.Stop.{Stop}
-use Rattle.plans.specs.Code.{StopsWith}
+use Rattle.deliveries.specs.declared.fetch.Stop.{Stop}
+use Rattle.deliveries.specs.Code.{StopsWith}
 use Rattle.plans.specs.Words.{IsTaken, AreTaken, ReadsArguments}
 
 pub scalar_param : (schema : Schema) (ty : Spelled) (t : Ty) → param_type ty ≡ Some t → single_spelled schema ty ≡ Some (ScalarOf t)

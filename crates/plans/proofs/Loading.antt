@@ -14,11 +14,11 @@ use Rattle.schema.specs.declared.fault.DataFault.{DataFault}
 use Rattle.schema.specs.Rows.{table_rows, columns_of, most_rows}
 use Rattle.schema.specs.Rules.{IsSchema}
 use Rattle.qbs_base.specs.declared.status.Status.{Status}
-use Rattle.plans.specs.declared.plan.Plan.{Plan}
-use Rattle.plans.specs.declared.fetch.Stop.{Stop}
-use Rattle.plans.specs.Code.{StopsWith}
+use Rattle.deliveries.specs.declared.plan.Plan.{Plan}
+use Rattle.deliveries.specs.declared.fetch.Stop.{Stop}
+use Rattle.deliveries.specs.Code.{StopsWith}
 use Rattle.plans.specs.Lines.{data_text}
-use Rattle.plans.specs.Plan.{refusal}
+use Rattle.deliveries.specs.Plan.{refusal}
 use Rattle.plans.specs.Tables.{TableFault, with_rows, loaded_from, loaded, with_rows_at, IsFresh, IsNext, IsNoNext, LoadsNext, Loads, data_refusal}
 
 -- ---- rows that were put into the last table

@@ -25,12 +25,12 @@ use Rattle.sql_ast.specs.Tree.{PlainQuery}
 use Rattle.sql_ast.proofs.Judged.{query_exactly}
 use Rattle.schema.specs.declared.fault.SchemaFault.{SchemaFault}
 use Rattle.schema.specs.Schemas.{schema_of}
-use Rattle.plans.specs.declared.fetch.Stop.{Stop}
+use Rattle.deliveries.specs.declared.fetch.Stop.{Stop}
 use Rattle.plans.specs.Calls.{word_refusal}
-use Rattle.plans.specs.Code.{Goes, StopsWith}
+use Rattle.deliveries.specs.Code.{Goes, StopsWith}
 use Rattle.plans.specs.Opening.{IsSchemaOf, BreaksSchema, schema_refusal, HasTokens, LacksTokens, lex_refusal, HasKept, parse_refusal, HasLeast, type_refusal, IsProgramOf, HasNoProgram, BreaksBundle, bundle_refusal, HasNoQuery}
-use Rattle.plans.specs.declared.plan.Plan.{Plan}
-use Rattle.plans.specs.Steps.{refused}
+use Rattle.deliveries.specs.declared.plan.Plan.{Plan}
+use Rattle.deliveries.specs.Steps.{refused}
 
 -- a refusal for what is lacking
 pub refuses : {A F : Type 0} (Is : A → Type 0) (Lacks : F → Type 0) (refusal : F → Plan) (fault : F) (stop : Stop) → Lacks fault → StopsWith (refusal fault) stop → Goes {A = A} (Err stop) Is (refused Lacks refusal)

@@ -12,10 +12,10 @@ use Rattle.java_mean.specs.declared.rule.TypeRule.{TypeRule}
 use Rattle.java_mean.specs.declared.rule.TypeRule.TheVariants as types
 use Rattle.schema.specs.declared.fault.DataRule.{DataRule}
 use Rattle.schema.specs.Rows.{cell_of}
-use Rattle.plans.specs.declared.plan.Plan.{Plan}
+use Rattle.deliveries.specs.declared.plan.Plan.{Plan}
 use Rattle.plans.specs.Lines.{word_text}
-use Rattle.plans.specs.Plan.{refusal}
-use Rattle.plans.specs.Steps.{Ends, finds}
+use Rattle.deliveries.specs.Plan.{refusal}
+use Rattle.deliveries.specs.Steps.{Ends, finds}
 
 -- a word beside the source breaks a type rule
 abbrev pub word_refusal : TypeRule → Plan

@@ -1,11 +1,6 @@
 pub mod Calls
-pub mod Code
-pub mod Deliver
 pub mod Lines
-pub mod Memory
 pub mod Opening
-pub mod Plan
 pub mod Results
-pub mod Steps
 pub mod Tables
 pub mod Words

@@ -24,11 +24,11 @@ use Rattle.sql_ast.specs.Texts.{HasQuery}
 use Rattle.sql_ast.specs.Tree.{PlainQuery}
 use Rattle.schema.specs.declared.fault.SchemaFault.{SchemaFault}
 use Rattle.schema.specs.Schemas.{schema_of}
-use Rattle.plans.specs.declared.plan.Plan.{Plan}
+use Rattle.deliveries.specs.declared.plan.Plan.{Plan}
 use Rattle.plans.specs.Calls.{word_refusal}
 use Rattle.plans.specs.Lines.{schema_text, lex_text, parse_text, type_text, bundle_fault_text}
-use Rattle.plans.specs.Plan.{refusal}
-use Rattle.plans.specs.Steps.{Ends, refused, step, finds}
+use Rattle.deliveries.specs.Plan.{refusal}
+use Rattle.deliveries.specs.Steps.{Ends, refused, step, finds}
 
 -- ---- The schema
 

@@ -8,7 +8,7 @@ use Rattle.qbs_base.specs.declared.scalar.Value.{Value}
 use Rattle.qbs_base.specs.declared.status.Status.{Status}
 use Rattle.qbs_base.specs.Printed.{value_text}
 use Rattle.verdicts.specs.Lines.{line}
-use Rattle.plans.specs.declared.plan.Plan.{Plan}
+use Rattle.deliveries.specs.declared.plan.Plan.{Plan}
 
 -- the tables' names by their numbers
 abbrev pub names_of : List Table → List (List ℕ)

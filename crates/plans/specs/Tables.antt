@@ -12,12 +12,12 @@ use Rattle.qbs_base.specs.Values.{Schema, Database, IsRowOf}
 use Rattle.schema.specs.declared.fault.DataFault.{DataFault}
 use Rattle.schema.specs.Rows.{table_rows}
 use Rattle.schema.specs.Schemas.{schema_of}
-use Rattle.plans.specs.declared.plan.Plan.{Plan}
-use Rattle.plans.specs.declared.fetch.Stop.{Stop}
+use Rattle.deliveries.specs.declared.plan.Plan.{Plan}
+use Rattle.deliveries.specs.declared.fetch.Stop.{Stop}
 use Rattle.plans.specs.Lines.{data_text}
 use Rattle.plans.specs.Opening.{has_schema}
-use Rattle.plans.specs.Plan.{Given, refusal}
-use Rattle.plans.specs.Steps.{Ends, step, refused, finds, IsRead, IsNotRead}
+use Rattle.deliveries.specs.Plan.{Given, refusal}
+use Rattle.deliveries.specs.Steps.{Ends, step, refused, finds, IsRead, IsNotRead}
 
 -- the file of a table in a folder
 abbrev pub table_file : List ℕ → List ℕ → List ℕ

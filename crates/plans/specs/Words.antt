@@ -7,7 +7,7 @@ use Rattle.qbs_base.specs.Values.{Schema}
 use Rattle.java_ast.specs.Tree.{PlainParam}
 use Rattle.java_mean.specs.declared.rule.TypeRule.{TypeRule}
 use Rattle.java_mean.specs.Types.{IsArgument, AreArguments, single_spelled}
-use Rattle.plans.specs.declared.fetch.Stop.{Stop}
+use Rattle.deliveries.specs.declared.fetch.Stop.{Stop}
 use Rattle.plans.specs.Calls.{param_type, argument_of, fields_of, arguments, word_refusal}
 
 -- the argument of a word is of the parameter's type

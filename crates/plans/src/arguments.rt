@@ -6,8 +6,8 @@ ghost use Rattle.plans.specs.Calls.{param_type as type_of_param, argument_of, fi
 ghost use Rattle.plans.specs.Words.{Takes, TakesAll, ReadsArguments};
 ghost use Rattle.std.specs.Str.{bytes_eq};
 
-use crate::fetch::Stop;
 use crate::lines::word_refused;
+use deliveries::fetch::Stop;
 use java_ast::{JTy, Method, Param};
 use java_mean::TypeRule;
 use qbs_base::{Fail, Name, NoMemory, Scalar, Scalars, Text, Ty, Words};

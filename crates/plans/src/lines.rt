@@ -3,12 +3,12 @@ ghost use Rattle.std.specs.Prelude.{◌≡◌, ◌++◌, [], IfOk, string_bytes}
 ghost use Rattle.verdicts.specs.Lines.{line};
 ghost use Rattle.plans.specs.Calls.{word_refusal};
 ghost use Rattle.plans.specs.Opening.{bundle_refusal, schema_refusal, lex_refusal, parse_refusal, type_refusal};
-ghost use Rattle.plans.specs.Code.{StopsWith};
+ghost use Rattle.deliveries.specs.Code.{StopsWith};
 ghost use Rattle.plans.specs.Lines.{nowhere as no_place, bundle_fault_text, data_text, row_text, fault_text, rule_text};
-ghost use Rattle.plans.specs.Plan.{refusal};
+ghost use Rattle.deliveries.specs.Plan.{refusal};
 
-use crate::Plan;
-use crate::fetch::Stop;
+use deliveries::Plan;
+use deliveries::fetch::Stop;
 use deriv_check::BundleFault;
 use java_lex::LexFault;
 use java_mean::{RunFault, TypeFault, TypeRule};

@@ -8,14 +8,15 @@ ghost use Rattle.java_grammar.specs.Grammar.{IsReadable};
 ghost use Rattle.java_types.specs.Texts.{read_by};
 ghost use Rattle.sql_ast.specs.Reading.{query as plain_query};
 ghost use Rattle.sql_ast.specs.Texts.{HasQuery};
-ghost use Rattle.plans.specs.Code.{Goes};
+ghost use Rattle.deliveries.specs.Code.{Goes};
 ghost use Rattle.plans.specs.Opening.{IsSchemaOf, BreaksSchema, schema_refusal, HasTokens, LacksTokens, lex_refusal, HasKept, parse_refusal, HasLeast, type_refusal, IsProgramOf, HasNoProgram, BreaksBundle, bundle_refusal, HasNoQuery};
-ghost use Rattle.plans.specs.Steps.{refused};
+ghost use Rattle.deliveries.specs.Steps.{refused};
 
-use crate::fetch::Stop;
 use crate::lines::{
     bundle_refused, lex_refused, parse_refused, schema_refused, type_refused, word_refused,
 };
+use deliveries::fetch::Stop;
+use deliveries::found::{fault_of, value_of};
 use deriv_check::{Bundle, parse_bundle};
 use java_ast::Program;
 use java_lex::{Tokens, lex};
@@ -70,10 +71,10 @@ fn open_typed(alloc: Global, schema: &Schema, program: Program) -> Result<Typed,
     ensures typed { Goes result (λ t. IsWellTyped schema.now (read_by schema.now) (plain_program t.program))
         (refused (HasLeast schema.now (plain_program program)) type_refusal) }
 {
-    match check(alloc, schema, &program) {
-        Ok(typed) => Ok(typed),
-        Err(Fail::Fault(fault)) => Err(type_refused(alloc, &fault)),
-        Err(Fail::NoMemory) => Err(Stop::Memory),
+    match fault_of(check(alloc, schema, &program)) {
+        Ok(None) => Ok(Typed::of(program)),
+        Ok(Some(fault)) => Err(type_refused(alloc, &fault)),
+        Err(_) => Err(Stop::Memory),
     }
 }
 
@@ -103,9 +104,9 @@ pub fn open_bundle(alloc: Global, bytes: &[u8]) -> Result<Bundle, Stop>
 pub fn open_query(alloc: Global, schema: &Schema, text: &Text) -> Result<Query, Stop>
     ensures { Goes result (λ q. HasQuery schema.now text.now (plain_query q)) (HasNoQuery schema.now text.now) }
 {
-    match parse_query(alloc, schema, text) {
-        Ok(query) => Ok(query),
-        Err(Fail::Fault(_)) => Err(word_refused(alloc, TypeRule::BadQuery)),
-        Err(Fail::NoMemory) => Err(Stop::Memory),
+    match value_of(parse_query(alloc, schema, text)) {
+        Ok(Some(query)) => Ok(query),
+        Ok(None) => Err(word_refused(alloc, TypeRule::BadQuery)),
+        Err(_) => Err(Stop::Memory),
     }
 }

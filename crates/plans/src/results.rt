@@ -4,7 +4,7 @@ ghost use Rattle.std.specs.List.{flat_map};
 ghost use Rattle.verdicts.specs.Lines.{line};
 ghost use Rattle.plans.specs.Results.{names_of, result_text, output as output_of};
 
-use crate::Plan;
+use deliveries::Plan;
 use qbs_base::{Bytes, Names, NoMemory, Status, Table, Text, Value, print_value};
 use std::alloc::Global;
 

@@ -2,11 +2,11 @@
 ghost use Rattle.std.specs.Prelude.{◌≡◌, ◌<◌, ◌≤◌, ◌++◌, ◌∷◌, [], length, IfOk, OnOk, IfErr, slice_get, string_bytes};
 ghost use Rattle.qbs_base.specs.Outside.{Rose};
 ghost use Rattle.qbs_base.specs.Values.{IsDatabaseOf};
-ghost use Rattle.plans.specs.Plan.{given};
+ghost use Rattle.deliveries.specs.Plan.{given};
 ghost use Rattle.plans.specs.Tables.{table_file as file_of, IsFresh, Reads, Loads, LoadsNext, with_rows_at};
 
-use crate::fetch::{Stop, fetch};
 use crate::lines::data_refused;
+use deliveries::fetch::{Stop, fetch, left_behind};
 use qbs_base::{Bytes, Db, Fail, Files, Items, NoMemory, Rows, Table, Text};
 use schema::Schema;
 use schema_text::load_table;
@@ -50,7 +50,7 @@ pub fn fetch_tables<F: Files>(
         [table, rest @ ..] => {
             let name = table_file(alloc, folder, table)?;
             let text = fetch(alloc, files, &name, left, "tables")?;
-            let left = left - text.len() as u64;
+            let left = left_behind(left, &text);
             texts.push(text)?;
             fetch_tables(rest, alloc, files, folder, left, texts)
         }

@@ -15,11 +15,11 @@ use Rattle.java_mean.specs.Queries.{Reader}
 use Rattle.java_types.specs.Texts.{read_by}
 use Rattle.java_types.proofs.Found.{found_exactly}
 use Rattle.words.specs.declared.command.Options.{Options}
-use Rattle.plans.specs.declared.plan.Plan.{Plan}
+use Rattle.deliveries.specs.declared.plan.Plan.{Plan}
 use Rattle.plans.specs.Calls.{Call, Called, Calls, CallsNothing, arguments, method_at, method_named, word_refusal}
 use Rattle.plans.specs.Opening.{IsSchemaOf, schema_refusal}
 use Rattle.plans.specs.Lines.{fault_text}
-use Rattle.plans.specs.Plan.{Given, refusal}
+use Rattle.deliveries.specs.Plan.{Given, refusal}
 use Rattle.plans.specs.Tables.{most_bytes, AreRead, AreNotRead, over_tables, loaded, HasRows, data_refusal, IsFileOf, IsTableFile}
 use Rattle.plans.proofs.Called.{position_mapped}
 use Rattle.plans.proofs.Fetched.{as_many}

@@ -9,9 +9,9 @@ use Rattle.sql_exec.proofs.Judged.{is_answerable}
 use Rattle.java_mean.specs.Rules.{has_order}
 use Rattle.java_types.specs.Texts.{read_by}
 use Rattle.java_types.proofs.Found.{found_exactly}
-use Rattle.plans.specs.declared.fetch.Stop.{Stop}
-use Rattle.plans.specs.declared.plan.Plan.{Plan}
-use Rattle.plans.specs.Code.{Goes, OrMemory}
+use Rattle.deliveries.specs.declared.fetch.Stop.{Stop}
+use Rattle.deliveries.specs.declared.plan.Plan.{Plan}
+use Rattle.deliveries.specs.Code.{Goes, OrMemory}
 use Rattle.plans.specs.Opening.{HasNoQuery}
 use Rattle.qbs.specs.Code.{answer_of, answer_ordered}
 

@@ -14,9 +14,9 @@ use Rattle.rewrite_core.specs.declared.checking.Checked.{Checked}
 use Rattle.rewrite_core.specs.declared.checking.Checked.TheVariants as codes
 use Rattle.rewrite_core.specs.Checked.{checks_in, IfAll}
 use Rattle.rewrite_core.specs.Checking.{Checks, All, Refused, shown, or_refused, checked_from}
-use Rattle.plans.specs.declared.plan.Plan.{Plan}
-use Rattle.plans.specs.declared.fetch.Stop.{Stop}
-use Rattle.plans.specs.Code.{OrMemory}
+use Rattle.deliveries.specs.declared.plan.Plan.{Plan}
+use Rattle.deliveries.specs.declared.fetch.Stop.{Stop}
+use Rattle.deliveries.specs.Code.{OrMemory}
 use Rattle.qbs.specs.Check.{accepted_line, refused_line, tells, checks}
 
 abbrev plan_of : Status → List ℕ → Plan

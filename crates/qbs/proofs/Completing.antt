@@ -21,13 +21,13 @@ use Rattle.words.specs.declared.command.Options.{Options}
 use Rattle.words.specs.Plain.{HasWords}
 use Rattle.words.specs.Reading.{plain}
 use Rattle.words.proofs.Exact.{reads_plain_words}
-use Rattle.plans.specs.declared.plan.Plan.{Plan}
+use Rattle.deliveries.specs.declared.plan.Plan.{Plan}
 use Rattle.plans.specs.Calls.{Call, Called, Calls, CallsNothing, arguments, word_refusal}
 use Rattle.plans.specs.Opening.{BreaksBundle, bundle_refusal, has_bundle, IsSchemaOf, BreaksSchema, schema_refusal, IsProgramOf, HasNoProgram, has_schema, has_program}
-use Rattle.plans.specs.Deliver.{Change}
-use Rattle.plans.specs.Plan.{Given, not_yet}
+use Rattle.deliveries.specs.Deliver.{Change}
+use Rattle.deliveries.specs.Plan.{Given, not_yet}
 use Rattle.plans.specs.Results.{names_of}
-use Rattle.plans.specs.Steps.{Ends, step, refused, IsRead, IsNotRead, reads}
+use Rattle.deliveries.specs.Steps.{Ends, step, refused, IsRead, IsNotRead, reads}
 use Rattle.plans.specs.Tables.{table_file, most_bytes, AreRead, AreNotRead, reads_tables, IsFileOf, HasRows, LacksRows, data_refusal, has_rows}
 use Rattle.qbs.specs.Check.{tells, checks, check_of, check}
 use Rattle.qbs.specs.Commands.{without_store, command, IsDue}

@@ -16,11 +16,11 @@ use Rattle.words.specs.declared.command.Options.{Options}
 use Rattle.words.specs.Plain.{HasWords}
 use Rattle.words.specs.Reading.{plain}
 use Rattle.words.proofs.Exact.{reads_plain_words}
-use Rattle.plans.specs.declared.plan.Plan.{Plan}
-use Rattle.plans.specs.Deliver.{Change}
+use Rattle.deliveries.specs.declared.plan.Plan.{Plan}
+use Rattle.deliveries.specs.Deliver.{Change}
 use Rattle.plans.specs.Opening.{IsSchemaOf, IsProgramOf, HasNoProgram}
-use Rattle.plans.specs.Plan.{Given}
-use Rattle.plans.specs.Steps.{IsRead, IsNotRead}
+use Rattle.deliveries.specs.Plan.{Given}
+use Rattle.deliveries.specs.Steps.{IsRead, IsNotRead}
 use Rattle.qbs.specs.Check.{AreAccepted, accepted_line, tells, check_of, check}
 use Rattle.qbs.specs.Commands.{without_store, command, IsDue}
 use Rattle.qbs.specs.Evidence.{IsProved, IsProof, HasProof, IsAccepted, IsRefused, IsChecked, IsCheck, HasCheck}

@@ -13,18 +13,18 @@ use Rattle.java_types.specs.Texts.{read_by}
 use Rattle.rewrite_core.specs.Rewriting.{verdicts_of}
 use Rattle.rewrite_core.specs.Trying.{all_tried}
 use Rattle.sample.specs.Class.{sample_program}
-use Rattle.sample.specs.Tables.{sample_schema, sample_rows}
+use Rattle.sample_data.specs.Tables.{sample_schema, sample_rows}
 use Rattle.sql_ast.specs.Meaning as meaning
 use Rattle.sql_ast.specs.Meaning.{Answered, query_answer}
 use Rattle.words.specs.declared.command.Command.{Command}
 use Rattle.words.specs.declared.command.Command.TheVariants as commands
 use Rattle.words.specs.declared.command.Options.{Options}
-use Rattle.plans.specs.declared.plan.Plan.{Plan}
+use Rattle.deliveries.specs.declared.plan.Plan.{Plan}
 use Rattle.plans.specs.Calls.{Call}
 use Rattle.plans.specs.Opening.{HasNoProgram}
-use Rattle.plans.specs.Plan.{Given, not_yet}
+use Rattle.deliveries.specs.Plan.{Given, not_yet}
 use Rattle.plans.specs.Results.{names_of}
-use Rattle.plans.specs.Steps.{Ends, IsNotRead}
+use Rattle.deliveries.specs.Steps.{Ends, IsNotRead}
 use Rattle.plans.specs.Tables.{AreNotRead}
 use Rattle.qbs.specs.Check.{tells, check_of, check}
 use Rattle.qbs.specs.Commands.{without_store, command}

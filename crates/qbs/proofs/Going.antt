@@ -1,9 +1,9 @@
 -- A step of a command: it goes on, or it is stopped.
 use Rattle.std.proofs.Common.{Result, Ok, Err, inl, inr}
-use Rattle.plans.specs.declared.plan.Plan.{Plan}
-use Rattle.plans.specs.declared.fetch.Stop.{Stop}
-use Rattle.plans.specs.Code.{Goes, OrMemory}
-use Rattle.plans.specs.Steps.{Ends, step}
+use Rattle.deliveries.specs.declared.plan.Plan.{Plan}
+use Rattle.deliveries.specs.declared.fetch.Stop.{Stop}
+use Rattle.deliveries.specs.Code.{Goes, OrMemory}
+use Rattle.deliveries.specs.Steps.{Ends, step}
 
 -- what is due behind the step is due
 pub goes_on : {B : Type 0} (Is : B → Type 0) (Stops : Ends) (next : B → Ends) (b : B) (result : Result Plan Stop) → Is b → OrMemory result (next b) → OrMemory result (step {B = B} Is Stops next)

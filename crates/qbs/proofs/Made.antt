@@ -17,11 +17,11 @@ use Rattle.verdicts.specs.declared.verdict.LoopVerdict.{LoopVerdict}
 use Rattle.rewrite_core.specs.Rewriting.{verdicts_of, StandAsTried}
 use Rattle.rewrite_core.specs.Trying.{all_tried, rewritten}
 use Rattle.sample.specs.Class.{sample_program}
-use Rattle.sample.specs.Tables.{sample_schema, sample_rows}
+use Rattle.sample_data.specs.Tables.{sample_schema, sample_rows}
 use Rattle.sample.proofs.Typed.{well_typed}
-use Rattle.plans.specs.declared.plan.Plan.{Plan}
-use Rattle.plans.specs.declared.fetch.Stop.{Stop}
-use Rattle.plans.specs.Code.{Goes, OrMemory}
+use Rattle.deliveries.specs.declared.plan.Plan.{Plan}
+use Rattle.deliveries.specs.declared.fetch.Stop.{Stop}
+use Rattle.deliveries.specs.Code.{Goes, OrMemory}
 use Rattle.plans.specs.Results.{names_of}
 use Rattle.plans.proofs.Loading.{drop_held, all_dropped}
 use Rattle.qbs.specs.Code.{HasRun, HasNoRun}

@@ -28,10 +28,10 @@ use Rattle.schema.specs.Schemas.{schema_of}
 use Rattle.sql_ast.specs.Texts.{HasQuery}
 use Rattle.sql_ast.specs.Tree.{PlainQuery}
 use Rattle.sql_ast.specs.Valid.{params_in}
-use Rattle.plans.specs.declared.plan.Plan.{Plan}
+use Rattle.deliveries.specs.declared.plan.Plan.{Plan}
 use Rattle.plans.specs.Calls.{Call, Called, Calls, CallsNothing, arguments, method_named, word_refusal}
 use Rattle.plans.specs.Opening.{BreaksBundle, bundle_refusal, IsSchemaOf, BreaksSchema, schema_refusal, lex_refusal, parse_refusal, type_refusal, IsProgramOf, HasNoProgram}
-use Rattle.plans.specs.Steps.{refused}
+use Rattle.deliveries.specs.Steps.{refused}
 use Rattle.plans.specs.Tables.{loaded, HasRows, LacksRows, data_refusal}
 use Rattle.qbs.specs.Sql.{IsAsked, AsksNothing}
 use Rattle.qbs.proofs.OneStep.{IsOne, ok_same, decided, decided_by, err_of}

@@ -14,7 +14,7 @@ use Rattle.rewrite_core.specs.Patches.{patched_text}
 use Rattle.rewrite_core.specs.Rewriting.{verdicts_of}
 use Rattle.rewrite_core.specs.Trying.{all_tried, rewritten}
 use Rattle.sample.specs.Class.{sample_program}
-use Rattle.sample.specs.Tables.{sample_schema, sample_rows}
+use Rattle.sample_data.specs.Tables.{sample_schema, sample_rows}
 use Rattle.sql_ast.specs.Meaning.{query_answer}
 use Rattle.words.specs.declared.command.Command.{Command}
 use Rattle.words.specs.declared.command.Command.TheVariants as commands
@@ -22,12 +22,12 @@ use Rattle.words.specs.declared.command.Options.{Options}
 use Rattle.words.specs.Plain.{HasWords}
 use Rattle.words.specs.Reading.{plain}
 use Rattle.words.proofs.Exact.{reads_plain_words}
-use Rattle.plans.specs.declared.plan.Plan.{Plan}
+use Rattle.deliveries.specs.declared.plan.Plan.{Plan}
 use Rattle.plans.specs.Calls.{Call, Calls, CallsNothing, word_refusal}
 use Rattle.plans.specs.Opening.{BreaksBundle, bundle_refusal, has_bundle, IsSchemaOf, BreaksSchema, schema_refusal, IsProgramOf, HasNoProgram, has_schema, has_program}
-use Rattle.plans.specs.Plan.{Given, not_yet}
+use Rattle.deliveries.specs.Plan.{Given, not_yet}
 use Rattle.plans.specs.Results.{names_of}
-use Rattle.plans.specs.Steps.{Ends, refused, IsRead, IsNotRead, reads}
+use Rattle.deliveries.specs.Steps.{Ends, refused, IsRead, IsNotRead, reads}
 use Rattle.plans.specs.Tables.{most_bytes, AreRead, AreNotRead, reads_tables, IsFileOf, IsTableFile, HasRows, LacksRows, data_refusal, has_rows}
 use Rattle.qbs.specs.Check.{tells, checks, check_of, check}
 use Rattle.qbs.specs.Commands.{without_store, command, AreRefused}

@@ -2,9 +2,9 @@
 use Rattle.std.proofs.Common.{◌≡◌, ℕ, ◌<◌, ◌≤◌, ◌-◌, inl, inr, List, [], ◌∷◌, length, Option, Some, None, IfSome, subst, sym, refl, ap, ◌∙◌, arith, codes}
 use Rattle.std.specs.Prelude.{IsSome}
 use Rattle.qbs_base.specs.declared.columns.Table.{Table}
-use Rattle.plans.specs.declared.plan.Plan.{Plan}
-use Rattle.plans.specs.Plan.{Given}
-use Rattle.plans.specs.Steps.{IsRead, IsNotRead}
+use Rattle.deliveries.specs.declared.plan.Plan.{Plan}
+use Rattle.deliveries.specs.Plan.{Given}
+use Rattle.deliveries.specs.Steps.{IsRead, IsNotRead}
 use Rattle.plans.specs.Tables.{table_file, AreRead, AreNotRead, IsFileOf}
 use Rattle.qbs.proofs.OneStep.{IsOne}
 

@@ -1,7 +1,7 @@
 -- Where each step is so or stopped in one way, a command has one plan.
 use Rattle.std.proofs.Common.{◌≡◌, inl, inr, Result, Ok, Err, subst, sym, ap, ◌∙◌}
-use Rattle.plans.specs.declared.plan.Plan.{Plan}
-use Rattle.plans.specs.Steps.{Ends, ends, step, refused}
+use Rattle.deliveries.specs.declared.plan.Plan.{Plan}
+use Rattle.deliveries.specs.Steps.{Ends, ends, step, refused}
 use Rattle.qbs.specs.Top.{Alike}
 
 -- one thing is so, or one plan stops, and never both

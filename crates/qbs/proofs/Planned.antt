@@ -3,12 +3,12 @@ use Rattle.std.proofs.Common.{◌≡◌, ℕ, List, [], ◌++◌, Option, Result
 use Rattle.qbs_base.specs.Values.{Schema}
 use Rattle.qbs_base.specs.declared.columns.Table.{Table}
 use Rattle.words.specs.declared.command.Options.{Options}
-use Rattle.plans.specs.declared.plan.Plan.{Plan}
-use Rattle.plans.specs.declared.fetch.Stop.{Stop}
-use Rattle.plans.specs.Code.{Goes, OrMemory}
+use Rattle.deliveries.specs.declared.plan.Plan.{Plan}
+use Rattle.deliveries.specs.declared.fetch.Stop.{Stop}
+use Rattle.deliveries.specs.Code.{Goes, OrMemory}
 use Rattle.plans.specs.Opening.{IsSchemaOf, BreaksSchema, schema_refusal}
-use Rattle.plans.specs.Plan.{Given}
-use Rattle.plans.specs.Steps.{Ends, refused, IsRead, IsNotRead, reads}
+use Rattle.deliveries.specs.Plan.{Given}
+use Rattle.deliveries.specs.Steps.{Ends, refused, IsRead, IsNotRead, reads}
 use Rattle.plans.specs.Tables.{most_bytes, AreRead, AreNotRead, Reads, reads_tables, over_tables}
 use Rattle.plans.proofs.Fetched.{read_there, not_read_there, are_read_there, are_not_read_there}
 use Rattle.qbs.specs.Pruners.{May}

@@ -19,7 +19,7 @@ use Rattle.rewrite_core.specs.Rewriting.{bundle_of, verdicts_of, StandAsTried}
 use Rattle.rewrite_core.specs.Trying.{all_tried, rewritten}
 use Rattle.rewrite_core.proofs.AcceptedBundles.{bundle_accepted}
 use Rattle.rewrite_core.proofs.WritableBundles.{bundle_writable}
-use Rattle.plans.specs.declared.plan.Plan.{Plan}
+use Rattle.deliveries.specs.declared.plan.Plan.{Plan}
 use Rattle.plans.specs.Opening.{IsProgramOf}
 use Rattle.verdicts.specs.Reports.{verdict_line, pruned_line}
 use Rattle.qbs.specs.Pruners.{May}

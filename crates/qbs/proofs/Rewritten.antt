@@ -4,12 +4,12 @@ use Rattle.rewrite_core.specs.Trying.{rewritten}
 use Rattle.qbs_base.specs.Values.{Schema}
 use Rattle.java_ast.specs.Tree.{PlainProgram}
 use Rattle.words.specs.declared.command.Options.{Options}
-use Rattle.plans.specs.declared.plan.Plan.{Plan}
-use Rattle.plans.specs.declared.fetch.Stop.{Stop}
-use Rattle.plans.specs.Code.{Goes, OrMemory}
+use Rattle.deliveries.specs.declared.plan.Plan.{Plan}
+use Rattle.deliveries.specs.declared.fetch.Stop.{Stop}
+use Rattle.deliveries.specs.Code.{Goes, OrMemory}
 use Rattle.plans.specs.Opening.{IsSchemaOf, BreaksSchema, schema_refusal, IsProgramOf, HasNoProgram}
 use Rattle.plans.specs.Calls.{Call}
-use Rattle.plans.specs.Steps.{refused}
+use Rattle.deliveries.specs.Steps.{refused}
 use Rattle.qbs.specs.Code.{run_called}
 use Rattle.qbs.specs.Pruners.{May}
 use Rattle.qbs.specs.Prove.{Proves, prove_of}

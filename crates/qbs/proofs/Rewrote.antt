@@ -14,7 +14,7 @@ use Rattle.rewrite_core.specs.Patches.{patched_text}
 use Rattle.rewrite_core.specs.Pruned.{ArePruned}
 use Rattle.rewrite_core.specs.Rewriting.{verdicts_of, StandAsTried}
 use Rattle.rewrite_core.specs.Trying.{all_tried, rewritten}
-use Rattle.plans.specs.declared.plan.Plan.{Plan}
+use Rattle.deliveries.specs.declared.plan.Plan.{Plan}
 use Rattle.plans.specs.Opening.{IsProgramOf}
 use Rattle.verdicts.specs.Reports.{verdict_line, pruned_line}
 use Rattle.qbs.specs.Pruners.{May}

@@ -12,7 +12,7 @@ use Rattle.java_types.proofs.Found.{found_exactly}
 use Rattle.sql_ast.specs.Texts.{HasQuery}
 use Rattle.sql_ast.specs.Tree.{PlainQuery}
 use Rattle.sql_ast.specs.Valid.{params_in}
-use Rattle.plans.specs.declared.plan.Plan.{Plan}
+use Rattle.deliveries.specs.declared.plan.Plan.{Plan}
 use Rattle.plans.specs.Calls.{Call, arguments, method_named}
 use Rattle.plans.specs.Tables.{TableFault, loaded}
 use Rattle.qbs.specs.Code.{run_over, run_on, run_named, run_called, answer_over, answer_with, answer_ordered, answer_of}

@@ -7,10 +7,10 @@ use Rattle.words.specs.declared.command.Options.{Options}
 use Rattle.words.specs.Plain.{HasWords}
 use Rattle.words.specs.Reading.{plain}
 use Rattle.words.proofs.Exact.{reads_plain_words}
-use Rattle.plans.specs.declared.plan.Plan.{Plan}
-use Rattle.plans.specs.declared.fetch.Stop.{Stop}
-use Rattle.plans.specs.Code.{OrMemory, StopsFor}
-use Rattle.plans.specs.Plan.{Given}
+use Rattle.deliveries.specs.declared.plan.Plan.{Plan}
+use Rattle.deliveries.specs.declared.fetch.Stop.{Stop}
+use Rattle.deliveries.specs.Code.{OrMemory, StopsFor}
+use Rattle.deliveries.specs.Plan.{Given}
 use Rattle.qbs.specs.Commands.{without_store, command, HasNoWords, AreRefused, program}
 use Rattle.qbs.specs.Check.{check}
 use Rattle.qbs.specs.Make.{make}

@@ -11,8 +11,8 @@ use Rattle.deriv_check.specs.Bundles.{Entry}
 use Rattle.rewrite_core.specs.Checking.{Checks, All, Refused, checked_from}
 use Rattle.plans.specs.Opening.{has_schema, has_program, has_bundle}
 use Rattle.verdicts.specs.Lines.{line}
-use Rattle.plans.specs.Plan.{Given}
-use Rattle.plans.specs.Steps.{Ends, reads}
+use Rattle.deliveries.specs.Plan.{Given}
+use Rattle.deliveries.specs.Steps.{Ends, reads}
 
 -- ---- What is written
 

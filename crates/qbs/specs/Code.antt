@@ -15,10 +15,10 @@ use Rattle.java_types.specs.Texts.{read_by}
 use Rattle.sql_ast.specs.Meaning.{query_answer}
 use Rattle.sql_ast.specs.Tree.{PlainQuery}
 use Rattle.sql_ast.specs.Valid.{params_in}
-use Rattle.plans.specs.declared.plan.Plan.{Plan}
+use Rattle.deliveries.specs.declared.plan.Plan.{Plan}
 use Rattle.plans.specs.Calls.{Call, arguments, method_named, word_refusal}
 use Rattle.plans.specs.Results.{names_of}
-use Rattle.plans.specs.Steps.{Ends}
+use Rattle.deliveries.specs.Steps.{Ends}
 use Rattle.plans.specs.Tables.{TableFault, loaded, data_refusal}
 use Rattle.qbs.specs.declared.run.Asked.{Asked}
 use Rattle.qbs.specs.Make.{method_text, IsResult, IsNotDone, outcome_over}

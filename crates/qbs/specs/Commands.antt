@@ -5,8 +5,8 @@ use Rattle.std.specs.declared.option.Option.TheVariants.{Some, None}
 use Rattle.words.specs.declared.command.Command.{Command}
 use Rattle.words.specs.declared.command.Command.TheVariants as commands
 use Rattle.words.specs.Plain.{HasWords}
-use Rattle.plans.specs.Plan.{Given, no_memory, not_yet, bad_words}
-use Rattle.plans.specs.Steps.{Ends, ends, step}
+use Rattle.deliveries.specs.Plan.{Given, no_memory, not_yet, bad_words}
+use Rattle.deliveries.specs.Steps.{Ends, ends, step}
 use Rattle.qbs.specs.Check.{check}
 use Rattle.qbs.specs.Pruners.{May}
 use Rattle.qbs.specs.Prove.{prove}

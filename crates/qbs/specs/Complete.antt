@@ -14,7 +14,7 @@ use Rattle.words.specs.declared.command.Command.TheVariants as commands
 use Rattle.words.specs.Plain.{HasWords}
 use Rattle.plans.specs.Calls.{Call, Called, Calls}
 use Rattle.plans.specs.Opening.{IsSchemaOf, IsProgramOf}
-use Rattle.plans.specs.Plan.{Given}
+use Rattle.deliveries.specs.Plan.{Given}
 use Rattle.plans.specs.Tables.{table_file, most_bytes, HasRows}
 use Rattle.qbs.specs.Sql.{IsAsked}
 

@@ -13,10 +13,10 @@ use Rattle.rewrite_core.specs.Trying.{all_tried, rewritten}
 use Rattle.words.specs.declared.command.Command.TheVariants as commands
 use Rattle.words.specs.declared.command.Options.{Options}
 use Rattle.words.specs.Plain.{HasWords}
-use Rattle.plans.specs.Deliver.{Change}
+use Rattle.deliveries.specs.Deliver.{Change}
 use Rattle.plans.specs.Opening.{IsSchemaOf, IsProgramOf}
-use Rattle.plans.specs.Plan.{Given}
-use Rattle.plans.specs.Steps.{IsRead}
+use Rattle.deliveries.specs.Plan.{Given}
+use Rattle.deliveries.specs.Steps.{IsRead}
 use Rattle.qbs.specs.Check.{AreAccepted, accepted_line, refused_line}
 use Rattle.qbs.specs.Reports.{report_text}
 use Rattle.qbs.specs.Pruners.{May}

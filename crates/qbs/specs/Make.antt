@@ -18,13 +18,13 @@ use Rattle.verdicts.specs.declared.verdict.LoopVerdict.{LoopVerdict}
 use Rattle.rewrite_core.specs.Rewriting.{verdicts_of}
 use Rattle.rewrite_core.specs.Trying.{all_tried}
 use Rattle.sample.specs.Class.{sample_program}
-use Rattle.sample.specs.Tables.{sample_schema, sample_rows}
-use Rattle.plans.specs.declared.plan.Plan.{Plan}
+use Rattle.sample_data.specs.Tables.{sample_schema, sample_rows}
+use Rattle.deliveries.specs.declared.plan.Plan.{Plan}
 use Rattle.plans.specs.Lines.{fault_text}
 use Rattle.verdicts.specs.Lines.{line}
-use Rattle.plans.specs.Plan.{refusal}
+use Rattle.deliveries.specs.Plan.{refusal}
 use Rattle.plans.specs.Results.{names_of}
-use Rattle.plans.specs.Steps.{Ends, ends, step}
+use Rattle.deliveries.specs.Steps.{Ends, ends, step}
 use Rattle.qbs.specs.Run.{IsChosen}
 
 -- ---- The summary

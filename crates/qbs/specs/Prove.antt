@@ -10,10 +10,10 @@ use Rattle.rewrite_core.specs.Pruned.{ArePruned}
 use Rattle.rewrite_core.specs.Rewriting.{bundle_of}
 use Rattle.rewrite_core.specs.Trying.{all_tried, rewritten}
 use Rattle.words.specs.declared.command.Options.{Options}
-use Rattle.plans.specs.declared.plan.Plan.{Plan}
+use Rattle.deliveries.specs.declared.plan.Plan.{Plan}
 use Rattle.plans.specs.Opening.{has_schema, has_program}
-use Rattle.plans.specs.Plan.{Given}
-use Rattle.plans.specs.Steps.{Ends, reads}
+use Rattle.deliveries.specs.Plan.{Given}
+use Rattle.deliveries.specs.Steps.{Ends, reads}
 use Rattle.qbs.specs.Pruners.{May}
 use Rattle.qbs.specs.Rewrite.{size_of, budget_of, IsRewriting, rewriting_plan}
 

@@ -10,9 +10,9 @@ use Rattle.words.specs.declared.command.Options.{Options}
 use Rattle.plans.specs.Calls.{Call, Called, has_call}
 use Rattle.plans.specs.Lines.{fault_text}
 use Rattle.plans.specs.Opening.{has_program}
-use Rattle.plans.specs.Plan.{Given, refusal}
+use Rattle.deliveries.specs.Plan.{Given, refusal}
 use Rattle.plans.specs.Results.{output}
-use Rattle.plans.specs.Steps.{Ends, step, reads}
+use Rattle.deliveries.specs.Steps.{Ends, step, reads}
 use Rattle.plans.specs.Tables.{over_tables, has_rows}
 use Rattle.qbs.specs.Rewrite.{or_default, size_of, budget_of, IsRewriting}
 

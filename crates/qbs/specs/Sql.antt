@@ -13,12 +13,12 @@ use Rattle.sql_ast.specs.Meaning.{Answered, query_answer}
 use Rattle.sql_ast.specs.Texts.{HasQuery}
 use Rattle.sql_ast.specs.Tree.{PlainQuery}
 use Rattle.sql_ast.specs.Valid.{params_in}
-use Rattle.plans.specs.declared.plan.Plan.{Plan}
+use Rattle.deliveries.specs.declared.plan.Plan.{Plan}
 use Rattle.plans.specs.Calls.{word_refusal}
 use Rattle.plans.specs.Lines.{fault_text, nowhere}
-use Rattle.plans.specs.Plan.{Given, refusal}
+use Rattle.deliveries.specs.Plan.{Given, refusal}
 use Rattle.plans.specs.Results.{output}
-use Rattle.plans.specs.Steps.{Ends, ends, finds, reads}
+use Rattle.deliveries.specs.Steps.{Ends, ends, finds, reads}
 use Rattle.plans.specs.Tables.{over_tables, has_rows}
 
 -- ---- The query

@@ -7,9 +7,9 @@ use Rattle.qbs_base.specs.Outside.{AppendsPrefix}
 use Rattle.words.specs.declared.command.Command.{Command}
 use Rattle.words.specs.declared.command.Command.TheVariants as commands
 use Rattle.words.specs.Plain.{HasWords}
-use Rattle.plans.specs.declared.plan.Plan.{Plan}
-use Rattle.plans.specs.Deliver.{Change, Delivers}
-use Rattle.plans.specs.Plan.{Given}
+use Rattle.deliveries.specs.declared.plan.Plan.{Plan}
+use Rattle.deliveries.specs.Deliver.{Change, Delivers}
+use Rattle.deliveries.specs.Plan.{Given}
 use Rattle.plans.specs.Tables.{IsTableFile}
 use Rattle.qbs.specs.Commands.{HasNoWords, program, IsDue}
 use Rattle.verdicts.specs.Reports.{pruned_line}

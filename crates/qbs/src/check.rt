@@ -5,14 +5,14 @@ ghost use Rattle.java_ast.specs.Reading.{program as plain_program};
 ghost use Rattle.java_mean.specs.WellTyped.{IsWellTyped};
 ghost use Rattle.java_types.specs.Texts.{read_by};
 ghost use Rattle.deriv_check.specs.Bundles.{entries_of};
-ghost use Rattle.plans.specs.Code.{OrMemory};
-ghost use Rattle.plans.specs.Plan.{given};
+ghost use Rattle.deliveries.specs.Code.{OrMemory};
+ghost use Rattle.deliveries.specs.Plan.{given};
 ghost use Rattle.qbs.specs.Check.{accepted_line, refused_line, checks, check_of, check};
 
+use deliveries::Plan;
+use deliveries::fetch::{Stop, fetch, fetch_schema, fetch_source};
 use deriv_check::Bundle;
 use java_types::Typed;
-use plans::Plan;
-use plans::fetch::{Stop, fetch, fetch_schema, fetch_source};
 use plans::opening::{open_bundle, open_program, open_schema};
 use qbs_base::{Bytes, Files, Status, Text};
 use rewrite_core::{Checked, check_bundle};

@@ -5,7 +5,7 @@ ghost use Rattle.qbs_base.specs.declared.status.Status.{Status};
 ghost use Rattle.words.specs.declared.command.Options.{Options};
 ghost use Rattle.plans.specs.Calls.{Call};
 ghost use Rattle.plans.specs.Tables.{IsTableFile};
-ghost use Rattle.plans.specs.declared.plan.Plan.{Plan};
+ghost use Rattle.deliveries.specs.declared.plan.Plan.{Plan};
 ghost use Rattle.qbs.specs.Run.{run};
 
 /// Wherever a run ends without fault, the run of the rewritten program writes the same.

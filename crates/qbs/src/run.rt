@@ -7,8 +7,8 @@ ghost use Rattle.java_mean.specs.WellTyped.{IsWellTyped};
 ghost use Rattle.java_types.specs.Texts.{read_by};
 ghost use Rattle.rewrite_core.specs.Output.{IsSourceOf};
 ghost use Rattle.rewrite_core.specs.Trying.{rewritten as rewritten_in};
-ghost use Rattle.plans.specs.Code.{OrMemory, one_run};
-ghost use Rattle.plans.specs.Plan.{given};
+ghost use Rattle.deliveries.specs.Code.{OrMemory, one_run};
+ghost use Rattle.deliveries.specs.Plan.{given};
 ghost use Rattle.plans.specs.Tables.{over_tables};
 ghost use Rattle.qbs.specs.Code.{call_in, run_called};
 ghost use Rattle.qbs.specs.Rewrite.{size_of as size_in, budget_of as budget_in, IsRewriting};
@@ -16,13 +16,13 @@ ghost use Rattle.qbs.specs.Run.{run as runs, run_of, IsChosen, chooses, call_of,
 ghost use Rattle.qbs.specs.Within.{AreWithin};
 
 use crate::rewrite::{budget_of, size_of};
+use deliveries::Plan;
+use deliveries::choice::program_run;
+use deliveries::fetch::{Stop, fetch_schema, fetch_source, refused};
 use java_interp::{Outcome, run_method};
 use java_mean::TypeRule;
 use java_types::Typed;
-use plans::Plan;
 use plans::arguments::{find_method, read_arguments};
-use plans::choice::program_run;
-use plans::fetch::{Stop, fetch_schema, fetch_source, refused};
 use plans::lines::{fault_refused, word_refused};
 use plans::opening::{open_program, open_schema};
 use plans::results::output;

@@ -1,4 +1,3 @@
 pub mod Classes
-pub mod Rows
 pub mod Schema
 pub mod Typed

@@ -8,7 +8,7 @@ use Rattle.schema.specs.Reading.{sized_at, type_at, mark_at, marks_at, rest_at, 
 use Rattle.schema.specs.Schemas.{schema_of}
 use Rattle.schema.specs.Series.{series_up_to}
 use Rattle.schema.specs.Tokens.{piece_of, tokens_from}
-use Rattle.sample.specs.Tables.{sample_schema, sample_text}
+use Rattle.sample_data.specs.Tables.{sample_schema, sample_text}
 
 abbrev some_tables : List Table → Result (List Table) SchemaFault
 some_tables tables = Ok tables

@@ -6,7 +6,7 @@ use Rattle.qbs_base.specs.declared.span.Span.{Span}
 use Rattle.java_ast.specs.declared.tree.Access.TheVariants as access
 use Rattle.java_ast.specs.declared.tree.Op.TheVariants as ops
 use Rattle.java_ast.specs.Tree.{Spelled, Long, String, Table, ListOf, SetOf, Expression, Lit, Var, Field, Binary, Fetch, NewList, NewSet, Statement, Declare, Assign, Add, If, ForEach, Return, Statements, Nothing, Then, PlainMethod, PlainProgram}
-use Rattle.sample.specs.Tables.{User, Role}
+use Rattle.sample_data.specs.Tables.{User, Role}
 
 abbrev pub nowhere : Span
 nowhere = record { line = 0; column = 0; start = 0; end = 0 }

@@ -5,7 +5,7 @@ use Rattle.java_ast.specs.Tree.{Spelled, Long, String, Table, ListOf, SetOf, Exp
 use Rattle.sample.specs.declared.build.Given.{Given}
 use Rattle.sample.specs.declared.build.Given.TheVariants as given
 use Rattle.sample.specs.Class.{nowhere}
-use Rattle.sample.specs.Tables.{User}
+use Rattle.sample_data.specs.Tables.{User}
 
 abbrev pub given_type : Given → Spelled
 given_type given.Users = ListOf (Table User)

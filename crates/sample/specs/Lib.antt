@@ -1,3 +1,2 @@
 pub mod Class
 pub mod Given
-pub mod Tables

@@ -6,7 +6,7 @@ ghost use Rattle.java_ast.specs.Path.{and_then};
 ghost use Rattle.java_ast.specs.Tree as plain;
 ghost use Rattle.sample.specs.Class as specs;
 ghost use Rattle.sample.specs.Given.{given_type, given_start};
-ghost use Rattle.sample.specs.Tables.{User};
+ghost use Rattle.sample_data.specs.Tables.{User};
 
 use java_ast::{Access, Expr, ExprNode, JTy, Method, Methods, Op, Params, Stmt, StmtNode, Stmts};
 use qbs_base::{Name, NoMemory, Scalar, Span};

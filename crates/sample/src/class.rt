@@ -8,6 +8,7 @@ use crate::build::{
 };
 use java_ast::{Methods, Op, Program};
 use qbs_base::{Name, NoMemory, Texts};
+use sample_data::operands;
 use std::alloc::Global;
 
 // The users that are active.
@@ -25,7 +26,8 @@ fn put_pairs(methods: &mut Methods, alloc: Global) -> Result<(), NoMemory>
 {
     let user = field(alloc, "u", "roleId")?;
     let role = field(alloc, "r", "id")?;
-    let cond = binary(alloc, Op::Eq, user, role)?;
+    let (left, right) = operands(user, role);
+    let cond = binary(alloc, Op::Eq, left, right)?;
     let add = adding(alloc, "out", field(alloc, "r", "label")?)?;
     let walked = where_so(alloc, cond, add)?;
     let mut body = Vec::new(alloc);

@@ -1,4 +1,4 @@
-//! The tables and the class that `make` runs.
+//! The class that `make` runs, and the schema of its tables.
 #![tactic(auto)]
 
 mod build;
@@ -7,4 +7,4 @@ pub mod laws;
 mod tables;
 
 pub use class::sample_class;
-pub use tables::{sample_schema, sample_tables};
+pub use tables::sample_schema;

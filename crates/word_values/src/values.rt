@@ -30,7 +30,12 @@ fn is_decimal(alloc: Global, word: &str, number: u64) -> Result<bool, AllocError
 }
 
 /// The number that the word is the decimal digits of, where it lies within the range.
-pub fn number_within(alloc: Global, word: &str, low: u64, high: u64) -> Result<Option<u64>, AllocError>
+pub fn number_within(
+    alloc: Global,
+    word: &str,
+    low: u64,
+    high: u64,
+) -> Result<Option<u64>, AllocError>
     ensures { IfOk result (λ n. n ≡ number_within low high word.now) }
 {
     let Ok(number) = word.parse::<u64>() else {

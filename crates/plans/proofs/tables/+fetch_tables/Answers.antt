@@ -1,7 +1,7 @@
 use Rattle.std.proofs.Common.{length, take, drop, ◌-◌}
 use Rattle.std.proofs.lemmas.Result.{err_from_is_err_and}
 use Rattle.qbs_base.specs.Outside.{Rose}
-use Rattle.plans.specs.Plan.{given}
+use Rattle.deliveries.specs.Plan.{given}
 use Rattle.plans.proofs.Fetched.{rose_later, first_of, fetch_stopped, reads_on}
 use Rattle.plans.proofs.tables.+fetch_tables.Goals as goal
 
@@ -18,4 +18,4 @@ returns-in_ok-push-in-len1-up-clause-read g n c =
     c.args.folder.now c.args.tables.now c.table-item.result (take (length c.args.tables.now - 1) (drop 1 c.args.tables.now)) c.args.left c.in_ok-text-in-len1-up.text c.args.texts.now c.push.new.self c.fetch_tables.new.texts c.in_ok-name-in-len1-up.name c.fetch_tables.result
     c.fetch.ensures.same (rose_later (g.F.Files.faults c.args.files.now) (g.F.Files.faults c.fetch.new.files) (g.F.Files.faults c.fetch_tables.new.files) c.fetch.ensures.later)
     (first_of c.args.tables.now c.table-item.result c.in-len1-up.len_at_least c.table-item.is) c.in_ok-name-in-len1-up.ensures c.in_ok-text-in-len1-up.ensures.read c.in_ok-push-in-len1-up.ensures.ok
-    (rw c.len.ensures at c.fetch_tables.ensures.read)
+    (rw c.left_behind-left.ensures at c.fetch_tables.ensures.read)

@@ -1,9 +1,9 @@
 use Rattle.std.proofs.Common.{List, ℕ, Err, subst, refl, ◌∙◌, codes}
 use Rattle.std.proofs.lemmas.Result.{err_from_is_err_and}
 use Rattle.qbs_base.specs.Outside.{Rose}
-use Rattle.plans.specs.Code.{OrMemory}
-use Rattle.plans.specs.Plan.{given}
-use Rattle.plans.specs.Steps.{Ends, reads}
+use Rattle.deliveries.specs.Code.{OrMemory}
+use Rattle.deliveries.specs.Plan.{given}
+use Rattle.deliveries.specs.Steps.{Ends, reads}
 use Rattle.plans.proofs.Fetched.{rose_later, told_later}
 use Rattle.qbs.specs.Check.{check_of}
 use Rattle.qbs.proofs.Planned.{unread_there, read_on}

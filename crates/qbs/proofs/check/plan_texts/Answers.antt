@@ -6,7 +6,7 @@ use Rattle.java_types.specs.declared.checking.Typed.{Typed}
 use Rattle.deriv_check.specs.Bundles.{entries_of}
 use Rattle.deriv_check.specs.Grammar.{HasBundle}
 use Rattle.plans.specs.Opening.{BreaksBundle, bundle_refusal, has_bundle, IsSchemaOf, BreaksSchema, schema_refusal, IsProgramOf, HasNoProgram, has_program}
-use Rattle.plans.specs.Steps.{refused}
+use Rattle.deliveries.specs.Steps.{refused}
 use Rattle.qbs.specs.Check.{checks}
 use Rattle.qbs.proofs.Going.{goes_on, stops_at}
 use Rattle.qbs.proofs.check.plan_texts.Goals as goal

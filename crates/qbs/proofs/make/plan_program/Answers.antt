@@ -1,7 +1,7 @@
 use Rattle.std.proofs.Common.{ℕ, Vec, Global, sym, ap, subst, ◌∙◌}
 use Rattle.java_ast.specs.declared.tree.Program.{Program}
 use Rattle.java_ast.specs.Reading.{program as plain_program}
-use Rattle.plans.specs.Code.{OrMemory}
+use Rattle.deliveries.specs.Code.{OrMemory}
 use Rattle.qbs.specs.Make.{loops_text, runs, TakeNone}
 use Rattle.qbs.proofs.Made.{left_takes_none, made}
 use Rattle.qbs.proofs.make.plan_program.Goals as goal

@@ -1,8 +1,8 @@
 use Rattle.std.proofs.Common.{List, ℕ, subst, ◌∙◌}
 use Rattle.std.proofs.lemmas.Result.{err_from_is_err_and}
 use Rattle.qbs_base.specs.Outside.{Rose}
-use Rattle.plans.specs.Code.{OrMemory}
-use Rattle.plans.specs.Plan.{given}
+use Rattle.deliveries.specs.Code.{OrMemory}
+use Rattle.deliveries.specs.Plan.{given}
 use Rattle.plans.specs.Tables.{over_tables}
 use Rattle.plans.proofs.Fetched.{rose_later, told_later}
 use Rattle.qbs.specs.Code.{call_in}

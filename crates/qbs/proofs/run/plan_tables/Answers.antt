@@ -2,8 +2,8 @@ use Rattle.std.proofs.Common.{List, ℕ, ◌++◌, subst, ◌∙◌, ap, length,
 use Rattle.std.proofs.lemmas.Result.{err_from_is_err_and}
 use Rattle.qbs_base.specs.declared.columns.Table.{Table}
 use Rattle.qbs_base.specs.Outside.{Rose}
-use Rattle.plans.specs.Code.{OrMemory}
-use Rattle.plans.specs.Plan.{given}
+use Rattle.deliveries.specs.Code.{OrMemory}
+use Rattle.deliveries.specs.Plan.{given}
 use Rattle.plans.proofs.Fetched.{as_many}
 use Rattle.qbs.specs.Code.{call_in}
 use Rattle.qbs.specs.Run.{run_of}

@@ -3,7 +3,7 @@ use Rattle.std.proofs.lemmas.Result.{err_from_is_err_and}
 use Rattle.qbs_base.specs.declared.columns.Table.{Table}
 use Rattle.qbs_base.specs.Outside.{Rose}
 use Rattle.java_types.specs.Texts.{read_by}
-use Rattle.plans.specs.Plan.{given}
+use Rattle.deliveries.specs.Plan.{given}
 use Rattle.plans.proofs.Fetched.{as_many}
 use Rattle.qbs.specs.Code.{answer_of}
 use Rattle.qbs.specs.Sql.{sql_of}

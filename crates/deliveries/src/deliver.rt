@@ -1,8 +1,8 @@
 // Writing what is due.
 ghost use Rattle.std.specs.Prelude.{◌≡◌, ◌≤◌};
 ghost use Rattle.qbs_base.specs.Outside.{Rose};
-ghost use Rattle.plans.specs.Deliver.{Delivers, change};
-ghost use Rattle.plans.specs.declared.plan.Plan.{Plan};
+ghost use Rattle.deliveries.specs.Deliver.{Delivers, change};
+ghost use Rattle.deliveries.specs.declared.plan.Plan.{Plan};
 
 use crate::Plan;
 use qbs_base::{Sink, Status, WriteAnswer};

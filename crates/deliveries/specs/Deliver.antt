@@ -4,7 +4,7 @@ use Rattle.std.specs.declared.option.Option.{Option}
 use Rattle.std.specs.Io.KnownBytes.{Appends}
 use Rattle.qbs_base.specs.Outside.{AppendsPrefix, Rose}
 use Rattle.qbs_base.specs.declared.status.Status.{Status}
-use Rattle.plans.specs.declared.plan.Plan.{Plan}
+use Rattle.deliveries.specs.declared.plan.Plan.{Plan}
 
 -- a sink in a call: what it told before and tells after, and that its faults rose
 pub record Change : Type 1 where

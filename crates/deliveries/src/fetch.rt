@@ -1,10 +1,10 @@
 // Reading a file, or what is due where it can't be read.
-ghost use Rattle.std.specs.Prelude.{◌≡◌, ◌<◌, ◌≤◌, MatchResult, IfSome, codes, length};
+ghost use Rattle.std.specs.Prelude.{◌≡◌, ◌<◌, ◌≤◌, ◌-◌, MatchResult, IfSome, codes, length};
 ghost use Rattle.qbs_base.specs.Outside.{Rose};
-ghost use Rattle.plans.specs.declared.fetch.Stop.TheVariants.{Memory};
-ghost use Rattle.plans.specs.Code.{Goes, StopsFor};
-ghost use Rattle.plans.specs.Plan.{given};
-ghost use Rattle.plans.specs.Steps.{IsRead, IsNotRead};
+ghost use Rattle.deliveries.specs.declared.fetch.Stop.TheVariants.{Memory};
+ghost use Rattle.deliveries.specs.Code.{Goes, StopsFor};
+ghost use Rattle.deliveries.specs.Plan.{given};
+ghost use Rattle.deliveries.specs.Steps.{IsRead, IsNotRead};
 
 use crate::Plan;
 use qbs_base::{Bytes, Files, NoMemory, ReadAnswer, Status, Text};
@@ -80,6 +80,14 @@ pub fn fetch_source<F: Files>(alloc: Global, files: &mut F, name: &Text) -> Resu
         (IsNotRead (given F.told F.faults files.old files.new) name.now 1048576 (codes "source")) }
 {
     fetch(alloc, files, name, 1048576, "source")
+}
+
+/// How many bytes are left for further files behind one that was read.
+pub fn left_behind(left: u64, text: &Bytes) -> u64
+    requires { length text.now ≤ left }
+    ensures { result ≡ left - length text.now }
+{
+    left - text.len() as u64
 }
 
 /// A refusal whose line is a text and a name.

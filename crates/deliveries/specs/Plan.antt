@@ -4,7 +4,7 @@ use Rattle.std.specs.declared.option.Option.{Option}
 use Rattle.qbs_base.specs.declared.status.Status.{Status}
 use Rattle.qbs_base.specs.Outside.{Rose}
 use Rattle.verdicts.specs.Lines.{line}
-use Rattle.plans.specs.declared.plan.Plan.{Plan}
+use Rattle.deliveries.specs.declared.plan.Plan.{Plan}
 
 -- nothing for the output, and one line for the report
 abbrev pub refusal : Status → List ℕ → Plan

@@ -1,6 +1,6 @@
-use Rattle.sample.proofs.Rows.{user_room, user_put}
-use Rattle.sample.specs.Tables.{users}
-use Rattle.sample.proofs.tables.put_users.Goals as goal
+use Rattle.sample_data.proofs.Rows.{user_room, user_put}
+use Rattle.sample_data.specs.Tables.{users}
+use Rattle.sample_data.proofs.tables.put_users.Goals as goal
 
 pub put_row-requires : goal.put_row-requires
 put_row-requires c = user_room c.loop-i.db (users c.loop-i.i) c.loop-i.invariant

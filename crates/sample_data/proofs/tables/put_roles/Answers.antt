@@ -1,6 +1,6 @@
-use Rattle.sample.proofs.Rows.{role_room, role_put}
-use Rattle.sample.specs.Tables.{roles}
-use Rattle.sample.proofs.tables.put_roles.Goals as goal
+use Rattle.sample_data.proofs.Rows.{role_room, role_put}
+use Rattle.sample_data.specs.Tables.{roles}
+use Rattle.sample_data.proofs.tables.put_roles.Goals as goal
 
 pub put_row-requires : goal.put_row-requires
 put_row-requires c = let us = c.requires.two in role_room c.loop-j.db us.0 (roles c.loop-j.j) (c.loop-j.invariant us.0 us.1)

@@ -1,7 +1,7 @@
 -- A command as a predicate on the plans that it may end with, made of steps.
 use Rattle.std.specs.Prelude.{◌≡◌, ℕ, ◌<◌, ◌≤◌, ◌⊎◌, List, length, IfSome}
-use Rattle.plans.specs.declared.plan.Plan.{Plan}
-use Rattle.plans.specs.Plan.{Given, read_fault, too_long}
+use Rattle.deliveries.specs.declared.plan.Plan.{Plan}
+use Rattle.deliveries.specs.Plan.{Given, read_fault, too_long}
 
 abbrev pub Ends : Type 1
 Ends = Plan → Type 0

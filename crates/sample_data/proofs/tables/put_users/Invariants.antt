@@ -1,6 +1,6 @@
 use Rattle.std.proofs.Common.{◌≡◌, [], ◌∷◌}
-use Rattle.sample.specs.Tables.{User, users}
-use Rattle.sample.proofs.tables.put_users.Given as goal
+use Rattle.sample_data.specs.Tables.{User, users}
+use Rattle.sample_data.proofs.tables.put_users.Given as goal
 
 -- the users so far
 abbrev pub invariant-loop-i : goal.invariant-loop-i

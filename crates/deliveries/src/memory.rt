@@ -1,6 +1,6 @@
 // Want of memory before any word is read.
 ghost use Rattle.qbs_base.specs.Outside.{Rose};
-ghost use Rattle.plans.specs.Memory.{RefusesForMemory};
+ghost use Rattle.deliveries.specs.Memory.{RefusesForMemory};
 
 use qbs_base::{Sink, Status, WriteAnswer};
 

@@ -1,6 +1,6 @@
-use Rattle.sample.specs.Tables.{User, users}
-use Rattle.sample.proofs.Rows.{roles_next, filled, filled_database}
-use Rattle.sample.proofs.tables.sample_tables.Goals as goal
+use Rattle.sample_data.specs.Tables.{User, users}
+use Rattle.sample_data.proofs.Rows.{roles_next, filled, filled_database}
+use Rattle.sample_data.proofs.tables.sample_tables.Goals as goal
 
 pub returns-clause-exact : goal.returns-clause-exact
 returns-clause-exact c =

@@ -5,8 +5,8 @@ use Rattle.std.proofs.lemmas.List.FromFn.{map-range_with_len_more}
 use Rattle.qbs_base.specs.declared.scalar.Row.{Row}
 use Rattle.qbs_base.specs.Tables.{NamedRows, with_row}
 use Rattle.qbs_base.specs.Values.{Database, IsDatabaseOf}
-use Rattle.sample.specs.Tables.{User, Role, user_row, role_row, users, roles, sample_schema, sample_rows}
-use Rattle.sample.proofs.Typed.{are_tables}
+use Rattle.sample_data.specs.Tables.{User, Role, user_row, role_row, users, roles, sample_schema, sample_rows}
+use Rattle.sample_data.proofs.Fit.{are_tables}
 
 further : (row : ℕ → Row) (n : ℕ) → map row (range_with_len 0 n) ++ row n ∷ [] ≡ map row (range_with_len 0 (n + 1))
 further row n = let e : 0 + n ≡ n = omega arith in sym (map-range_with_len_more row 0 n n e)

@@ -3,10 +3,10 @@ use Rattle.std.specs.Prelude.{◌≡◌, ℕ, ◌++◌, List, Result, Ok, Err, �
 use Rattle.std.specs.declared.option.Option.{Option}
 use Rattle.std.specs.declared.option.Option.TheVariants.{Some, None}
 use Rattle.qbs_base.specs.declared.status.Status.{Status}
-use Rattle.plans.specs.declared.plan.Plan.{Plan}
-use Rattle.plans.specs.declared.fetch.Stop.{Stop}
-use Rattle.plans.specs.Plan.{refusal}
-use Rattle.plans.specs.Steps.{Ends}
+use Rattle.deliveries.specs.declared.plan.Plan.{Plan}
+use Rattle.deliveries.specs.declared.fetch.Stop.{Stop}
+use Rattle.deliveries.specs.Plan.{refusal}
+use Rattle.deliveries.specs.Steps.{Ends}
 
 -- what is so is there, or the plan that stops the command, where memory did not run out
 abbrev pub Goes : {A : Type 0} → Result A Stop → (A → Type 0) → Ends → Type 0

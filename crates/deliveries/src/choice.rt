@@ -1,11 +1,9 @@
 // Which program is run.
 ghost use Rattle.std.specs.Prelude.{◌≡◌};
-ghost use Rattle.plans.specs.Code.{one_run};
-
-use java_types::Typed;
+ghost use Rattle.deliveries.specs.Code.{one_run};
 
 /// The program that is run: the rewritten one where there is one, else the one that was read.
-pub fn program_run<'a>(read: &'a Typed, rewritten: &'a Option<Typed>) -> &'a Typed
+pub fn program_run<'a, T>(read: &'a T, rewritten: &'a Option<T>) -> &'a T
     ensures { result.now ≡ one_run read.now rewritten.now }
 {
     match rewritten {

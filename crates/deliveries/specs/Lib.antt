@@ -1,0 +1,6 @@
+pub mod Plan
+pub mod Steps
+pub mod Code
+pub mod Deliver
+pub mod Memory
+pub mod Found
