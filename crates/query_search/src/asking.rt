@@ -11,6 +11,7 @@ ghost use Rattle.query_search.specs.Counted.{OneIs};
 use crate::extra::Extra;
 use crate::pruner::{Call, Pruner};
 use kernel_lang::{Candidate, KFragment, PruneAnswer};
+use search_steps::first_asked;
 
 /// What pruners say of a candidate: whether one drops it, where none before it wants for memory.
 pub fn ask_pruners(pruners: &[Pruner], frag: &KFragment, cand: &Candidate) -> PruneAnswer
@@ -19,7 +20,7 @@ pub fn ask_pruners(pruners: &[Pruner], frag: &KFragment, cand: &Candidate) -> Pr
     ensures kept { result ≡ answers.Keep → AllByRecursion (λ p. MayAnswer (Call.post p.call) frag.now answers.Keep cand.now) pruners.now }
     ensures justified { result ≡ answers.Drop → ∥ IsRefuted (fragment_of frag.now) cand.now ∥₁ }
 {
-    match pruners.split_first() {
+    match first_asked(pruners) {
         None => PruneAnswer::Keep,
         Some((first, rest)) => match first.ask(frag, cand) {
             PruneAnswer::Keep => ask_pruners(rest, frag, cand),

@@ -16,6 +16,7 @@ use crate::pruner::{Call, Pruner};
 use crate::walk::{Part, walk};
 use kernel_lang::{Candidate, KFragment, PruneAnswer};
 use qbs_base::NoMemory;
+use search_steps::{are_all, most_judged};
 use std::alloc::Global;
 use templates::count;
 
@@ -33,7 +34,7 @@ fn answer(part: Part, n: u64, budget: u64) -> Found
             dropped,
         },
         None => {
-            if n <= budget {
+            if are_all(n, budget) {
                 Found::NoneOf { n, dropped }
             } else {
                 Found::Budget {
@@ -76,7 +77,7 @@ pub fn search_with<F: Fn(&KFragment, &Candidate) -> PruneAnswer>(
 {
     let n = count(frag, size);
     let mut memory = new_memory(alloc, frag)?;
-    let judged = budget.min(n);
+    let judged = most_judged(budget, n);
     let part = walk(alloc, frag, size, pruners, extra, &mut memory, 0, judged)?;
     Ok(answer(part, n, budget))
 }

@@ -17,6 +17,7 @@ use crate::nth::candidate_at;
 use crate::pruner::{Call, Pruner};
 use kernel_lang::{Candidate, KFragment, PruneAnswer};
 use qbs_base::NoMemory;
+use search_steps::halves;
 use std::alloc::Global;
 use tor_axioms::Derivations;
 
@@ -116,20 +117,15 @@ pub fn walk<F: Fn(&KFragment, &Candidate) -> PruneAnswer>(
     if n == 1 {
         return judge_one(alloc, frag, size, pruners, extra, memory, k);
     }
-    let half = n / 2;
-    let first = walk(alloc, frag, size, pruners, extra, memory, k, half)?;
+    let parts = halves(k, n);
+    let first = walk(
+        alloc, frag, size, pruners, extra, memory, parts.0.0, parts.0.1,
+    )?;
     if first.hit.is_some() {
         return Ok(first);
     }
     let rest = walk(
-        alloc,
-        frag,
-        size,
-        pruners,
-        extra,
-        memory,
-        k + half,
-        n - half,
+        alloc, frag, size, pruners, extra, memory, parts.1.0, parts.1.1,
     )?;
     let dropped = first.dropped + rest.dropped;
     Ok(Part {

@@ -11,8 +11,8 @@ returns-then-n-eq1-clause-part g t c = one-part-at (fragment_of c.args.frag.now)
 
 pub returns-then-is_some-clause-part : goal.returns-then-is_some-clause-part
 returns-then-is_some-clause-part g t c =
-    first-part-at (fragment_of c.args.frag.now) c.args.size c.args.k c.args.n (c.args.n / 2) c.in_ok-first.first.hit c.in_ok-first.first.dropped (sym c.is_some.ensures ∙ c.if-is_some.true) (omega arith) c.requires.within c.in_ok-first.ensures.part
+    first-part-at (fragment_of c.args.frag.now) c.args.size c.args.k c.args.n (c.args.n / 2) c.in_ok-first.first.hit c.in_ok-first.first.dropped (sym c.is_some.ensures ∙ c.if-is_some.true) (omega arith) c.requires.within (rw (c.halves-parts.ensures.from, c.halves-parts.ensures.half) at c.in_ok-first.ensures.part)
 
 pub returns-clause-part : goal.returns-clause-part
 returns-clause-part g t c =
-    both-parts-at (fragment_of c.args.frag.now) c.args.size c.args.k c.args.n (c.args.n / 2) c.in_ok-first.first.hit c.in_ok-rest.rest.hit c.in_ok-first.first.dropped c.in_ok-rest.rest.dropped (sym c.is_some.ensures ∙ c.if-is_some.false) (omega arith) c.requires.within c.in_ok-first.ensures.part c.in_ok-rest.ensures.part
+    both-parts-at (fragment_of c.args.frag.now) c.args.size c.args.k c.args.n (c.args.n / 2) c.in_ok-first.first.hit c.in_ok-rest.rest.hit c.in_ok-first.first.dropped c.in_ok-rest.rest.dropped (sym c.is_some.ensures ∙ c.if-is_some.false) (omega arith) c.requires.within (rw (c.halves-parts.ensures.from, c.halves-parts.ensures.half) at c.in_ok-first.ensures.part) (rw (c.halves-parts.ensures.behind, c.halves-parts.ensures.others) at c.in_ok-rest.ensures.part)
