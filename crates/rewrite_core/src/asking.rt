@@ -24,7 +24,8 @@ use java_ast::{Expr, JTy, Stmt, StmtNode};
 use kernel_lang::{Acc, KFragment, Update};
 use loop_text::statements::runs::first_touching;
 use qbs_base::{Name, NoMemory, Span, Text, held};
-use sql_ast::{Query, print_query};
+use sql_ast::Query;
+use sql_text::print_query;
 use sql_emit::{Emitted, emit};
 use std::alloc::Global;
 

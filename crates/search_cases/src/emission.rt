@@ -8,7 +8,8 @@ use crate::words::{numbers_from, word_at};
 use kernel_lang::{Candidate, KFragment};
 use qbs_base::{NoMemory, NumberLists};
 use schema_text::parse_schema;
-use sql_ast::{Queries, print_query};
+use sql_ast::Queries;
+use sql_text::print_query;
 use sql_emit::{Emitted, emit_exactly};
 use std::alloc::Global;
 

@@ -1,9 +1,7 @@
 pub mod Canon
 pub mod CanonicalQuery
 pub mod Combinations
-pub mod Computed
 pub mod Conditions
-pub mod Depths
 pub mod Doubled
 pub mod FirstOnes
 pub mod Hiding
@@ -22,7 +20,6 @@ pub mod ParsedConditions
 pub mod ParsedQuery
 pub mod Parts
 pub mod Positions
-pub mod Printed
 pub mod Tools
 pub mod Views
 pub mod Resolved

@@ -11,7 +11,6 @@ ghost use Rattle.sql_ast.specs.Texts.{HasQuery, BreaksRule};
 ghost use Rattle.sql_ast.specs.Tree.{PlainListing, PlainQuery, Listing};
 ghost use Rattle.sql_ast.specs.Utf8.{LiteralsAreUtf8};
 ghost use Rattle.sql_ast.specs.Valid.{IsQueryOf};
-ghost use Rattle.sql_ast.specs.Worked.{Worked};
 
 /// An order complete query for a list has exactly one answer, that of its meaning.
 pub fn order_complete_has_one_answer()
@@ -43,9 +42,4 @@ pub fn canonical_texts_are_utf8()
 pub fn a_text_is_read_by_the_grammar()
     ensures query { (schema : Schema) (text : List ℕ) (q : PlainQuery) → HasQuery schema text q ↔ (query_of_text schema text ≡ Ok q) }
     ensures rule { (schema : Schema) (text : List ℕ) (rule : SqlRule) → BreaksRule schema text rule ↔ (query_of_text schema text ≡ Err rule) }
-{}
-
-/// Texts on two small tables have these answers, and others break these rules.
-pub fn worked_texts_have_their_answers()
-    ensures { Worked }
 {}

@@ -1,4 +1,4 @@
-//! Queries as trees, and their canonical text; and FROM items in sight, found by their aliases.
+//! Queries as trees, with their grammar and their canonical text as definitions; and FROM items in sight, found by their aliases.
 #![tactic(auto)]
 
 mod complete;
@@ -6,7 +6,7 @@ mod known;
 pub mod laws;
 mod limit;
 mod places;
-mod print;
+mod quoted;
 mod rule;
 mod sight;
 mod tree;
@@ -15,7 +15,7 @@ pub use complete::{is_grouped, order_complete};
 pub use known::Known;
 pub use limit::limit_within;
 pub use places::Places;
-pub use print::print_query;
+pub use quoted::put_doubled;
 pub use rule::SqlRule;
 pub use sight::Sight;
 pub use tree::{

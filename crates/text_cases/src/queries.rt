@@ -11,7 +11,8 @@ use crate::places::text_of;
 use qbs_base::{Fail, NoMemory, Text};
 use schema::Schema;
 use schema_text::parse_schema;
-use sql_ast::{Query, order_complete, print_query};
+use sql_ast::{Query, order_complete};
+use sql_text::print_query;
 use sql_parse::{SqlFault, parse_query};
 use std::alloc::Global;
 

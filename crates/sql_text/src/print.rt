@@ -3,14 +3,14 @@ ghost use Rattle.std.specs.Prelude.{◌≡◌, ◌+◌, ◌++◌, OnOk, IfOk, st
 ghost use Rattle.std.specs.Fmt.{decimal, signed_decimal};
 ghost use Rattle.sql_ast.specs.Reading.{query, condition, filter_of, inner_filter, listing, number, truth};
 ghost use Rattle.sql_ast.specs.Tree.{Both, Either};
-ghost use Rattle.sql_ast.specs.Canonical.{canonical, col_text, doubled, scalar_text, opnd_text, cmp_text, from_item_text, further_items_text, from_text, opening, closing, in_text, condition_text, filter_text, item_text, group_text, key_text, keys_text, limit_text, kind_text, source_text, listing_text, number_text, truth_text, exists_text, down_text, least_text, total_text};
+ghost use Rattle.sql_ast.specs.Canonical.{canonical, col_text, scalar_text, opnd_text, cmp_text, from_item_text, further_items_text, from_text, opening, closing, in_text, condition_text, filter_text, item_text, group_text, key_text, keys_text, limit_text, kind_text, source_text, listing_text, number_text, truth_text, exists_text, down_text, least_text, total_text};
 ghost use Rattle.std.specs.List.{flat_map};
 
-use crate::tree::{
-    Cmp, Cond, FromItem, FromItems, ListQuery, NumberKind, NumberQuery, Query, SqlCol, SqlColumn,
-    SqlItem, SqlKey, SqlOpnd, TruthQuery,
-};
 use qbs_base::{NoMemory, Scalar, Text};
+use sql_ast::{
+    Cmp, Cond, FromItem, FromItems, ListQuery, NumberKind, NumberQuery, Query, SqlCol, SqlColumn,
+    SqlItem, SqlKey, SqlOpnd, TruthQuery, put_doubled,
+};
 use std::alloc::Global;
 
 fn put_col(out: &mut String, col: &SqlCol) -> Result<(), NoMemory>
@@ -22,20 +22,6 @@ fn put_col(out: &mut String, col: &SqlCol) -> Result<(), NoMemory>
         SqlColumn::Pos => out.push_str("_pos")?,
         SqlColumn::Named { name, number: _ } => out.push_str(name.as_str())?,
     }
-    Ok(())
-}
-
-/// Appends a text with each quote twice.
-fn put_doubled(out: &mut String, text: &str) -> Result<(), NoMemory>
-    ensures { OnOk result (string_bytes out.new ≡ string_bytes out.old ++ doubled text.now) }
-{
-    let mut rest = text;
-    while let Some((before, after)) = rest.split_once('\'') {
-        out.push_str(before)?;
-        out.push_str("''")?;
-        rest = after;
-    }
-    out.push_str(rest)?;
     Ok(())
 }
 

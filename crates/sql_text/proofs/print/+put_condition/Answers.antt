@@ -2,9 +2,9 @@ use Rattle.std.proofs.Common.{◌+◌, ◌++◌, codes, length, string_bytes}
 use Rattle.std.proofs.lemmas.Result.{IfOk-weaker}
 use Rattle.sql_ast.specs.Canonical.{opnd_text, in_text, col_text, from_text, filter_text}
 use Rattle.sql_ast.specs.Reading.{inner_filter}
-use Rattle.sql_ast.proofs.Printed.{with_head}
+use Rattle.sql_text.proofs.Printed.{with_head}
 use Rattle.sql_ast.proofs.Views.{exists_is, within_is}
-use Rattle.sql_ast.proofs.print.+put_condition.Goals as goal
+use Rattle.sql_text.proofs.print.+put_condition.Goals as goal
 
 pub put_condition-returns-in_ok-push_str-in-Exists : goal.put_condition-returns-in_ok-push_str-in-Exists
 put_condition-returns-in_ok-push_str-in-Exists t c =

@@ -2,7 +2,7 @@ use Rattle.std.proofs.Common.{rules, ◌++◌, ℕ, List, [], ◌∷◌, Some, N
 use Rattle.std.proofs.lemmas.Str.Pattern.{split_once_first}
 use Rattle.sql_ast.specs.Canonical.{doubled}
 use Rattle.sql_ast.proofs.Doubled.{without, one_more}
-use Rattle.sql_ast.proofs.print.put_doubled.Goals as goal
+use Rattle.sql_ast.proofs.quoted.put_doubled.Goals as goal
 
 pub loop-before-preserved : goal.loop-before-preserved
 loop-before-preserved c =

@@ -1,8 +1,8 @@
 use Rattle.std.proofs.Common.{◌+◌, ◌*◌}
 use Rattle.std.specs.Prelude.{max}
 use Rattle.sql_ast.specs.declared.tree.Cond.{size-Cond}
-use Rattle.sql_ast.proofs.Depths.{filter_depth}
-use Rattle.sql_ast.proofs.print.+put_condition.Given as goal
+use Rattle.sql_text.proofs.Depths.{filter_depth}
+use Rattle.sql_text.proofs.print.+put_condition.Given as goal
 
 abbrev pub decreases-put_condition : goal.decreases-put_condition
 decreases-put_condition l = size-Cond l.cond.now * 4 + 4

@@ -1,8 +1,8 @@
 use Rattle.std.proofs.Common.{codes, string_bytes}
 use Rattle.std.proofs.lemmas.Result.{IfOk-weaker}
 use Rattle.sql_ast.specs.Canonical.{total_text}
-use Rattle.sql_ast.proofs.Printed.{step}
-use Rattle.sql_ast.proofs.print.put_kind.Goals as goal
+use Rattle.sql_text.proofs.Printed.{step}
+use Rattle.sql_text.proofs.print.put_kind.Goals as goal
 
 pub returns-in_ok-push_str-in-Sum : goal.returns-in_ok-push_str-in-Sum
 returns-in_ok-push_str-in-Sum c =
