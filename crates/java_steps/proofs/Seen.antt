@@ -10,8 +10,8 @@ use Rattle.std.specs.declared.cmp.Ordering.TheVariants.{Less, Equal, Greater}
 use Rattle.qbs_base.specs.declared.scalar.Row.{Row}
 use Rattle.qbs_base.specs.Scalar.{scalar_same, same_cells}
 use Rattle.sql_ast.specs.Grouped.{firsts}
-use Rattle.sql_exec.proofs.Finding.{any_append}
-use Rattle.sql_exec.proofs.Meeting.{or_swap, not_true, not_false}
+use Rattle.sql_rows.proofs.Finding.{any_append}
+use Rattle.sql_rows.proofs.Meeting.{or_swap, not_true, not_false}
 use Rattle.sql_ast.proofs.FirstOnes.{firsts_more}
 use Rattle.java_mean.specs.Expression.{same_member, is_among}
 use Rattle.java_mean.specs.Statement.{added}

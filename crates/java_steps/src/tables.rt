@@ -8,8 +8,8 @@ ghost use Rattle.sql_exec.specs.Answered.{IsAnswerable, answered};
 
 use qbs_base::{Db, Name, NoMemory, Rows, Scalars};
 use sql_ast::Query;
-use sql_exec::{Answer, Lookup, answer_by};
-use sql_index::{add_lookups, answer_indexed};
+use sql_exec::{Answer, add_lookups, answer_by, answer_indexed};
+use sql_rows::Lookup;
 use std::alloc::Global;
 use std::marker::Model;
 
@@ -24,7 +24,7 @@ pub struct Tables<'a> {
 
 impl<'a> Model for Tables<'a> {
     ghost use Rattle.qbs_base.specs.Values as values;
-    ghost use Rattle.sql_exec.specs.Lookups.{AreLookups};
+    ghost use Rattle.sql_rows.specs.Lookups.{AreLookups};
 
     ghost Value = { values.Database };
 

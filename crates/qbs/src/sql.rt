@@ -21,8 +21,7 @@ use plans::tables::{TableTexts, fetch_tables, load_tables};
 use qbs_base::{Files, Scalars, Table, Text, Ty, Value};
 use schema::Schema;
 use sql_ast::{Query, order_complete};
-use sql_exec::Answer;
-use sql_index::answer_indexed;
+use sql_exec::{Answer, answer_indexed};
 use std::alloc::Global;
 
 /// What is due for a schema, the files of its tables in a folder, and a query.

@@ -4,13 +4,9 @@ pub mod Finding
 pub mod Groups
 pub mod Inner
 pub mod Judged
-pub mod Meeting
 pub mod Narrowing
-pub mod Numbers
-pub mod Ordered
+pub mod Listed
 pub mod Sorted
 pub mod Steps
-pub mod Valued
-pub mod Values
 pub mod Walked
 pub mod Weight

@@ -1,14 +1,12 @@
 // Comparisons of values.
 ghost use Rattle.std.specs.Prelude.{◌≡◌};
-ghost use Rattle.std.specs.Ordering.{is_lt, is_gt};
 ghost use Rattle.qbs_base.specs.Scalar.{compared, scalar_same, scalar_less, value_before};
 ghost use Rattle.sql_ast.specs.Meaning.{holds};
 ghost use Rattle.sql_ast.specs.Meaning as meaning;
-ghost use Rattle.sql_exec.specs.Reading.{value_of};
+ghost use Rattle.sql_rows.specs.Reading.{value_of};
 
-use crate::place::Cell;
 use sql_ast::Cmp;
-use std::cmp::Ordering;
+use sql_rows::Cell;
 
 /// Whether both values are there, of one type and equal.
 pub fn is_same(x: &Cell, y: &Cell) -> bool
@@ -72,25 +70,5 @@ pub fn is_before(x: &Cell, y: &Cell) -> bool
         (Cell::Long(_), Cell::Text(_)) => true,
         (Cell::Truth(_), Cell::Text(_)) => true,
         _ => false,
-    }
-}
-
-/// The same order by one comparison, which says of both directions.
-#[tactic(auto, using(crate::proofs::Ordered::number_greater, crate::proofs::Ordered::truth_greater, crate::proofs::Ordered::text_greater))]
-pub fn value_order(x: &Cell, y: &Cell) -> Ordering
-    ensures less { is_lt result ≡ value_before (value_of x.now) (value_of y.now) }
-    ensures greater { is_gt result ≡ value_before (value_of y.now) (value_of x.now) }
-{
-    match (x, y) {
-        (Cell::Long(a), Cell::Long(b)) => a.cmp(b),
-        (Cell::Truth(a), Cell::Truth(b)) => a.cmp(b),
-        (Cell::Text(a), Cell::Text(b)) => a.cmp(b),
-        (Cell::Missing, Cell::Missing) => Ordering::Equal,
-        (Cell::Missing, _) => Ordering::Less,
-        (_, Cell::Missing) => Ordering::Greater,
-        (Cell::Long(_), _) => Ordering::Less,
-        (_, Cell::Long(_)) => Ordering::Greater,
-        (Cell::Truth(_), _) => Ordering::Less,
-        (_, Cell::Truth(_)) => Ordering::Greater,
     }
 }

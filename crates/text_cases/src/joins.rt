@@ -6,8 +6,7 @@ ghost use Rattle.sql_exec.specs.Answered.{IsAnswerable};
 use crate::answers::{number_of, put_row};
 use qbs_base::{Db, NoMemory, Row, Scalar, Scalars, Text};
 use sql_ast::Query;
-use sql_exec::Answer;
-use sql_index::answer_indexed;
+use sql_exec::{Answer, answer_indexed};
 use std::alloc::Global;
 
 fn put_tables(db: &mut Db, alloc: Global) -> Result<(), NoMemory>

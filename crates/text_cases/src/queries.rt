@@ -12,8 +12,8 @@ use qbs_base::{Fail, NoMemory, Text};
 use schema::Schema;
 use schema_text::parse_schema;
 use sql_ast::{Query, order_complete};
-use sql_text::print_query;
 use sql_parse::{SqlFault, parse_query};
+use sql_text::print_query;
 use std::alloc::Global;
 
 static TABLES: &str =

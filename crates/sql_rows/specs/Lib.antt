@@ -1,0 +1,4 @@
+pub mod Reading
+pub mod Firsts
+pub mod Keyed
+pub mod Lookups
