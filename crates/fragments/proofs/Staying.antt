@@ -15,8 +15,8 @@ use Rattle.java_loops.proofs.Kept.KeptRuns.{AreFrom, numbers_from, none_there, e
 use Rattle.loop_text.specs.Sites.Sites.{has_number}
 use Rattle.loop_text.specs.Statements.Fragment.{Fragment, fragment_at}
 use Rattle.loop_text.specs.Statements.KeptStatements.{AreKept, none, keeps, drops, with_numbers}
-use Rattle.loop_setting.specs.AtNumbers.{alone, at_numbers}
-use Rattle.loop_setting.specs.RunsThere.{run_of_fragment}
+use Rattle.loop_places.specs.AtNumbers.{alone, at_numbers}
+use Rattle.loop_places.specs.RunsThere.{run_of_fragment}
 
 -- ---- At the numbers of the kept statements
 

@@ -13,7 +13,7 @@ use Rattle.kernel_lang.specs.Whole.{fragment_of}
 use Rattle.java_loops.specs.Kernel.Kernel.{Broken, outside_at}
 use Rattle.java_loops.specs.Lowering.Lowered.{Lowering}
 use Rattle.fragments.specs.declared.lowering.lowered.Lowered.{Lowered}
-use Rattle.loop_setting.specs.declared.outside.Outside.{Outside}
+use Rattle.loop_places.specs.declared.outside.Outside.{Outside}
 
 abbrev pub lowering_in_code : Lowered → Lowering
 lowering_in_code l =

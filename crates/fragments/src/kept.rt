@@ -13,8 +13,8 @@ ghost use Rattle.loop_text.specs.Statements.KeptStatements.{with_numbers};
 
 use crate::lowering::lowered::Lowered;
 use java_ast::{Path, Program, Stmt};
-use loop_setting::kept::statements::at_numbers;
-use loop_setting::places::run::run_at;
+use loop_places::run::run_at;
+use loop_places::statements::at_numbers;
 use qbs_base::NoMemory;
 use std::alloc::Global;
 

@@ -11,8 +11,8 @@ mod rules;
 mod verdict;
 
 pub use kept::kept_statements;
-pub use loop_setting::outside::Outside;
-pub use loop_setting::places::run::run_at;
+pub use loop_places::outside::Outside;
+pub use loop_places::run::run_at;
 pub use loop_text::statements::walk::loops_of;
 pub use lowering::lowered::Lowered;
 pub use places::located::needed;

@@ -19,7 +19,7 @@ use crate::lowering::lowered::Lowered;
 use crate::places::located::located;
 use java_ast::Path;
 use java_types::Typed;
-use loop_setting::outside::Outside;
+use loop_places::outside::Outside;
 use qbs_base::{Fail, NoMemory};
 use schema::Schema;
 use std::alloc::Global;

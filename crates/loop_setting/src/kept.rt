@@ -6,4 +6,3 @@ pub mod live;
 pub mod mentioned;
 pub mod name_list;
 pub mod setters;
-pub mod statements;

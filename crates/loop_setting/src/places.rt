@@ -1,4 +1,3 @@
-//! A loop where it stands in its program: its fragment, and the run before it.
+//! A loop where it stands in its program: its fragment.
 
-pub mod run;
 pub mod setting;

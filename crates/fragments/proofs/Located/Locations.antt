@@ -13,7 +13,7 @@ use Rattle.loop_text.specs.Statements.KeptStatements.{how_many, first_in}
 use Rattle.fragments.specs.Helping.Locating.{fragment_located, fragment_spotted, IsFoundIn, IsSpottedIn, IsSeenIn, IsFoundAt}
 use Rattle.loop_text.specs.Statements.Loops.{is_loop}
 use Rattle.java_ast.specs.Names.{Names, with_name, with_names, declared_by, declared_among, walking, names_of_params}
-use Rattle.loop_setting.proofs.RunsThere.{statements_behind, past_end}
+use Rattle.loop_places.proofs.RunsThere.{statements_behind, past_end}
 use Rattle.java_loops.specs.Lowering.Placing.{type_under, scope_after, scope_past, scope_inside, scope_within, scope_in, scope_of_params, scope_in_method, fragment_in_method}
 use Rattle.fragments.specs.declared.places.position.Located.{Located}
 use Rattle.fragments.specs.declared.places.position.Spot.{Spot}

@@ -22,7 +22,7 @@ use Rattle.java_loops.specs.Kernel.Setting.{Setting, setting_of}
 use Rattle.loop_text.specs.Sites.Sites.{Site, sites_of}
 use Rattle.fragments.specs.Helping.Verdicts.{BreaksFirst, MayBeLowered, IsLoweredFrom}
 use Rattle.loop_text.specs.Statements.Walking.{IsLoopOf}
-use Rattle.loop_setting.specs.declared.outside.Outside.{Outside}
+use Rattle.loop_places.specs.declared.outside.Outside.{Outside}
 use Rattle.fragments.specs.declared.places.position.Located.{Located}
 use Rattle.fragments.proofs.Known.KnownLoop.{known_to}
 use Rattle.fragments.proofs.Known.KnownQueries.{may_be_lowered}

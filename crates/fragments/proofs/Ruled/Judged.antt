@@ -9,7 +9,7 @@ use Rattle.java_loops.specs.Kernel.KernelLoop.{broken_loop}
 use Rattle.java_loops.specs.Kernel.KernelStarts.{broken_starts}
 use Rattle.java_loops.specs.Kernel.KernelStatements.{broken_statements, broken_updates}
 use Rattle.java_loops.specs.Kernel.Setting.{Setting}
-use Rattle.loop_setting.specs.FirstBroken as code
+use Rattle.loop_places.specs.FirstBroken as code
 use Rattle.std.specs.Option.{option_map}
 use Rattle.fragments.specs.Helping.Verdicts.{first_rules, middle_rules, last_rules}
 use Rattle.fragments.specs.Lowers.{broken_in_code}

@@ -22,7 +22,7 @@ use Rattle.fragments.specs.Helping.LoweredInCode.{has_query}
 use Rattle.fragments.specs.Lowers.{broken_in_code}
 use Rattle.java_loops.specs.Lowering.Numbering.{Numbers, numbers_of}
 use Rattle.java_loops.specs.Kernel.Setting.{Setting}
-use Rattle.loop_setting.specs.declared.outside.Outside.{Outside}
+use Rattle.loop_places.specs.declared.outside.Outside.{Outside}
 
 -- ---- The rules in their order
 

@@ -13,7 +13,7 @@ use crate::lowering::context::Context;
 use crate::numbering::numbers::{both_of, form_counted};
 use java_ast::Expr;
 use kernel_lang::Guards;
-use loop_setting::asks::asked_at;
+use loop_places::asks::asked_at;
 use loop_text::conditions::flags::condition_of;
 use loop_text::sites::list::Round;
 use qbs_base::NoMemory;

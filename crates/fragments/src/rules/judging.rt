@@ -18,7 +18,7 @@ use crate::rules::k6_forms::broken_forms;
 use crate::rules::k7_conditions::broken_conditions;
 use crate::rules::k8_sizes::counted;
 use crate::rules::k9_starts::broken_starts;
-use loop_setting::outside::{Outside, first_broken};
+use loop_places::outside::{Outside, first_broken};
 use loop_setting::places::setting::Setting;
 use loop_text::loops::limits::broken_depth;
 use qbs_base::{Fail, Name, NoMemory};

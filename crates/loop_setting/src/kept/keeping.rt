@@ -14,6 +14,7 @@ use crate::kept::mentioned::{put_all_mentioned, put_mentioned, put_names};
 use crate::kept::name_list::NameList;
 use crate::kept::setters::{Setters, set_by, setters_of};
 use crate::places::setting::Fragment;
+use decisions::are_left;
 use java_ast::{Expr, Stmt};
 use loop_text::sites::bindings::is_name;
 use qbs_base::{Name, NoMemory, Numbers, boxed, held};
@@ -107,7 +108,7 @@ fn put_all_following<'a>(
     ensures listed { OnOk result (IsListed list.new) }
 {
     let mut i = 0;
-    while i < list.names.len() {
+    while are_left(list.names.len(), i) {
         let x = name_at(list, i);
         put_following(f, accumulators, setters, x, list)?;
         i += 1;

@@ -9,6 +9,7 @@ ghost use Rattle.java_ast.specs.Names.{names_lent};
 use crate::kept::mentioned::put_all_mentioned;
 use crate::kept::name_list::NameList;
 use crate::places::setting::Fragment;
+use decisions::is_live as is_live_where;
 use loop_text::statements::names::block_mentions;
 use qbs_base::{Items, Name, NoMemory, boxed};
 use std::alloc::Global;
@@ -28,7 +29,7 @@ fn is_live_beside(f: &Fragment, mentioned: &NameList, x: &Name) -> bool
     requires names { names_lent mentioned.now.names ≡ fragment.mentioned_behind (fragment_in_code f.now) }
     ensures { result ≡ fragment.is_live (fragment_in_code f.now) x.now }
 {
-    f.visible.has(x) || mentioned.seen.has(x)
+    is_live_where(f.visible.has(x), mentioned.seen.has(x))
 }
 
 /// The live ones of some accumulators.

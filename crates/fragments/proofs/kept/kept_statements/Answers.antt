@@ -10,7 +10,7 @@ use Rattle.java_loops.specs.Kernel.Setting.{Setting}
 use Rattle.java_loops.specs.Lowering.Lowered.{Lowering}
 use Rattle.java_loops.specs.Meant.Lowers.{IsLowered}
 use Rattle.loop_text.specs.Statements.KeptStatements.{with_numbers}
-use Rattle.loop_setting.specs.AtNumbers.{at_numbers}
+use Rattle.loop_places.specs.AtNumbers.{at_numbers}
 use Rattle.fragments.proofs.Staying.{run_kept, run_missing}
 use Rattle.fragments.proofs.kept.kept_statements.Goals as goal
 

@@ -1,6 +1,6 @@
 use Rattle.std.specs.Option.{option_map}
 use Rattle.std.proofs.Common.{ap, ◌∙◌}
-use Rattle.loop_setting.specs.FirstBroken.{first_broken}
+use Rattle.loop_places.specs.FirstBroken.{first_broken}
 use Rattle.fragments.specs.Lowers.{broken_in_code}
 use Rattle.fragments.specs.Helping.Reading.{setting_in_code}
 use Rattle.java_loops.specs.Kernel.KernelLists.{broken_lists, broken_depth}

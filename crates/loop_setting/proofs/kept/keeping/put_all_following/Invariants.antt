@@ -7,8 +7,8 @@ use Rattle.loop_text.specs.Statements.Wanted.{AreWanted, HasAll, HasFollowing}
 use Rattle.loop_setting.proofs.Following.{missing}
 use Rattle.loop_setting.proofs.kept.keeping.put_all_following.Given as goal
 
-abbrev pub invariant-loop-i : goal.invariant-loop-i
-invariant-loop-i l =
+abbrev pub invariant-loop-list : goal.invariant-loop-list
+invariant-loop-list l =
     record {
       listed : IsListed l.list;
       within : l.i ≤ length (names_lent l.list.names);
@@ -18,5 +18,5 @@ invariant-loop-i l =
     }
 
 -- the names that the run mentions and that are still missing, and those that weren't looked at
-abbrev pub decreases-loop-i : goal.decreases-loop-i
-decreases-loop-i l = missing (mentioned_among (statements l.f.run.now)) (names_lent l.list.names) + (length (names_lent l.list.names) - l.i)
+abbrev pub decreases-loop-list : goal.decreases-loop-list
+decreases-loop-list l = missing (mentioned_among (statements l.f.run.now)) (names_lent l.list.names) + (length (names_lent l.list.names) - l.i)

@@ -3,7 +3,7 @@ use Rattle.std.specs.Prelude.{ℕ}
 use Rattle.std.specs.declared.option.Option.{Option}
 use Rattle.std.specs.declared.option.Option.TheVariants.{Some, None}
 use Rattle.qbs_base.specs.declared.span.Span.{Span}
-use Rattle.loop_setting.specs.declared.outside.Outside.{Outside}
+use Rattle.loop_places.specs.declared.outside.Outside.{Outside}
 
 -- this rule, where a place breaks it, and else a later one
 abbrev pub rule_or : ℕ → Option Span → Option Outside → Option Outside

@@ -2,7 +2,7 @@
 ghost use Rattle.std.specs.Prelude.{◌≡◌, ◌-◌, IfOk, OnOk};
 ghost use Rattle.java_ast.specs.Path.{and_then, numbered};
 ghost use Rattle.java_ast.specs.Reading.{statements};
-ghost use Rattle.loop_setting.specs.AtNumbers as specs;
+ghost use Rattle.loop_places.specs.AtNumbers as specs;
 
 use java_ast::Stmt;
 use java_copies::copy_statement;

@@ -2,9 +2,9 @@ use Rattle.std.proofs.Common.{◌≡◌, ◌+◌, ◌<◌, ◌≤◌, ◌∷◌,
 use Rattle.std.proofs.Math.ListN.{drop_of_length-le}
 use Rattle.java_ast.specs.Path.{and_then}
 use Rattle.java_ast.specs.Reading.{statements}
-use Rattle.loop_setting.specs.AtNumbers.{at_numbers}
-use Rattle.loop_setting.proofs.Numbers.{and_then_nothing, one_further}
-use Rattle.loop_setting.proofs.kept.statements.at_numbers.Goals as goal
+use Rattle.loop_places.specs.AtNumbers.{at_numbers}
+use Rattle.loop_places.proofs.Numbers.{and_then_nothing, one_further}
+use Rattle.loop_places.proofs.statements.at_numbers.Goals as goal
 
 pub loop-number-preserved : goal.loop-number-preserved
 loop-number-preserved c =

@@ -1,6 +1,6 @@
 use Rattle.std.proofs.Common.{◌∙◌, sym}
-use Rattle.loop_setting.proofs.RunsThere.{no_statement, no_loop, run_before}
-use Rattle.loop_setting.proofs.places.run.run_here.Goals as goal
+use Rattle.loop_places.proofs.RunsThere.{no_statement, no_loop, run_before}
+use Rattle.loop_places.proofs.run.run_here.Goals as goal
 
 pub returns-in_default : goal.returns-in_default
 returns-in_default c = no_statement c.args.number c.args.block.now c.in_default.ensures.lookup.3

@@ -1,7 +1,7 @@
 //! What the tests round a place ask.
 ghost use Rattle.std.specs.Prelude.{◌≡◌};
 ghost use Rattle.std.specs.Option.{option_map};
-ghost use Rattle.loop_setting.specs.Asks as specs;
+ghost use Rattle.loop_places.specs.Asks as specs;
 ghost use Rattle.loop_text.specs.Sites.Reading.{test_of};
 
 use java_ast::Expr;

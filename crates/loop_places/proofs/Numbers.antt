@@ -5,7 +5,7 @@ use Rattle.java_ast.specs.Path.{and_then, numbered}
 use Rattle.java_ast.specs.Reading.{statement, statements}
 use Rattle.java_ast.specs.Tree.{Statement, Statements, Nothing, Then}
 use Rattle.java_ast.proofs.Joined.{appended}
-use Rattle.loop_setting.specs.AtNumbers.{alone, at_numbers}
+use Rattle.loop_places.specs.AtNumbers.{alone, at_numbers}
 
 and_then_assoc : (a b c : Statements) → and_then (and_then a b) c ≡ and_then a (and_then b c)
 and_then_assoc Nothing b c = refl

@@ -4,7 +4,7 @@ use Rattle.std.specs.declared.option.Option.{Option}
 use Rattle.std.specs.declared.option.Option.TheVariants.{Some, None}
 use Rattle.java_ast.specs.Reading.{expression}
 use Rattle.java_ast.specs.Tree.{Expression}
-use Rattle.loop_setting.specs.declared.asks.Asks as code
+use Rattle.loop_places.specs.declared.asks.Asks as code
 use Rattle.loop_text.specs.Sites.Sites.{Test}
 
 -- the number of an `if` among the sites, its condition, and whether that has to hold

@@ -2,9 +2,9 @@ use Rattle.std.proofs.Common.{◌≡◌, subst}
 use Rattle.java_ast.specs.Path.{and_then, numbered}
 use Rattle.java_ast.specs.Reading.{statements}
 use Rattle.java_ast.proofs.Numbered.{statement_some, statement_none}
-use Rattle.loop_setting.specs.AtNumbers.{alone}
-use Rattle.loop_setting.proofs.Numbers.{pushed_one, pushed_none}
-use Rattle.loop_setting.proofs.kept.statements.push_numbered.Goals as goal
+use Rattle.loop_places.specs.AtNumbers.{alone}
+use Rattle.loop_places.proofs.Numbers.{pushed_one, pushed_none}
+use Rattle.loop_places.proofs.statements.push_numbered.Goals as goal
 
 pub returns-in_default : goal.returns-in_default
 returns-in_default c =

@@ -9,8 +9,8 @@ use Rattle.loop_text.specs.Statements.Fragment.{Fragment, run_of, fragment_of, f
 use Rattle.loop_text.specs.Statements.Loops.{is_loop}
 use Rattle.java_ast.specs.Names.{Names, with_names, declared_among, walking, names_of_params}
 use Rattle.loop_text.proofs.Trees.Walked.{next_item}
-use Rattle.loop_setting.specs.Runs.{run_where, run_here, run_in, run_at}
-use Rattle.loop_setting.specs.RunsThere.{run_of_fragment}
+use Rattle.loop_places.specs.Runs.{run_where, run_here, run_in, run_at}
+use Rattle.loop_places.specs.RunsThere.{run_of_fragment}
 
 -- ---- What stands behind a number
 

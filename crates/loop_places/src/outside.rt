@@ -1,6 +1,6 @@
 //! The rule of the kernel form that a loop breaks first.
 ghost use Rattle.std.specs.Prelude.{◌≡◌};
-ghost use Rattle.loop_setting.specs.FirstBroken as specs;
+ghost use Rattle.loop_places.specs.FirstBroken as specs;
 
 use qbs_base::Span;
 

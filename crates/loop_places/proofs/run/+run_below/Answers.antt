@@ -1,6 +1,6 @@
 use Rattle.java_ast.specs.Reading.{statement, statements}
-use Rattle.loop_setting.proofs.RunsThere.{step_run}
-use Rattle.loop_setting.proofs.places.run.+run_below.Goals as goal
+use Rattle.loop_places.proofs.RunsThere.{step_run}
+use Rattle.loop_places.proofs.run.+run_below.Goals as goal
 
 pub returns : goal.returns
 returns t c =

@@ -4,8 +4,8 @@ ghost use Rattle.std.specs.Option.{option_map};
 ghost use Rattle.java_ast.specs.Path.{first_of, behind_of};
 ghost use Rattle.java_ast.specs.Reading.{statements, program as plain_program};
 ghost use Rattle.loop_text.specs.Statements.Fragment.{fragment_at};
-ghost use Rattle.loop_setting.specs.Runs as specs;
-ghost use Rattle.loop_setting.specs.RunsThere.{run_of_fragment};
+ghost use Rattle.loop_places.specs.Runs as specs;
+ghost use Rattle.loop_places.specs.RunsThere.{run_of_fragment};
 
 use java_ast::{Path, Program, Stmt, branch};
 use loop_text::loops::limits::is_loop;
