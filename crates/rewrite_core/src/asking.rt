@@ -25,8 +25,8 @@ use kernel_lang::{Acc, KFragment, Update};
 use loop_text::statements::runs::first_touching;
 use qbs_base::{Name, NoMemory, Span, Text, held};
 use sql_ast::Query;
-use sql_text::print_query;
 use sql_emit::{Emitted, emit};
+use sql_text::print_query;
 use std::alloc::Global;
 
 // ---- One statement

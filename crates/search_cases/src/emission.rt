@@ -9,8 +9,8 @@ use kernel_lang::{Candidate, KFragment};
 use qbs_base::{NoMemory, NumberLists};
 use schema_text::parse_schema;
 use sql_ast::Queries;
-use sql_text::print_query;
 use sql_emit::{Emitted, emit_exactly};
+use sql_text::print_query;
 use std::alloc::Global;
 
 /// The tables that fragments are over.
