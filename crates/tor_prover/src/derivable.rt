@@ -6,8 +6,8 @@ ghost use Rattle.tor_axioms.specs.Decide.{literal, with_fact as with_fact_of};
 ghost use Rattle.tor_prover.specs.Derive as spec;
 ghost use Rattle.tor_prover.specs.Reduced.{verdict_of, verdict_seen};
 
-use crate::derivation::DEPTH;
 use crate::reduce::{Reduced, reduce};
+use decisions::most_splits;
 use qbs_base::NoMemory;
 use std::alloc::Global;
 use tor_axioms::{Condition, Facts, with_fact, with_facts};
@@ -111,6 +111,6 @@ pub fn derives(alloc: Global, atoms: &Atoms, condition: &Condition) -> Result<bo
 {
     match with_facts(alloc, atoms, condition.facts.as_slice())? {
         None => Ok(true),
-        Some(facts) => derives_within(alloc, atoms, condition, DEPTH, &facts),
+        Some(facts) => derives_within(alloc, atoms, condition, most_splits(), &facts),
     }
 }

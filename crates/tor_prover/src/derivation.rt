@@ -9,13 +9,11 @@ ghost use Rattle.tor_prover.specs.Seen.{judgement_of};
 
 use crate::normal::normalise;
 use crate::outcome::{Judgement, Outcome};
+use decisions::{most_splits, where_same};
 use qbs_base::NoMemory;
 use std::alloc::Global;
 use tor_axioms::{Condition, Derivation, Facts, Literal, Vc, with_fact, with_facts};
 use tor_terms::{Atoms, Term, copy_boxed_term, same_term};
-
-/// How many splits may stand inside one another.
-pub const DEPTH: u32 = 10;
 
 /// What the normal forms of both sides show.
 fn judge(
@@ -33,10 +31,9 @@ fn judge(
             match normalise(alloc, atoms, facts, copy_boxed_term(alloc, right)?)? {
                 Outcome::Meets(k) => Ok(Judgement::Splits(k)),
                 Outcome::Normal(u, more) => {
-                    if same_term(&t, &u) {
-                        Ok(Judgement::Same(steps, more))
-                    } else {
-                        Ok(Judgement::Differ)
+                    match where_same(same_term(&t, &u), steps, more) {
+                        Some((left, right)) => Ok(Judgement::Same(left, right)),
+                        None => Ok(Judgement::Differ),
                     }
                 }
             }
@@ -127,7 +124,7 @@ fn derive_exactly(
 {
     match with_facts(alloc, atoms, facts)? {
         None => Ok(Some(Derivation::Absurd)),
-        Some(facts) => derive_within(alloc, atoms, left, right, DEPTH, &facts),
+        Some(facts) => derive_within(alloc, atoms, left, right, most_splits(), &facts),
     }
 }
 
