@@ -1,9 +1,11 @@
-//! What a program of the source language does, and laws of it; the variables that are visible, and which fault is kept.
+//! What a program of the source language does, and laws of it; the variables that are visible and that are live, and which fault
+//! is kept.
 #![tactic(auto)]
 
 mod ending;
 mod keeping;
 pub mod laws;
+mod live;
 mod ordering;
 mod rule;
 mod scope;
@@ -12,6 +14,7 @@ pub mod worked;
 
 pub use ending::{Ending, RunFault};
 pub use keeping::note_if;
+pub use live::{are_left, is_live};
 pub use ordering::has_order;
 pub use rule::{TypeFault, TypeRule};
 pub use scope::Scope;

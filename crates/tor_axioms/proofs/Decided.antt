@@ -11,8 +11,8 @@ use Rattle.tor_terms.specs.Plain.{Form, Is, Both, Either}
 use Rattle.tor_terms.specs.Truth.{World, operand_at, same_operand, less, atom_holds, known_atom_holds, truth, same_bool, holds, all_hold}
 use Rattle.tor_terms.proofs.Identical.{same_operand-true}
 use Rattle.tor_terms.proofs.Scalars.{less-self, less-back}
-use Rattle.decisions.specs.declared.known.Known.{Known}
-use Rattle.decisions.specs.declared.known.Known.TheVariants.{Yes, No, Open}
+use Rattle.deriv_parts.specs.declared.known.Known.{Known}
+use Rattle.deriv_parts.specs.declared.known.Known.TheVariants.{Yes, No, Open}
 use Rattle.tor_axioms.specs.declared.facts.Literal.{Literal}
 use Rattle.tor_axioms.specs.Decide.{or_else, by_shape, recorded, is_less, has_less, by_order, decide, if_so, known_both, known_either, decide_form, is_no, is_yes, denies, with_fact, and_then, with_facts, Satisfied, Agrees}
 use Rattle.tor_axioms.specs.Rules.{some_no, all_yes}

@@ -7,9 +7,9 @@ use Rattle.tor_terms.specs.declared.term.Atom.TheVariants.{Less, Same, Truth, Me
 use Rattle.tor_terms.specs.declared.term.Operand.{Operand}
 use Rattle.tor_terms.specs.Plain.{Form, Is, Both, Either}
 use Rattle.tor_terms.specs.Truth.{World, same_operand, truth}
-use Rattle.decisions.specs.declared.known.Known.{Known}
-use Rattle.decisions.specs.declared.known.Known.TheVariants.{Yes, No, Open}
-pub use Rattle.decisions.specs.Known.{is_yes, denies}
+use Rattle.deriv_parts.specs.declared.known.Known.{Known}
+use Rattle.deriv_parts.specs.declared.known.Known.TheVariants.{Yes, No, Open}
+pub use Rattle.deriv_parts.specs.Known.{is_yes, denies}
 use Rattle.tor_axioms.specs.declared.facts.Literal.{Literal}
 
 abbrev pub or_else : Known → Known → Known

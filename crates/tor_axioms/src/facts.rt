@@ -1,6 +1,6 @@
 // Facts: which atoms are recorded to hold, and which not to.
 use crate::judged::decide;
-use decisions::{Known, denies, with_behind};
+use deriv_parts::{Known, denies, with_behind};
 use qbs_base::{Items, NoMemory};
 use std::alloc::Global;
 use std::marker::Model;

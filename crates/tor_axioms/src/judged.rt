@@ -4,7 +4,7 @@ ghost use Rattle.tor_terms.specs.Plain.{form_of, forms_of};
 ghost use Rattle.tor_axioms.specs.Decide as spec;
 
 use crate::facts::Literal;
-use decisions::Known;
+use deriv_parts::Known;
 use tor_terms::{Atom, Formula, Operand, same_operand};
 
 /// What the shape of an atom says of it.

@@ -16,7 +16,7 @@ mod select;
 mod selections;
 mod truths;
 
-pub use decisions::Known;
+pub use deriv_parts::Known;
 pub use derivation::{Condition, Derivation, Derivations, Step, Steps, Vc, Vcs};
 pub use facts::{Facts, Literal, Literals, WithAnswer, with_fact, with_facts};
 pub use judged::{decide, decide_formula};

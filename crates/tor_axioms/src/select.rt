@@ -5,7 +5,7 @@ ghost use Rattle.tor_axioms.specs.Rules as spec;
 
 use crate::facts::Literal;
 use crate::judged::decide_formula;
-use decisions::{Known, is_yes};
+use deriv_parts::{Known, is_yes};
 use qbs_base::{Items, NoMemory};
 use std::alloc::Global;
 use tor_terms::{Atom, Formula, Formulas, copy_formula, formula_within};

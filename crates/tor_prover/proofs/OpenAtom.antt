@@ -5,8 +5,8 @@ use Rattle.std.specs.declared.option.Option.TheVariants.{Some, None}
 use Rattle.std.proofs.lemmas.Option.{slice_get_within}
 use Rattle.tor_terms.specs.declared.term.Atom.{Atom}
 use Rattle.tor_terms.specs.Plain.{Form, Is, Both, Either, Tree, One, Sel}
-use Rattle.decisions.specs.declared.known.Known.{Known}
-use Rattle.decisions.specs.declared.known.Known.TheVariants.{Yes, No, Open}
+use Rattle.deriv_parts.specs.declared.known.Known.{Known}
+use Rattle.deriv_parts.specs.declared.known.Known.TheVariants.{Yes, No, Open}
 use Rattle.tor_axioms.specs.declared.facts.Literal.{Literal}
 use Rattle.tor_axioms.specs.Decide.{or_else, by_shape, recorded, by_order, decide, decide_form}
 use Rattle.tor_axioms.specs.Rules.{some_no, all_yes}

@@ -4,8 +4,8 @@ use Rattle.std.specs.declared.option.Option.{Option}
 use Rattle.std.specs.declared.option.Option.TheVariants.{Some, None}
 use Rattle.tor_terms.specs.declared.term.Atom.{Atom}
 use Rattle.tor_terms.specs.Plain.{Form, Is, Both, Either, One, Sel}
-use Rattle.decisions.specs.declared.known.Known.{Known}
-use Rattle.decisions.specs.declared.known.Known.TheVariants.{Yes, No, Open}
+use Rattle.deriv_parts.specs.declared.known.Known.{Known}
+use Rattle.deriv_parts.specs.declared.known.Known.TheVariants.{Yes, No, Open}
 use Rattle.tor_axioms.specs.declared.facts.Literal.{Literal}
 use Rattle.tor_axioms.specs.Decide.{decide, decide_form, if_so, known_both, known_either, is_no, is_yes}
 use Rattle.tor_axioms.specs.Rules.{some_no, all_yes}

@@ -5,8 +5,8 @@ use Rattle.std.specs.declared.option.Option.TheVariants.{Some, None}
 use Rattle.tor_terms.specs.declared.term.Atom.{Atom}
 use Rattle.tor_terms.specs.Plain.{Form, Is, Both, Either, Tree, Top, One, Cat, Join, Sel, Proj, Uniq, Insert, Count, Sum, Any, Best, Pick, Add, Or}
 use Rattle.tor_axioms.specs.declared.derivation.Step.{Step}
-use Rattle.decisions.specs.declared.known.Known.{Known}
-use Rattle.decisions.specs.declared.known.Known.TheVariants.{Open}
+use Rattle.deriv_parts.specs.declared.known.Known.{Known}
+use Rattle.deriv_parts.specs.declared.known.Known.TheVariants.{Open}
 use Rattle.tor_axioms.specs.declared.facts.Literal.{Literal}
 use Rattle.tor_axioms.specs.Decide.{decide, decide_form}
 use Rattle.tor_axioms.specs.Rules.{Rule, rules, some_no, all_yes}

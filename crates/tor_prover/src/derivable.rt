@@ -7,7 +7,7 @@ ghost use Rattle.tor_prover.specs.Derive as spec;
 ghost use Rattle.tor_prover.specs.Reduced.{verdict_of, verdict_seen};
 
 use crate::reduce::{Reduced, reduce};
-use decisions::most_splits;
+use deriv_parts::most_splits;
 use qbs_base::NoMemory;
 use std::alloc::Global;
 use tor_axioms::{Condition, Facts, with_fact, with_facts};

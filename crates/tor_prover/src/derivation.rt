@@ -9,7 +9,7 @@ ghost use Rattle.tor_prover.specs.Seen.{judgement_of};
 
 use crate::normal::normalise;
 use crate::outcome::{Judgement, Outcome};
-use decisions::{most_splits, where_same};
+use deriv_parts::{most_splits, where_same};
 use qbs_base::NoMemory;
 use std::alloc::Global;
 use tor_axioms::{Condition, Derivation, Facts, Literal, Vc, with_fact, with_facts};

@@ -9,7 +9,7 @@ ghost use Rattle.java_ast.specs.Names.{names_lent};
 use crate::kept::mentioned::put_all_mentioned;
 use crate::kept::name_list::NameList;
 use crate::places::setting::Fragment;
-use decisions::is_live as is_live_where;
+use java_mean::is_live as is_live_where;
 use loop_text::statements::names::block_mentions;
 use qbs_base::{Items, Name, NoMemory, boxed};
 use std::alloc::Global;

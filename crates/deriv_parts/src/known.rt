@@ -1,6 +1,6 @@
 // What is known of an atom.
 ghost use Rattle.std.specs.Prelude.{◌≡◌};
-ghost use Rattle.decisions.specs.Known as spec;
+ghost use Rattle.deriv_parts.specs.Known as spec;
 
 /// What facts say of an atom.
 #[derive(Clone, Copy, PartialEq, Eq)]

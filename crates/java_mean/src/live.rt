@@ -1,4 +1,4 @@
-// What is decided of the variables of a loop.
+// Which variables of a loop are live, and which names are followed.
 ghost use Rattle.std.specs.Prelude.{◌≡◌, ◌||◌, nat_lt};
 
 /// Whether a variable is live: it is visible before the run, or mentioned behind the loop.

@@ -1,7 +1,7 @@
 -- What is known of an atom.
 use Rattle.std.specs.Prelude.{Bool, true, false, cond}
-use Rattle.decisions.specs.declared.known.Known.{Known}
-use Rattle.decisions.specs.declared.known.Known.TheVariants.{Yes, No, Open}
+use Rattle.deriv_parts.specs.declared.known.Known.{Known}
+use Rattle.deriv_parts.specs.declared.known.Known.TheVariants.{Yes, No, Open}
 
 abbrev pub is_yes : Known → Bool
 is_yes Yes = true

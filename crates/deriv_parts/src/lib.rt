@@ -1,10 +1,8 @@
-//! Small decisions that larger crates take by asking.
+//! Small parts of derivations: what facts say of an atom, and what two sides with the same normal form give.
 #![tactic(auto)]
 
 mod derived;
 mod known;
-mod names;
 
 pub use derived::{most_splits, where_same, with_behind};
 pub use known::{Known, denies, is_yes};
-pub use names::{are_left, is_live};
