@@ -29,8 +29,8 @@ use Rattle.tor_terms.specs.declared.term.Way.{Way}
 use Rattle.tor_terms.specs.Evaluation.{with_row as with_element, first_rows, sum_of, best_of, plus, then_number, number_of}
 use Rattle.tor_terms.specs.Fits.{is_number, row_of}
 use Rattle.tor_terms.specs.Plain.{Form, Is, Both, Either, Walk}
-use Rattle.tor_terms.specs.Truth.{Datum, Element, World, rows_at, operand_at, known_atom_holds, atom_holds, holds, all_hold, has_loop, form_within}
-use Rattle.tor_terms.specs.Value.{plain_row, only_number, number_in, elem_at, same_kind, same_row, inserted, first_ones, added, added_numbers, total, best, better, picked_number, not_empty, value}
+use Rattle.tor_terms.specs.Truth.{Datum, Element, World, rows_at, operand_at, known_atom_holds, holds, all_hold, has_loop, form_within}
+use Rattle.tor_terms.specs.Value.{plain_row, only_number, number_in, elem_at, same_kind, same_row, first_ones, added, added_numbers, total, best, better, picked_number, not_empty, value}
 use Rattle.tor_terms.specs.Worlds.{same_rows}
 use Rattle.tor_terms.proofs.Scalars.{scalar_same-true, scalar_same-self}
 use Rattle.kernel_lang.specs.declared.parts.Entry.{Entry}
@@ -41,14 +41,13 @@ use Rattle.kernel_lang.specs.Given.{world_given}
 use Rattle.kernel_lang.specs.Plain.{Accumulator, Fragment}
 use Rattle.kernel_lang.proofs.Sentences.{valid}
 use Rattle.kernel_lang.specs.Pools.{Member, chosen, members_from, members}
-use Rattle.kernel_lang.specs.Postcondition.{loops_of, nest_walks, nest_ones, body, val, start_term, whole, postcondition, flag_by_choice, with_choices, claimed, claims, all_claimed, postconditions}
-use Rattle.kernel_lang.specs.Running.{Layer, layer, layers, layers_of, with_row, placed, is_set, source_scalar, source_value, scalar_of}
+use Rattle.kernel_lang.specs.Postcondition.{loops_of, nest_walks, body, val, start_term, whole, postcondition, flag_by_choice, with_choices, claimed, claims, all_claimed, postconditions}
+use Rattle.kernel_lang.specs.Running.{Layer, layers, layers_of, with_row, placed, is_set, source_scalar, source_value, scalar_of}
 use Rattle.kernel_lang.specs.Sentences.{AccumulatorIsValid, IsValid}
-use Rattle.kernel_lang.specs.Validity.{broken, chain_is_valid, flags_are_flags, names_a_flag, element_of, element_within, guards_within, is_flag, is_mark, reads_its_chain, rises, start_is_valid, starts_as, starts_rightly, takes_a_column}
+use Rattle.kernel_lang.specs.Validity.{broken, chain_is_valid, flags_are_flags, names_a_flag, element_of, element_within, guards_within, is_flag, is_mark, reads_its_chain, rises, start_is_valid, starts_rightly, takes_a_column}
 use Rattle.kernel_interp.specs.Claiming.{any_visit, taken, element_for, claim_of, number_value, is_there, said, said_before, all_said, same_value, same_values}
 use Rattle.kernel_interp.specs.Marking.{bound}
 use Rattle.kernel_interp.specs.Members.{are_sound, flag_is_sound, names_a_member}
-use Rattle.kernel_interp.specs.Reading.{guard_at}
 use Rattle.kernel_interp.proofs.Flagged.{left_true, right_true, mark_is, mark_start, same_list, placed_bound, test_at}
 use Rattle.kernel_interp.proofs.Levels.{layers_at}
 use Rattle.kernel_interp.proofs.Lists.{rows_back, inserted_row}

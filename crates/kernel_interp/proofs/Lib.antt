@@ -7,8 +7,8 @@ pub mod Ended
 pub mod Mapped
 pub mod Starting
 pub mod Lists
-pub mod Numbers
 pub mod Marked
 pub mod Visited
 pub mod Tupled
 pub mod Claimed
+pub mod EndGiven

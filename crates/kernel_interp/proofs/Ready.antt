@@ -1,5 +1,5 @@
 -- Where the parts of a valid fragment fit, each accumulator can be run.
-use Rattle.std.proofs.Common.{◌≡◌, ℕ, zero, suc, true, false, ◌&&◌, IsTrue, is_some, List, [], ◌∷◌, map, length, Option, Some, None, nat_eq, slice_get, get_or, Bor, refl, sym, ap, ◌∙◌, subst, arith}
+use Rattle.std.proofs.Common.{◌≡◌, ℕ, zero, suc, true, ◌&&◌, IsTrue, is_some, List, [], ◌∷◌, map, length, Option, Some, None, nat_eq, slice_get, Bor, refl, sym, ap, ◌∙◌, subst, arith}
 use mathlib.Core.Path.{fun_ext}
 use Rattle.std.specs.List.{AllByRecursion, list_all}
 use Rattle.std.proofs.lemmas.Bool.Decides.{nat_tests}

@@ -8,8 +8,8 @@ use Rattle.tor_terms.specs.Plain.{Form}
 use Rattle.tor_terms.specs.Truth.{Datum, World}
 use Rattle.kernel_lang.specs.declared.parts.Update.{Update}
 use Rattle.kernel_lang.specs.Running.{Layer, layer, with_row, passes, run, each_row, followed_by}
-use Rattle.kernel_interp.specs.declared.end.Stop.{Stop}
-use Rattle.kernel_interp.specs.declared.end.Stop.TheVariants as stops
+use Rattle.kernel_steps.specs.declared.end.Stop.{Stop}
+use Rattle.kernel_steps.specs.declared.end.Stop.TheVariants as stops
 use Rattle.kernel_interp.specs.Ends.{Stopped}
 use Rattle.kernel_interp.specs.Reading.{rows_seen}
 

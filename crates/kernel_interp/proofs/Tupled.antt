@@ -1,5 +1,5 @@
 -- The tuples of a nest of loops, as the rows at which the loops come to what stands in them.
-use Rattle.std.proofs.Common.{◌≡◌, ℕ, ◌≤◌, ◌<◌, suc, Bool, true, false, cond, ◌||◌, ◌&&◌, List, [], ◌∷◌, ◌++◌, map, nat_eq, nat_lt, refl, sym, ap, ap₂, ◌∙◌, subst, arith, eqb-true, eq-eqb, append-nil}
+use Rattle.std.proofs.Common.{◌≡◌, ℕ, ◌≤◌, ◌<◌, Bool, true, false, cond, ◌||◌, ◌&&◌, List, [], ◌∷◌, ◌++◌, map, nat_eq, nat_lt, refl, sym, ap, ap₂, ◌∙◌, subst, arith, eqb-true, eq-eqb, append-nil}
 use mathlib.Core.Path.{fun_ext}
 use Rattle.std.specs.List.{AllByRecursion, flat_map, filter, list_any}
 use Rattle.std.proofs.lemmas.Bool.Decides.{nat_tests}
@@ -8,7 +8,7 @@ use Rattle.std.proofs.lemmas.List.Elements.{filter-append}
 use Rattle.qbs_base.specs.declared.scalar.Row.{Row}
 use Rattle.tor_terms.specs.declared.term.Atom.{Atom}
 use Rattle.tor_terms.specs.declared.term.Elem.{Elem}
-use Rattle.tor_terms.specs.Plain.{Form, Tree, Walk}
+use Rattle.tor_terms.specs.Plain.{Form, Walk}
 use Rattle.tor_terms.specs.Truth.{Tuple, Datum, Tup, Element, World, row_at, rows_at, all_hold, has_loop}
 use Rattle.tor_terms.specs.Value.{walked, paired, joined, elem_at, not_empty, value}
 use Rattle.kernel_lang.specs.Postcondition.{nest_walks, nest_ones}

@@ -1,5 +1,5 @@
 -- What an accumulator has while it runs, and what runs end with.
-use Rattle.std.specs.Prelude.{◌≡◌, if◌then◌else◌, ℕ, ℤ, true, false, IsTrue, is_some, List, [], ◌∷◌, map}
+use Rattle.std.specs.Prelude.{◌≡◌, ℕ, true, IsTrue, is_some, List, [], ◌∷◌, map}
 use Rattle.std.specs.List.{AllByRecursion}
 use Rattle.std.specs.declared.option.Option.{Option}
 use Rattle.std.specs.declared.option.Option.TheVariants.{Some, None}
@@ -7,7 +7,6 @@ use Rattle.std.specs.declared.result.Result.{Result}
 use Rattle.std.specs.declared.result.Result.TheVariants.{Ok, Err}
 use Rattle.qbs_base.specs.declared.scalar.Row.{Row}
 use Rattle.qbs_base.specs.declared.scalar.Value.{Value}
-use Rattle.qbs_base.specs.Values.{fits_long}
 use Rattle.tor_terms.specs.Evaluation.{number_of}
 use Rattle.tor_terms.specs.Truth.{Datum, Element, World}
 use Rattle.tor_terms.specs.Value.{only_number, only_truth, elem_at, plain_row}
@@ -16,10 +15,10 @@ use Rattle.kernel_lang.specs.declared.parts.Update.TheVariants as updates
 use Rattle.kernel_lang.specs.Plain.{Accumulator}
 use Rattle.kernel_lang.specs.Running.{Layer, layers_of, with_row}
 use Rattle.kernel_lang.specs.Validity.{starts_rightly}
-use Rattle.kernel_interp.specs.declared.end.FragmentEnd.{FragmentEnd}
-use Rattle.kernel_interp.specs.declared.end.FragmentEnd.TheVariants as ends
-use Rattle.kernel_interp.specs.declared.end.Stop.{Stop}
-use Rattle.kernel_interp.specs.declared.end.Stop.TheVariants as stops
+use Rattle.kernel_steps.specs.declared.end.FragmentEnd.{FragmentEnd}
+use Rattle.kernel_steps.specs.declared.end.FragmentEnd.TheVariants as ends
+use Rattle.kernel_steps.specs.declared.end.Stop.{Stop}
+use Rattle.kernel_steps.specs.declared.end.Stop.TheVariants as stops
 use Rattle.kernel_interp.specs.declared.running.Running.{Running}
 use Rattle.kernel_interp.specs.declared.running.Running.TheVariants as runnings
 
@@ -48,15 +47,6 @@ Stopped stops.Overflow o = o ≡ None
 abbrev pub Gives : Result Running Stop → Update → Option (List Datum) → Type 0
 Gives (Ok r) u o = (o ≡ Some (data_of r)) × (update_of r ≡ u)
 Gives (Err stop) u o = Stopped stop o
-
-abbrev pub long_or_none : ℤ → Option ℤ
-long_or_none n = if fits_long n then Some n else None
-
--- a number of 64 bits
-abbrev pub GivesNumber : Result ℤ Stop → ℤ → Type 0
-GivesNumber (Ok n) m = (n ≡ m) × (fits_long m ≡ true)
-GivesNumber (Err stops.NoMemory) m = ⊥
-GivesNumber (Err stops.Overflow) m = fits_long m ≡ false
 
 abbrev pub GivesValue : Result Value Stop → Option Value → Type 0
 GivesValue (Ok v) o = o ≡ Some v

@@ -1,4 +1,3 @@
-pub mod Stops
 pub mod Reading
 pub mod Marking
 pub mod Ends

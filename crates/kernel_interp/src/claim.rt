@@ -22,6 +22,7 @@ use crate::place::Place;
 use crate::running::elem_at;
 use crate::setting::Setting;
 use kernel_lang::{Acc, Candidate, Entry, KFragment, Update};
+use kernel_steps::flag_end;
 use qbs_base::{Db, Items, Kind, NoMemory, Row, Rows, Scalar, Value, Values};
 use std::alloc::Global;
 use tor_terms::{Elem, Formula, Way, better, has_row, number_of, same_cell, same_row};
@@ -206,7 +207,7 @@ fn is_made(alloc: Global, acc: &Acc, rows: &[Row], v: &Value) -> Result<bool, No
         Update::Tick => Ok(is_number(v, Some(rows.len() as i128))),
         Update::Plus(_) => Ok(is_number(v, sum_of(rows))),
         Update::Best(way, _) => Ok(is_best(way, &acc.start, rows, v)),
-        Update::Mark => Ok(is_truth(v, rows.is_empty() == acc.opposite)),
+        Update::Mark => Ok(is_truth(v, flag_end(rows.is_empty(), acc.opposite))),
     }
 }
 

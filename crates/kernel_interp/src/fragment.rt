@@ -7,11 +7,11 @@ ghost use Rattle.kernel_lang.specs.Whole.{fragment_of};
 ghost use Rattle.kernel_interp.specs.Ends.{GivesValues, IsReady, end_of};
 ghost use Rattle.kernel_interp.specs.Reading.{world_of, plain_of};
 
-use crate::end::{FragmentEnd, Stop};
 use crate::list::all_listed;
 use crate::run::ends_as;
 use crate::setting::Setting;
 use kernel_lang::{Entry, KFragment};
+use kernel_steps::{FragmentEnd, Stop, ended};
 use qbs_base::{Db, Items, Kind, NoMemory, Row, Values};
 use std::alloc::Global;
 
@@ -52,9 +52,5 @@ pub fn run_fragment(
         given: entry,
         no_row: &no_row,
     };
-    match all_end(setting) {
-        Ok(values) => Ok(FragmentEnd::Store(values)),
-        Err(Stop::Overflow) => Ok(FragmentEnd::Overflow),
-        Err(Stop::NoMemory) => Err(NoMemory),
-    }
+    ended(all_end(setting))
 }

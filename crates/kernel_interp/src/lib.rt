@@ -5,7 +5,6 @@ mod atom;
 mod choice;
 mod claim;
 mod claims;
-mod end;
 mod fragment;
 mod given;
 mod list;
@@ -21,5 +20,4 @@ mod truth;
 mod visit;
 
 pub use claim::ends_as_claimed;
-pub use end::FragmentEnd;
 pub use fragment::run_fragment;

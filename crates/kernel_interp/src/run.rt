@@ -5,13 +5,13 @@ ghost use Rattle.kernel_lang.specs.Running as kernel;
 ghost use Rattle.kernel_interp.specs.Ends.{Gives, GivesValue, NumbersFit, IsReady, update_of, data_of};
 ghost use Rattle.kernel_interp.specs.Reading.{rows_in, world_of, flagged, plain_of};
 
-use crate::end::Stop;
 use crate::given::rows_of;
 use crate::place::Place;
 use crate::running::{Running, source_value, started, updated};
 use crate::setting::Setting;
 use crate::truth::passes;
 use kernel_lang::Acc;
+use kernel_steps::Stop;
 use qbs_base::Value;
 
 /// What an accumulator has after its loops from a level on.

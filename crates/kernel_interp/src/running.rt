@@ -1,20 +1,20 @@
 // What accumulators have while they run.
-ghost use Rattle.std.specs.Prelude.{◌≡◌, ◌+ℤ◌, true, IfOk, Some};
+ghost use Rattle.std.specs.Prelude.{◌≡◌, true, IfOk, Some};
 ghost use Rattle.qbs_base.specs.declared.scalar.Scalar.TheVariants as scalars;
 ghost use Rattle.tor_terms.specs.Evaluation as found;
 ghost use Rattle.tor_terms.specs.Value as spec;
 ghost use Rattle.kernel_lang.specs.Plain.{accumulator};
 ghost use Rattle.kernel_lang.specs.Running as kernel;
 ghost use Rattle.kernel_lang.specs.Validity.{starts_as, is_number, is_false, starts_rightly};
-ghost use Rattle.kernel_interp.specs.Ends.{Gives, GivesNumber, long_or_none, update_of, data_of, NumberFits};
+ghost use Rattle.kernel_interp.specs.Ends.{Gives, update_of, data_of, NumberFits};
 ghost use Rattle.kernel_interp.specs.Reading.{rows_in};
 
-use crate::end::Stop;
 use crate::place::{Place, row_at};
 use kernel_lang::{Acc, Update};
+use kernel_steps::{Stop, sum, ticked, with_row};
 use qbs_base::{Items, NoMemory, Row, Rows, Scalar, Value};
 use std::alloc::Global;
-use tor_terms::{Elem, Way, better, has_row, number_of, plain_row};
+use tor_terms::{Elem, Way, better, number_of, plain_row};
 
 /// An accumulator's update with what it has so far.
 #[derive(Drop)]
@@ -50,34 +50,6 @@ fn number_at(e: Elem, place: &Place) -> Option<i64>
     }
 }
 
-fn checked_sum(m: i64, n: i64) -> Option<i64>
-    ensures { result ≡ long_or_none (m +ℤ n) }
-{
-    m.checked_add(n)
-}
-
-// A sum, where it has 64 bits.
-fn sum(m: i64, n: i64) -> Result<i64, Stop>
-    ensures { GivesNumber result (m +ℤ n) }
-{
-    match checked_sum(m, n) {
-        Some(all) => Ok(all),
-        None => Err(Stop::Overflow),
-    }
-}
-
-// Rows with one last, where it isn't among them.
-fn with_row(rows: Rows, row: Row) -> Result<Rows, NoMemory>
-    ensures { IfOk result (λ all. all ≡ found.with_row rows row) }
-{
-    if has_row(rows.as_slice(), &row) {
-        return Ok(rows);
-    }
-    let mut all = rows;
-    all.push(row)?;
-    Ok(all)
-}
-
 /// What an accumulator has after its update at a place.
 pub fn updated(alloc: Global, running: Running, place: &Place) -> Result<Running, Stop>
     requires { NumberFits (update_of running) (rows_in place.now) }
@@ -93,7 +65,7 @@ pub fn updated(alloc: Global, running: Running, place: &Place) -> Result<Running
             let row = elem_at(alloc, e, place)?;
             Ok(Running::PushNew(e, with_row(rows, row)?))
         }
-        Running::Tick(n) => Ok(Running::Tick(sum(n, 1)?)),
+        Running::Tick(n) => Ok(Running::Tick(ticked(n)?)),
         Running::Plus(e, n) => match number_at(e, place) {
             Some(m) => Ok(Running::Plus(e, sum(n, m)?)),
             None => unreachable!(),

@@ -1,10 +1,9 @@
 -- Where a fragment fits the schema, its parts fit each small database.
-use Rattle.std.proofs.Common.{◌≡◌, ℕ, zero, suc, ℤ, pos, ◌+ℤ◌, ◌-ℤ◌, codes, ◌+◌, ◌*◌, ◌%◌, ◌<◌, ◌^◌, Bool, true, false, cond, not, ◌&&◌, ◌||◌, IsTrue, List, [], ◌∷◌, ◌++◌, length, map, take, Option, Some, None, nat_eq, nat_lt, slice_get, get_or, refl, sym, ap, ap₂, subst, ◌∙◌, arith, eqb-true}
+use Rattle.std.proofs.Common.{◌≡◌, ℕ, zero, suc, ℤ, pos, ◌+ℤ◌, ◌-ℤ◌, codes, ◌+◌, ◌*◌, ◌%◌, ◌<◌, ◌^◌, Bool, true, false, cond, not, ◌&&◌, ◌||◌, IsTrue, List, [], ◌∷◌, ◌++◌, length, take, Option, Some, None, nat_eq, nat_lt, slice_get, get_or, refl, sym, ap, subst, ◌∙◌, arith, eqb-true}
 use Rattle.std.specs.Prelude.{slice_index_or}
 use Rattle.std.specs.List.{AllByRecursion, Contains, flat_map, list_all}
 use Rattle.std.proofs.lemmas.Bool.Decides.{nat_tests}
 use Rattle.qbs_base.specs.declared.columns.Column.{Column}
-use Rattle.qbs_base.specs.declared.columns.Table.{Table}
 use Rattle.qbs_base.specs.declared.scalar.Row.{Row}
 use Rattle.qbs_base.specs.declared.scalar.Scalar.{Scalar}
 use Rattle.qbs_base.specs.declared.scalar.Scalar.TheVariants as scalars
@@ -24,8 +23,8 @@ use Rattle.kernel_lang.specs.declared.parts.Entry.{Entry}
 use Rattle.kernel_lang.specs.declared.parts.ListDef.{ListDef}
 use Rattle.kernel_lang.specs.declared.parts.Update.{Update}
 use Rattle.kernel_lang.specs.declared.parts.Update.TheVariants as updates
-use Rattle.kernel_lang.specs.Fitting.{Place, operand_places, atom_places, named_places, is_of, table_at, ColumnFits, comparable, of_one_variant, of_variant_of_all, atom_fits, AreRows, AtomFits, UpdateFits, PartsFit}
-use Rattle.kernel_lang.specs.Given.{before, cut, listed, list_at, world_given}
+use Rattle.kernel_lang.specs.Fitting.{Place, operand_places, named_places, is_of, table_at, ColumnFits, comparable, of_one_variant, of_variant_of_all, AreRows, AtomFits, UpdateFits, PartsFit}
+use Rattle.kernel_lang.specs.Given.{before, cut, list_at, world_given}
 use Rattle.kernel_lang.specs.Plain.{Accumulator, Fragment}
 use Rattle.kernel_lang.specs.Typed.{column_type, table_column, list_column, place_type, scalar_type, operand_type, same_type, is_type, atom_is_typed, members_agree, update_is_typed, place_is_there, is_typed}
 use Rattle.kernel_lang.specs.Validity.{is_field}
@@ -34,8 +33,9 @@ use Rattle.std.specs.declared.result.Result.{Result}
 use Rattle.std.specs.declared.result.Result.TheVariants.{Ok, Err}
 use Rattle.qbs_base.specs.declared.memory.NoMemory.{NoMemory}
 use Rattle.small_dbs.specs.declared.small.SmallDb.{SmallDb}
-use Rattle.small_dbs.specs.Chosen.{Choice, value_at, cells, row, rows, tables, entries, type_or_long, member_type, members, known}
-use Rattle.small_dbs.specs.Literals.{literals_of_atoms, literals_of_starts, long_within, near, texts_of, put, put_all, candidates, values}
+use Rattle.small_dbs.specs.Chosen.{Choice, value_at, cells, rows, tables, entries, type_or_long, member_type, members, known}
+use Rattle.kernel_steps.specs.Put.{put}
+use Rattle.small_dbs.specs.Literals.{literals_of_atoms, literals_of_starts, long_within, near, texts_of, put_all, candidates, values}
 use Rattle.small_dbs.specs.Small.{small, smalls}
 
 -- ---- lists of which something is so

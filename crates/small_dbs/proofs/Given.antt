@@ -7,7 +7,8 @@ use Rattle.qbs_base.specs.declared.scalar.Ty.{Ty}
 use Rattle.qbs_base.specs.declared.scalar.Ty.TheVariants as tys
 use Rattle.tor_terms.specs.declared.term.Atom.{Atom}
 use Rattle.kernel_lang.specs.Plain.{Accumulator, Fragment}
-use Rattle.small_dbs.specs.Literals.{candidates, given_by, literals_of_atoms, literals_of_starts, put, put_all, put_given}
+use Rattle.kernel_steps.specs.Put.{put}
+use Rattle.small_dbs.specs.Literals.{candidates, given_by, literals_of_atoms, literals_of_starts, put_all, put_given}
 
 more_put : (xs ys zs : List Scalar) → put_all (xs ++ ys) zs ≡ put_all ys (put_all xs zs)
 more_put [] ys zs = refl

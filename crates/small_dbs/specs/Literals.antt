@@ -7,13 +7,13 @@ use Rattle.qbs_base.specs.declared.scalar.Scalar.{Scalar}
 use Rattle.qbs_base.specs.declared.scalar.Scalar.TheVariants as scalars
 use Rattle.qbs_base.specs.declared.scalar.Ty.{Ty}
 use Rattle.qbs_base.specs.declared.scalar.Ty.TheVariants as tys
-use Rattle.qbs_base.specs.Scalar.{scalar_before, scalar_same}
 use Rattle.qbs_base.specs.Values.{fits_long}
 use Rattle.tor_terms.specs.declared.term.Atom.{Atom}
 use Rattle.tor_terms.specs.declared.term.Atom.TheVariants as atoms
 use Rattle.tor_terms.specs.declared.term.Operand.{Operand}
 use Rattle.tor_terms.specs.declared.term.Operand.TheVariants as operands
 use Rattle.kernel_lang.specs.Plain.{Accumulator, Fragment}
+use Rattle.kernel_steps.specs.Put.{put}
 
 abbrev pub operand_literals : Operand → List Scalar
 operand_literals (operands.Lit x) = x ∷ []
@@ -54,11 +54,6 @@ abbrev pub given_by : Ty → Scalar → List Scalar
 given_by tys.Long x = near x
 given_by tys.Bool x = []
 given_by tys.Text x = texts_of x
-
--- a value at its place among others, where it isn't there
-abbrev pub put : Scalar → List Scalar → List Scalar
-put x [] = x ∷ []
-put x (y ∷ ys) = if scalar_before x y then x ∷ y ∷ ys else (if scalar_same x y then y ∷ ys else y ∷ put x ys)
 
 abbrev pub put_all : List Scalar → List Scalar → List Scalar
 put_all [] ys = ys

@@ -4,7 +4,8 @@ ghost use Rattle.small_dbs.specs.Chosen as spec;
 ghost use Rattle.small_dbs.specs.Held.{held};
 
 use crate::choice::Values;
-use qbs_base::{Cells, Column, Items, Kind, NoMemory, Row, Scalar, Scalars, Ty, copy_scalar};
+use kernel_steps::push_copy;
+use qbs_base::{Cells, Column, Items, Kind, NoMemory, Row, Scalar, Scalars, Ty};
 use std::alloc::Global;
 
 /// The values of a type.
@@ -16,13 +17,6 @@ pub fn of_type(values: &Values, ty: Ty) -> &[Scalar]
         Ty::Bool => values.bools.as_slice(),
         Ty::Text => values.texts.as_slice(),
     }
-}
-
-/// Pushes a copy of a value.
-pub fn push_copy(alloc: Global, x: &Scalar, all: &mut Scalars) -> Result<(), NoMemory>
-    ensures { OnOk result (all.new ≡ all.old ++ x.now ∷ []) }
-{
-    all.push(copy_scalar(alloc, x)?)
 }
 
 /// Pushes the value at a place, counted round the list.

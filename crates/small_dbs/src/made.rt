@@ -15,6 +15,7 @@ use crate::small::{SmallDb, SmallDbs};
 use crate::tables::small_db;
 use crate::values::values_of;
 use kernel_lang::{Entry, KFragment};
+use kernel_steps::small_numbers;
 use qbs_base::{Items, NoMemory};
 use schema::Schema;
 use std::alloc::Global;
@@ -52,14 +53,15 @@ fn push_smalls(
     requires { held values.now ≡ literals.values (fragment_of frag.now) }
     ensures { OnOk result (all.new ≡ all.old ++ spec.smalls schema.now (fragment_of frag.now)) }
 {
-    push_small(alloc, schema, frag, values, 0, &mut *all)?;
-    push_small(alloc, schema, frag, values, 1, &mut *all)?;
-    push_small(alloc, schema, frag, values, 2, &mut *all)?;
-    push_small(alloc, schema, frag, values, 3, &mut *all)?;
-    push_small(alloc, schema, frag, values, 4, &mut *all)?;
-    push_small(alloc, schema, frag, values, 5, &mut *all)?;
-    push_small(alloc, schema, frag, values, 6, &mut *all)?;
-    push_small(alloc, schema, frag, values, 7, all)
+    let numbers = small_numbers();
+    push_small(alloc, schema, frag, values, numbers[0], &mut *all)?;
+    push_small(alloc, schema, frag, values, numbers[1], &mut *all)?;
+    push_small(alloc, schema, frag, values, numbers[2], &mut *all)?;
+    push_small(alloc, schema, frag, values, numbers[3], &mut *all)?;
+    push_small(alloc, schema, frag, values, numbers[4], &mut *all)?;
+    push_small(alloc, schema, frag, values, numbers[5], &mut *all)?;
+    push_small(alloc, schema, frag, values, numbers[6], &mut *all)?;
+    push_small(alloc, schema, frag, values, numbers[7], all)
 }
 
 /// The eight small databases of a fragment that fits the schema, each with entry values and known

@@ -15,6 +15,7 @@ use crate::made::small_dbs;
 use crate::refute::refutes;
 use crate::small::SmallDb;
 use kernel_lang::{Candidate, KFragment, PruneAnswer};
+use kernel_steps::answered;
 use qbs_base::NoMemory;
 use schema::Schema;
 use std::alloc::Global;
@@ -64,11 +65,7 @@ pub fn prune(alloc: Global, schema: &Schema, frag: &KFragment, cand: &Candidate)
     ensures justified { result ≡ answers.Drop → ∥ IsRefuted (fragment_of frag.now) cand.now ∥₁ }
 {
     if !fits(schema, frag) {
-        return PruneAnswer::Keep;
+        return answered(None);
     }
-    match judged(alloc, schema, frag, cand) {
-        Ok(true) => PruneAnswer::Drop,
-        Ok(false) => PruneAnswer::Keep,
-        Err(_) => PruneAnswer::NoMemory,
-    }
+    answered(Some(judged(alloc, schema, frag, cand)))
 }

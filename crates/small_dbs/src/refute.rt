@@ -6,8 +6,9 @@ ghost use Rattle.kernel_lang.specs.Refuted.{Refutes};
 ghost use Rattle.kernel_lang.specs.Whole.{fragment_of};
 
 use crate::small::SmallDb;
-use kernel_interp::{FragmentEnd, ends_as_claimed, run_fragment};
+use kernel_interp::{ends_as_claimed, run_fragment};
 use kernel_lang::{Candidate, KFragment};
+use kernel_steps::FragmentEnd;
 use qbs_base::NoMemory;
 use std::alloc::Global;
 

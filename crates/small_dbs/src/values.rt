@@ -3,54 +3,20 @@ ghost use Rattle.std.specs.Prelude.{◌≡◌, ◌++◌, ◌∷◌, ◌-ℤ◌, 
 ghost use Rattle.qbs_base.specs.declared.scalar.Scalar.TheVariants as scalars;
 ghost use Rattle.qbs_base.specs.declared.scalar.Ty.TheVariants as tys;
 ghost use Rattle.kernel_lang.specs.Whole.{fragment_of};
+ghost use Rattle.kernel_steps.specs.Put.{put};
 ghost use Rattle.small_dbs.specs.Held.{held, long_or_none};
 ghost use Rattle.small_dbs.specs.Literals as spec;
 
-use crate::cells::push_copy;
 use crate::choice::Values;
 use crate::literals::{put_atoms, put_starts};
 use kernel_lang::KFragment;
+use kernel_steps::push_with;
 use qbs_base::{Items, NoMemory, Scalar, Scalars, Text, Ty};
 use std::alloc::Global;
-use tor_terms::{same_cell, scalar_before};
-
-fn push_all(alloc: Global, values: &[Scalar], all: &mut Scalars) -> Result<(), NoMemory>
-    ensures { OnOk result (all.new ≡ all.old ++ values.now) }
-{
-    for x in values {
-        push_copy(alloc, x, &mut *all)?;
-    }
-    Ok(())
-}
-
-// Pushes values with one more at its place, where it isn't there.
-fn push_with(
-    alloc: Global,
-    x: &Scalar,
-    values: &[Scalar],
-    all: &mut Scalars,
-) -> Result<(), NoMemory>
-    ensures { OnOk result (all.new ≡ all.old ++ spec.put x.now values.now) }
-{
-    match values.split_first() {
-        None => push_copy(alloc, x, all),
-        Some((y, rest)) => {
-            if scalar_before(x, y) {
-                push_copy(alloc, x, &mut *all)?;
-                return push_all(alloc, values, all);
-            }
-            if same_cell(x, y) {
-                return push_all(alloc, values, all);
-            }
-            push_copy(alloc, y, &mut *all)?;
-            push_with(alloc, x, rest, all)
-        }
-    }
-}
 
 // Puts one more value at its place, where it isn't there.
 fn put(alloc: Global, x: &Scalar, values: &mut Scalars) -> Result<(), NoMemory>
-    ensures { OnOk result (values.new ≡ spec.put x.now values.old) }
+    ensures { OnOk result (values.new ≡ put x.now values.old) }
 {
     let mut all = Items::new(alloc);
     push_with(alloc, x, values.as_slice(), &mut all)?;
@@ -138,7 +104,7 @@ fn push_bools(all: &mut Scalars) -> Result<(), NoMemory>
 }
 
 fn put_word(alloc: Global, word: &str, values: &mut Scalars) -> Result<(), NoMemory>
-    ensures { OnOk result (values.new ≡ spec.put (scalars.Text word.now) values.old) }
+    ensures { OnOk result (values.new ≡ put (scalars.Text word.now) values.old) }
 {
     put(alloc, &Scalar::Text(Text::from_str(alloc, word)?), values)
 }

@@ -6,8 +6,9 @@ ghost use Rattle.kernel_lang.specs.Whole.{fragment_of};
 ghost use Rattle.term_cases.specs.Sums.{numbers, nothing, number_row, sum_of_column, sum_of_numbers};
 
 use crate::words::whole_at;
-use kernel_interp::{FragmentEnd, run_fragment};
+use kernel_interp::run_fragment;
 use kernel_lang::{Acc, Entry, KFragment, ListDef, Parts, Update};
+use kernel_steps::FragmentEnd;
 use qbs_base::{Db, Items, Kind, NoMemory, Row, Scalar, Text, Value};
 use std::alloc::Global;
 use tor_terms::Elem;

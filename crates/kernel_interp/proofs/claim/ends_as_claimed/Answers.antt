@@ -1,8 +1,7 @@
-use Rattle.std.proofs.Common.{◌≡◌, true, map, ap, sym, ◌∙◌, subst, List}
+use Rattle.std.proofs.Common.{◌≡◌, map, ap, ◌∙◌}
 use Rattle.kernel_lang.specs.Given.{listed}
 use Rattle.kernel_lang.specs.Pools as pools
 use Rattle.kernel_lang.specs.Whole.{fragment_of}
-use Rattle.kernel_interp.specs.declared.member.Member.{Member}
 use Rattle.kernel_interp.specs.Members.{members_seen, are_sound}
 use Rattle.kernel_interp.specs.Reading.{lists_seen}
 use Rattle.kernel_interp.proofs.Claimed.{members_sound, said_result}

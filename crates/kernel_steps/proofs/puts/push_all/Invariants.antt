@@ -1,5 +1,5 @@
 use Rattle.std.proofs.Common.{◌≡◌, ◌++◌, take}
-use Rattle.small_dbs.proofs.values.push_all.Given as goal
+use Rattle.kernel_steps.proofs.puts.push_all.Given as goal
 
 abbrev pub invariant-loop-x : goal.invariant-loop-x
 invariant-loop-x l = l.all ≡ l.initial.all ++ take l.x-index l.values

@@ -1,5 +1,6 @@
 // What a run ends with.
-ghost use Rattle.kernel_interp.specs.Stops.{IsNoMemory};
+ghost use Rattle.std.specs.Prelude.{IfOk};
+ghost use Rattle.kernel_steps.specs.Stops.{IsNoMemory, EndsWith};
 
 use qbs_base::{NoMemory, Values};
 
@@ -23,5 +24,16 @@ impl From<NoMemory> for Stop {
 
     fn from(_: NoMemory) -> Stop {
         Stop::NoMemory
+    }
+}
+
+/// What a fragment ends with, from the values of its accumulators or why there are none.
+pub fn ended(values: Result<Values, Stop>) -> Result<FragmentEnd, NoMemory>
+    ensures { IfOk result (λ end. EndsWith values end) }
+{
+    match values {
+        Ok(values) => Ok(FragmentEnd::Store(values)),
+        Err(Stop::Overflow) => Ok(FragmentEnd::Overflow),
+        Err(Stop::NoMemory) => Err(NoMemory),
     }
 }

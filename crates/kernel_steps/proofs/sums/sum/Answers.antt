@@ -1,8 +1,8 @@
 use Rattle.std.proofs.Common.{◌+ℤ◌, rules, w64}
 use Rattle.std.proofs.lemmas.Int.{to_z-of_z}
 use mir.Val.{SFits}
-use Rattle.kernel_interp.proofs.Numbers.{some_long, no_long}
-use Rattle.kernel_interp.proofs.running.sum.Goals as goal
+use Rattle.kernel_steps.proofs.Numbers.{some_long, no_long}
+use Rattle.kernel_steps.proofs.sums.sum.Goals as goal
 
 pub returns-in-Some : goal.returns-in-Some
 returns-in-Some c =

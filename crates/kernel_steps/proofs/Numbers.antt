@@ -1,7 +1,7 @@
 -- Numbers of 64 bits.
 use Rattle.std.proofs.Common.{◌≡◌, ℤ, Bool, true, false, if◌then◌else◌, Some, None, refl}
 use Rattle.qbs_base.specs.Values.{fits_long}
-use Rattle.kernel_interp.specs.Ends.{long_or_none}
+use Rattle.kernel_steps.specs.Stops.{long_or_none}
 
 pub some_long : (n m : ℤ) → Some n ≡ long_or_none m → (n ≡ m) × (fits_long m ≡ true)
 some_long n m e = go (fits_long m) refl e

@@ -1,5 +1,5 @@
 use Rattle.std.proofs.Common.{length}
-use Rattle.small_dbs.proofs.values.+push_with.Given as goal
+use Rattle.kernel_steps.proofs.puts.+push_with.Given as goal
 
 abbrev pub decreases-push_with : goal.decreases-push_with
 decreases-push_with l = length l.values.now
