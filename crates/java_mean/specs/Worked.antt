@@ -35,7 +35,7 @@ abbrev pub Pay : List ℕ
 Pay = codes "Pay"
 
 abbrev column : List ℕ → Ty → Column
-column name ty = record { name = name; ty = ty }
+column name ty = record { name = name; ty = ty; not_null = false; primary = false }
 
 abbrev pub staff : World
 staff = record { schema = staff_schema; db = staff_tables; ask = λ text args. None }

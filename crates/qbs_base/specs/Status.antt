@@ -1,7 +1,7 @@
 -- The numbers of the statuses.
 use Rattle.std.specs.Prelude.{ℕ}
 use Rattle.qbs_base.specs.declared.status.Status.{Status}
-use Rattle.qbs_base.specs.declared.status.Status.TheVariants.{Ok, Refused, Words, ReadFault, WriteFault, Schema, Source, Types, Data, Faulted, Bundle, Turns, NoMemory, Limit, NotYet, Store}
+use Rattle.qbs_base.specs.declared.status.Status.TheVariants.{Ok, Refused, Words, ReadFault, WriteFault, Schema, Source, Types, Data, Faulted, Bundle, Turns, NoMemory, Limit, NotYet, Store, View}
 
 -- the number that the process ends with
 abbrev pub code_of : Status → ℕ
@@ -21,6 +21,7 @@ code_of NoMemory = 12
 code_of Limit = 13
 code_of NotYet = 14
 code_of Store = 15
+code_of View = 16
 
 -- a status at which nothing was written to the output
 abbrev pub KeepsOutput : Status → Type 0

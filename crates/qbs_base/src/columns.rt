@@ -4,11 +4,14 @@ ghost use Rattle.qbs_base.specs.Columns as specs;
 
 use crate::{Items, Name, Ty};
 
-/// A column of a table.
+/// A column of a table: its name, its type, and what the schema says of NULL. Both marks are as written, so that a primary column
+/// without `NOT NULL` has the second alone; neither changes what a program or a query means.
 #[derive(Clone, Drop)]
 pub struct Column {
     pub name: Name,
     pub ty: Ty,
+    pub not_null: bool,
+    pub primary: bool,
 }
 
 pub type Columns = Items<Column>;

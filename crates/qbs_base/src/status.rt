@@ -37,6 +37,8 @@ pub enum Status {
     NotYet,
     /// The store of databases that was handed in isn't one of the schema.
     Store,
+    /// The map by which a file is viewed isn't one, or what is seen of the file is too long.
+    View,
 }
 
 impl Status {
@@ -61,6 +63,7 @@ impl Status {
             Status::Limit => 13,
             Status::NotYet => 14,
             Status::Store => 15,
+            Status::View => 16,
         }
     }
 }

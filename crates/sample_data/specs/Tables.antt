@@ -1,5 +1,5 @@
 -- The tables that `make` fills.
-use Rattle.std.specs.Prelude.{ℕ, ◌%◌, pos, nat_eq, List, [], ◌∷◌, ◌++◌, codes, map}
+use Rattle.std.specs.Prelude.{ℕ, ◌%◌, pos, false, nat_eq, List, [], ◌∷◌, ◌++◌, codes, map}
 use Rattle.std.specs.Fmt.{decimal}
 use Rattle.std.specs.List.{range_with_len}
 use Rattle.qbs_base.specs.declared.columns.Column.{Column}
@@ -18,7 +18,7 @@ abbrev pub Role : List ℕ
 Role = codes "Role"
 
 abbrev column : List ℕ → Ty → Column
-column name ty = record { name = name; ty = ty }
+column name ty = record { name = name; ty = ty; not_null = false; primary = false }
 
 abbrev pub user_columns : List Column
 user_columns =

@@ -1,5 +1,5 @@
 -- A schema of users and roles, and small database 1 of a loop that adds the users of role 2.
-use Rattle.std.specs.Prelude.{ℕ, List, [], ◌∷◌, true, codes}
+use Rattle.std.specs.Prelude.{ℕ, List, [], ◌∷◌, true, false, codes}
 use Rattle.qbs_base.specs.declared.columns.Column.{Column}
 use Rattle.qbs_base.specs.declared.scalar.Ty.{Ty}
 use Rattle.qbs_base.specs.declared.scalar.Ty.TheVariants as tys
@@ -8,7 +8,7 @@ use Rattle.kernel_lang.specs.Worked.{user, role, nothing}
 use Rattle.small_dbs.specs.declared.small.SmallDb.{SmallDb}
 
 abbrev pub column : List ℕ → Ty → Column
-column name ty = record { name = name; ty = ty }
+column name ty = record { name = name; ty = ty; not_null = false; primary = false }
 
 abbrev pub users_and_roles : Schema
 users_and_roles =

@@ -1,9 +1,11 @@
 -- Two small tables, and what texts say of them.
 use Rattle.std.specs.Prelude.{◌≡◌, ℕ, pos, Bool, true, false, List, [], ◌∷◌, codes}
+use Rattle.qbs_base.specs.declared.columns.Column.{Column}
 use Rattle.qbs_base.specs.declared.scalar.Kind.TheVariants as rows
 use Rattle.qbs_base.specs.declared.scalar.Row.{Row}
 use Rattle.qbs_base.specs.declared.scalar.Scalar.{Scalar}
 use Rattle.qbs_base.specs.declared.scalar.Scalar.TheVariants as scalars
+use Rattle.qbs_base.specs.declared.scalar.Ty.{Ty}
 use Rattle.qbs_base.specs.declared.scalar.Ty.TheVariants as tys
 use Rattle.qbs_base.specs.Values.{Schema, Database}
 use Rattle.sql_ast.specs.declared.rule.SqlRule.{SqlRule}
@@ -12,13 +14,17 @@ use Rattle.sql_ast.specs.Meaning.{Answered, Rows, One, query_answer}
 use Rattle.sql_ast.specs.Texts.{HasQuery, BreaksRule}
 use Rattle.sql_ast.specs.Tree.{PlainQuery}
 
+-- a column that may hold NULL for all that its schema says
+abbrev column : List ℕ → Ty → Column
+column name ty = record { name = name; ty = ty; not_null = false; primary = false }
+
 abbrev pub staff_schema : Schema
 staff_schema =
     record {
       name = codes "User";
-      columns = record { name = codes "id"; ty = tys.Long } ∷ record { name = codes "name"; ty = tys.Text } ∷ record { name = codes "roleId"; ty = tys.Long } ∷ record { name = codes "age"; ty = tys.Long } ∷ record { name = codes "active"; ty = tys.Bool } ∷ [];
+      columns = column (codes "id") tys.Long ∷ column (codes "name") tys.Text ∷ column (codes "roleId") tys.Long ∷ column (codes "age") tys.Long ∷ column (codes "active") tys.Bool ∷ [];
     }
-    ∷ record { name = codes "Role"; columns = record { name = codes "id"; ty = tys.Long } ∷ record { name = codes "label"; ty = tys.Text } ∷ [] }
+    ∷ record { name = codes "Role"; columns = column (codes "id") tys.Long ∷ column (codes "label") tys.Text ∷ [] }
     ∷ []
 
 abbrev pub user : ℕ → List ℕ → ℕ → ℕ → Bool → Row
