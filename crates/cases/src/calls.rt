@@ -2,7 +2,8 @@
 use crate::held::{File, clean_files_of, files_of};
 use crate::split::{first_and_rest, number_of};
 use qbs::{qbs_main, qbs_main_over_clean_ends};
-use qbs_base::{CleanSink, MemFiles, MemSink, NoMemory, Words};
+use qbs_base::{NoMemory, Words};
+use files_sinks::{CleanSink, MemFiles, MemSink};
 use std::alloc::{AllocError, Global};
 
 /// The calls of the files and of both sinks that are to fail, and the room of `out`.

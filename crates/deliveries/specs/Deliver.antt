@@ -2,7 +2,7 @@
 use Rattle.std.specs.Prelude.{◌≡◌, ◌⊎◌, ℕ, List, []}
 use Rattle.std.specs.declared.option.Option.{Option}
 use Rattle.std.specs.Io.KnownBytes.{Appends}
-use Rattle.qbs_base.specs.Outside.{AppendsPrefix, Rose}
+use Rattle.files_sinks.specs.Outside.{AppendsPrefix, Rose}
 use Rattle.qbs_base.specs.declared.status.Status.{Status}
 use Rattle.deliveries.specs.declared.plan.Plan.{Plan}
 

@@ -2,7 +2,7 @@
 use Rattle.std.specs.Prelude.{◌≡◌, ◌⊎◌, ℕ, List, codes}
 use Rattle.std.specs.declared.option.Option.{Option}
 use Rattle.std.specs.Io.KnownBytes.{Appends}
-use Rattle.qbs_base.specs.Outside.{AppendsPrefix}
+use Rattle.files_sinks.specs.Outside.{AppendsPrefix}
 use Rattle.qbs_base.specs.declared.status.Status.{Status}
 
 -- the line of want of memory

@@ -2,7 +2,7 @@
 use Rattle.std.specs.Prelude.{ℕ, List, [], ◌++◌, codes}
 use Rattle.std.specs.declared.option.Option.{Option}
 use Rattle.qbs_base.specs.declared.status.Status.{Status}
-use Rattle.qbs_base.specs.Outside.{Rose}
+use Rattle.files_sinks.specs.Outside.{Rose}
 use Rattle.verdicts.specs.Lines.{line}
 use Rattle.deliveries.specs.declared.plan.Plan.{Plan}
 

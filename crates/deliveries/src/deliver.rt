@@ -1,11 +1,12 @@
 // Writing what is due.
 ghost use Rattle.std.specs.Prelude.{◌≡◌, ◌≤◌};
-ghost use Rattle.qbs_base.specs.Outside.{Rose};
+ghost use Rattle.files_sinks.specs.Outside.{Rose};
 ghost use Rattle.deliveries.specs.Deliver.{Delivers, change};
 ghost use Rattle.deliveries.specs.declared.plan.Plan.{Plan};
 
 use crate::Plan;
-use qbs_base::{Sink, Status, WriteAnswer};
+use qbs_base::Status;
+use files_sinks::{Sink, WriteAnswer};
 
 /// Writes the text to `out` and then the line to `rep`, each by one call where it has bytes.
 pub fn deliver<O: Sink, E: Sink>(
@@ -41,7 +42,7 @@ pub fn deliver_plan<O: Sink, E: Sink>(plan: &Plan, out: &mut O, rep: &mut E) -> 
     )
 }
 
-ghost use Rattle.qbs_base.specs.Outside.{Writes, WriteCause};
+ghost use Rattle.files_sinks.specs.Outside.{Writes, WriteCause};
 
 // One call, where there is something to write.
 fn send<K: Sink>(piece: &[u8], sink: &mut K) -> WriteAnswer

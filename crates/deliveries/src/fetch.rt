@@ -1,13 +1,14 @@
 // Reading a file, or what is due where it can't be read.
 ghost use Rattle.std.specs.Prelude.{◌≡◌, ◌<◌, ◌≤◌, ◌-◌, MatchResult, IfSome, codes, length};
-ghost use Rattle.qbs_base.specs.Outside.{Rose};
+ghost use Rattle.files_sinks.specs.Outside.{Rose};
 ghost use Rattle.deliveries.specs.declared.fetch.Stop.TheVariants.{Memory};
 ghost use Rattle.deliveries.specs.Code.{Goes, StopsFor};
 ghost use Rattle.deliveries.specs.Plan.{given};
 ghost use Rattle.deliveries.specs.Steps.{IsRead, IsNotRead};
 
 use crate::Plan;
-use qbs_base::{Bytes, Files, NoMemory, ReadAnswer, Status, Text};
+use qbs_base::{Bytes, NoMemory, Status, Text};
+use files_sinks::{Files, ReadAnswer};
 use std::alloc::{AllocError, AllocFailed, Global};
 
 /// What ends a command before its work is done.

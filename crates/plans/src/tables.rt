@@ -1,13 +1,14 @@
 // The tables of a schema, from files of a folder.
 ghost use Rattle.std.specs.Prelude.{◌≡◌, ◌<◌, ◌≤◌, ◌++◌, ◌∷◌, [], length, IfOk, OnOk, IfErr, slice_get, string_bytes};
-ghost use Rattle.qbs_base.specs.Outside.{Rose};
+ghost use Rattle.files_sinks.specs.Outside.{Rose};
 ghost use Rattle.qbs_base.specs.Values.{IsDatabaseOf};
 ghost use Rattle.deliveries.specs.Plan.{given};
 ghost use Rattle.plans.specs.Tables.{table_file as file_of, IsFresh, Reads, Loads, LoadsNext, with_rows_at};
 
 use crate::lines::data_refused;
 use deliveries::fetch::{Stop, fetch, left_behind};
-use qbs_base::{Bytes, Db, Fail, Files, Items, NoMemory, Rows, Table, Text};
+use qbs_base::{Bytes, Db, Fail, Items, NoMemory, Rows, Table, Text};
+use files_sinks::Files;
 use schema::Schema;
 use schema_text::load_table;
 use std::alloc::{AllocError, Global};

@@ -1,6 +1,6 @@
 // The command `check`.
 ghost use Rattle.std.specs.Prelude.{◌≡◌, ◌≤◌, IfOk, [], string_bytes};
-ghost use Rattle.qbs_base.specs.Outside.{Rose};
+ghost use Rattle.files_sinks.specs.Outside.{Rose};
 ghost use Rattle.java_ast.specs.Reading.{program as plain_program};
 ghost use Rattle.java_mean.specs.WellTyped.{IsWellTyped};
 ghost use Rattle.java_types.specs.Texts.{read_by};
@@ -14,7 +14,8 @@ use deliveries::fetch::{Stop, fetch, fetch_schema, fetch_source};
 use deriv_check::Bundle;
 use java_types::Typed;
 use plans::opening::{open_bundle, open_program, open_schema};
-use qbs_base::{Bytes, Files, Status, Text};
+use qbs_base::{Bytes, Status, Text};
+use files_sinks::Files;
 use rewrite_core::{Checked, check_bundle};
 use schema::Schema;
 use std::alloc::{AllocError, Global};

@@ -2,7 +2,8 @@
 ghost use Rattle.std.specs.Prelude.{◌≢◌};
 
 use crate::qbs_main;
-use qbs_base::{CleanFiles, CleanSink, Status, Words};
+use qbs_base::{Status, Words};
+use files_sinks::{CleanFiles, CleanSink};
 use query_search::Pruner;
 use std::alloc::Global;
 

@@ -1,6 +1,6 @@
 //! Laws of the top call. They do nothing.
 ghost use Rattle.std.specs.Prelude.{◌≡◌, ℕ, List, Option, IsSome, true, false};
-ghost use Rattle.qbs_base.specs.Outside.{Rose};
+ghost use Rattle.files_sinks.specs.Outside.{Rose};
 ghost use Rattle.qbs_base.specs.declared.status.Status.{Status};
 ghost use Rattle.words.specs.declared.command.Options.{Options};
 ghost use Rattle.plans.specs.Calls.{Call};

@@ -1,7 +1,7 @@
 // The command `prove`.
 ghost use Rattle.std.specs.Prelude.{◌≡◌, ◌≤◌, ◌++◌, IfOk, length};
 ghost use Rattle.std.specs.List.{flat_map};
-ghost use Rattle.qbs_base.specs.Outside.{Rose};
+ghost use Rattle.files_sinks.specs.Outside.{Rose};
 ghost use Rattle.java_ast.specs.Reading.{program as plain_program};
 ghost use Rattle.deriv_check.specs.Bundles.{entries_of};
 ghost use Rattle.deriv_check.specs.Texts.{bundle_text};
@@ -21,7 +21,8 @@ use deriv_check::print_bundle;
 use java_types::Typed;
 use kernel_lang::{Candidate, KFragment, PruneAnswer};
 use plans::opening::{open_program, open_schema};
-use qbs_base::{Bytes, Files, NoMemory, Status, Text};
+use qbs_base::{Bytes, NoMemory, Status, Text};
+use files_sinks::Files;
 use query_search::Pruner;
 use rewrite_core::{Rewritten, rewrite};
 use schema::Schema;

@@ -2,7 +2,7 @@
 ghost use Rattle.std.specs.Prelude.{◌≡◌, ◌≤◌, ◌++◌, IfOk};
 ghost use Rattle.std.specs.List.{flat_map};
 ghost use Rattle.java_ast.specs.Reading.{program as plain_program};
-ghost use Rattle.qbs_base.specs.Outside.{Rose};
+ghost use Rattle.files_sinks.specs.Outside.{Rose};
 ghost use Rattle.deliveries.specs.Code.{OrMemory};
 ghost use Rattle.plans.specs.Opening.{IsProgramOf};
 ghost use Rattle.deliveries.specs.Plan.{given};
@@ -16,7 +16,8 @@ use deliveries::fetch::{Stop, fetch_schema, fetch_source};
 use java_types::Typed;
 use kernel_lang::{Candidate, KFragment, PruneAnswer};
 use plans::opening::{open_program, open_schema};
-use qbs_base::{Files, NoMemory, Status, Text};
+use qbs_base::{NoMemory, Status, Text};
+use files_sinks::Files;
 use query_search::Pruner;
 use rewrite_core::{Rewritten, rewrite};
 use schema::Schema;

@@ -1,6 +1,6 @@
 // The command `run`.
 ghost use Rattle.std.specs.Prelude.{◌≡◌, ◌≤◌, IfOk, length};
-ghost use Rattle.qbs_base.specs.Outside.{Rose};
+ghost use Rattle.files_sinks.specs.Outside.{Rose};
 ghost use Rattle.java_ast.specs.Reading.{program as plain_program};
 ghost use Rattle.java_interp.specs.Reached.{outcome_in};
 ghost use Rattle.java_mean.specs.WellTyped.{IsWellTyped};
@@ -27,7 +27,8 @@ use plans::lines::{fault_refused, word_refused};
 use plans::opening::{open_program, open_schema};
 use plans::results::output;
 use plans::tables::{TableTexts, fetch_tables, load_tables};
-use qbs_base::{Bytes, Files, NoMemory, Status, Table, Text, Words};
+use qbs_base::{Bytes, NoMemory, Status, Table, Text, Words};
+use files_sinks::Files;
 use query_search::Pruner;
 use rewrite_core::rewrite;
 use schema::Schema;

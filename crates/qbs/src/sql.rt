@@ -1,6 +1,6 @@
 // The command `sql`.
 ghost use Rattle.std.specs.Prelude.{◌≡◌, ◌≤◌, Some, length};
-ghost use Rattle.qbs_base.specs.Outside.{Rose};
+ghost use Rattle.files_sinks.specs.Outside.{Rose};
 ghost use Rattle.java_mean.specs.Rules.{has_order as query_has_order};
 ghost use Rattle.java_types.specs.Texts.{read_by};
 ghost use Rattle.sql_ast.specs.Reading.{query as query_of};
@@ -18,7 +18,8 @@ use plans::lines::{fault_refused, nowhere, word_refused};
 use plans::opening::{open_query, open_schema};
 use plans::results::output;
 use plans::tables::{TableTexts, fetch_tables, load_tables};
-use qbs_base::{Files, Scalars, Table, Text, Ty, Value};
+use qbs_base::{Scalars, Table, Text, Ty, Value};
+use files_sinks::Files;
 use schema::Schema;
 use sql_ast::{Query, order_complete};
 use sql_exec::{Answer, answer_indexed};

@@ -1,7 +1,7 @@
 // The top call.
 ghost use Rattle.std.specs.Prelude.{◌≡◌, ◌≤◌, []};
 ghost use Rattle.std.specs.Io.KnownBytes.{Appends};
-ghost use Rattle.qbs_base.specs.Outside.{Rose};
+ghost use Rattle.files_sinks.specs.Outside.{Rose};
 ghost use Rattle.qbs_base.specs.Status.{KeepsOutput};
 ghost use Rattle.deliveries.specs.Code.{OrMemory};
 ghost use Rattle.deliveries.specs.Deliver.{change};
@@ -28,7 +28,8 @@ use deliveries::Plan;
 use deliveries::deliver::{deliver, deliver_plan};
 use deliveries::fetch::{Stop, refused};
 use kernel_lang::{Candidate, KFragment, PruneAnswer};
-use qbs_base::{Files, Sink, Status, Text, Words};
+use qbs_base::{Status, Text, Words};
+use files_sinks::{Files, Sink};
 use query_search::Pruner;
 use std::alloc::Global;
 use words::{Command, Options, read_words};

@@ -1,15 +1,12 @@
 pub mod Bytes
 pub mod Columns
 pub mod Folded
-pub mod Held
 pub mod Laws
 pub mod Literal
 pub mod Memory
 pub mod Named
-pub mod Outside
 pub mod Places
 pub mod Printed
-pub mod Room
 pub mod Scalar
 pub mod Sort
 pub mod Status

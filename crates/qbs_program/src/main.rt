@@ -11,7 +11,8 @@ mod read_once;
 
 use kernel_lang::{Candidate, KFragment, PruneAnswer};
 use qbs::{qbs_main, refuse_for_memory, schema_word};
-use qbs_base::{Files, ReadAnswer, RealFiles, RealSink, Sink, Status, Text, Words};
+use qbs_base::{Status, Text, Words};
+use files_sinks::{Files, ReadAnswer, RealFiles, RealSink, Sink};
 use query_search::{Call, Pruner};
 use read_once::ReadOnce;
 use schema::Schema;

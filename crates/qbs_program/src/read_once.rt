@@ -1,9 +1,10 @@
 // Files of which one was read already, and isn't read again: what comes through a pipe comes once.
 ghost use Rattle.std.specs.Prelude.{◌≢◌};
 ghost use Rattle.std.specs.declared.option.Option.TheVariants.{None};
-ghost use Rattle.qbs_base.specs.Outside.{Reads};
+ghost use Rattle.files_sinks.specs.Outside.{Reads};
 
-use qbs_base::{Bytes, Files, ReadAnswer, Text};
+use qbs_base::{Bytes, Text};
+use files_sinks::{Files, ReadAnswer};
 use std::alloc::Global;
 
 // What was read of a file, but for a failure.

@@ -1,6 +1,6 @@
 use Rattle.std.proofs.Common.{length, take, drop, ◌-◌}
 use Rattle.std.proofs.lemmas.Result.{err_from_is_err_and}
-use Rattle.qbs_base.specs.Outside.{Rose}
+use Rattle.files_sinks.specs.Outside.{Rose}
 use Rattle.deliveries.specs.Plan.{given}
 use Rattle.plans.proofs.Fetched.{rose_later, first_of, fetch_stopped, reads_on}
 use Rattle.plans.proofs.tables.+fetch_tables.Goals as goal

@@ -1,6 +1,6 @@
 use Rattle.std.proofs.Common.{List, ℕ, Err, subst, refl, ◌∙◌, codes}
 use Rattle.std.proofs.lemmas.Result.{err_from_is_err_and}
-use Rattle.qbs_base.specs.Outside.{Rose}
+use Rattle.files_sinks.specs.Outside.{Rose}
 use Rattle.deliveries.specs.Code.{OrMemory}
 use Rattle.deliveries.specs.Plan.{given}
 use Rattle.deliveries.specs.Steps.{Ends, reads}

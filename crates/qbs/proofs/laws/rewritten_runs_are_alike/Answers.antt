@@ -1,4 +1,4 @@
-use Rattle.qbs_base.specs.Outside.{Rose}
+use Rattle.files_sinks.specs.Outside.{Rose}
 use Rattle.qbs.proofs.AlikeRuns.{commands_alike}
 use Rattle.qbs.proofs.laws.rewritten_runs_are_alike.Goals as goal
 

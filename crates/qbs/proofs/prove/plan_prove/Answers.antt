@@ -1,6 +1,6 @@
 use Rattle.std.proofs.Common.{◌≤◌, List, ℕ, length, subst, sym}
 use Rattle.std.proofs.lemmas.Result.{err_from_is_err_and}
-use Rattle.qbs_base.specs.Outside.{Rose}
+use Rattle.files_sinks.specs.Outside.{Rose}
 use Rattle.deliveries.specs.Plan.{given}
 use Rattle.plans.proofs.Fetched.{rose_later}
 use Rattle.qbs.proofs.Planned.{prove_unread, prove_half_read, prove_read}

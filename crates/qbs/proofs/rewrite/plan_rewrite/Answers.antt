@@ -1,5 +1,5 @@
 use Rattle.std.proofs.lemmas.Result.{err_from_is_err_and}
-use Rattle.qbs_base.specs.Outside.{Rose}
+use Rattle.files_sinks.specs.Outside.{Rose}
 use Rattle.deliveries.specs.Plan.{given}
 use Rattle.plans.proofs.Fetched.{rose_later}
 use Rattle.qbs.proofs.Planned.{rewrite_unread, rewrite_half_read, rewrite_read}

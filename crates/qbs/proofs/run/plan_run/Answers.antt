@@ -1,6 +1,6 @@
 use Rattle.std.proofs.Common.{List, ℕ, subst, ◌∙◌}
 use Rattle.std.proofs.lemmas.Result.{err_from_is_err_and}
-use Rattle.qbs_base.specs.Outside.{Rose}
+use Rattle.files_sinks.specs.Outside.{Rose}
 use Rattle.deliveries.specs.Code.{OrMemory}
 use Rattle.deliveries.specs.Plan.{given}
 use Rattle.plans.specs.Tables.{over_tables}

@@ -1,7 +1,7 @@
 use Rattle.std.proofs.Common.{◌≡◌, List, ℕ, ◌++◌, ◌∙◌, ap, length, refl}
 use Rattle.std.proofs.lemmas.Result.{err_from_is_err_and}
 use Rattle.qbs_base.specs.declared.columns.Table.{Table}
-use Rattle.qbs_base.specs.Outside.{Rose}
+use Rattle.files_sinks.specs.Outside.{Rose}
 use Rattle.java_types.specs.Texts.{read_by}
 use Rattle.deliveries.specs.Plan.{given}
 use Rattle.plans.proofs.Fetched.{as_many}

@@ -1,7 +1,8 @@
 -- Files that are held in memory, as a list of names and bytes.
-use Rattle.std.specs.Prelude.{ℕ, List, [], unwrap_or}
+use Rattle.std.specs.Prelude.{◌≡◌, ℕ, ◌≤◌, ◌⊎◌, List, [], unwrap_or}
+use Rattle.std.specs.List.{Contains}
 use Rattle.std.specs.declared.option.Option.{Option}
-use Rattle.std.specs.declared.option.Option.TheVariants.{Some}
+use Rattle.std.specs.declared.option.Option.TheVariants.{Some, None}
 use Rattle.qbs_base.specs.Named.{at_name}
 
 abbrev pub Entry : Type 0
@@ -17,3 +18,7 @@ pub record MemFilesView : Type 0 where
   pub failing : List ℕ
   pub calls : ℕ
   pub faults : ℕ
+
+-- the name isn't held, or a call to come is one that is to fail
+abbrev pub MayFail : MemFilesView → List ℕ → Type 0
+MayFail s name = (at_name s.files name ≡ None) ⊎ ((call : ℕ) × Contains s.failing call × (s.calls ≤ call))

@@ -2,10 +2,10 @@
 use Rattle.std.specs.Prelude.{◌≡◌, ℕ, ◌+◌, ◌-◌, ◌^◌, ◌≤◌, ◌<◌, min, List, length, take, IfSome, ⊤}
 use Rattle.std.specs.declared.option.Option.{Option}
 use Rattle.std.specs.Io.KnownBytes.{Appends}
-use Rattle.qbs_base.specs.declared.files.ReadAnswer.{ReadAnswer}
-use Rattle.qbs_base.specs.declared.files.ReadAnswer.TheVariants as Read
-use Rattle.qbs_base.specs.declared.sinks.WriteAnswer.{WriteAnswer}
-use Rattle.qbs_base.specs.declared.sinks.WriteAnswer.TheVariants as Write
+use Rattle.files_sinks.specs.declared.files.ReadAnswer.{ReadAnswer}
+use Rattle.files_sinks.specs.declared.files.ReadAnswer.TheVariants as Read
+use Rattle.files_sinks.specs.declared.sinks.WriteAnswer.{WriteAnswer}
+use Rattle.files_sinks.specs.declared.sinks.WriteAnswer.TheVariants as Write
 
 -- a count of faults rose, or stands at its end
 abbrev pub Rose : ℕ → ℕ → Type 0

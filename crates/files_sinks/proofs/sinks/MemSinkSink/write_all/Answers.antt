@@ -1,5 +1,5 @@
 use Rattle.std.proofs.Common.{rules, ◌-◌, vec_len}
-use Rattle.qbs_base.proofs.sinks.MemSinkSink.write_all.Goals as goal
+use Rattle.files_sinks.proofs.sinks.MemSinkSink.write_all.Goals as goal
 
 -- the bytes that the room still took
 pub returns-clause-wrote : goal.returns-clause-wrote

@@ -1,12 +1,11 @@
 // Files that are read whole.
-ghost use Rattle.std.specs.Prelude.{◌≡◌, ◌≢◌, ◌≤◌, ℕ, List, [], ◌∷◌, ◌++◌, Some, None, OnOk, OnErr};
+ghost use Rattle.std.specs.Prelude.{◌≡◌, ◌≢◌, ◌≤◌, ◌+◌, ◌-◌, ◌^◌, ℕ, List, [], ◌∷◌, ◌++◌, Some, None, OnOk, OnErr, min, ⊤};
 ghost use Rattle.std.specs.declared.option.Option.{Option};
-ghost use Rattle.qbs_base.specs.Outside.{Reads, ReadCause};
+ghost use Rattle.files_sinks.specs.Outside.{Reads, ReadCause};
 ghost use Rattle.qbs_base.specs.Named.{at_name, with_name};
-ghost use Rattle.qbs_base.specs.Held.{held_or_empty, MemFilesView, Entry};
+ghost use Rattle.files_sinks.specs.Held.{held_or_empty, MemFilesView, MayFail, Entry};
 
-use crate::named::{find_name, find_place};
-use crate::{Bytes, NoMemory, Text};
+use qbs_base::{Bytes, NoMemory, Text, find_name, find_place};
 use std::alloc::Global;
 use std::io::Read;
 use std::marker::Model;
@@ -28,11 +27,20 @@ pub trait Files {
     /// How often it has failed.
     ghost faults: { Self → ℕ };
 
-    /// The bytes of a file, at most `limit` of them.
+    /// Whether a read of this name may fail.
+    ghost may_fail: { Self → List ℕ → Type 0 };
+
+    /// What one read of this name may leave of the files.
+    ghost by_read: { Self → List ℕ → Self → Type 0 };
+
+    /// The bytes of a file, at most `limit` of them. A name whose read may not fail before may not fail behind it.
     fn read_all(&mut self, alloc: Global, name: &Text, limit: u64) -> ReadAnswer
         ensures same { told self.new ≡ told self.old }
         ensures read { Reads (told self.old name.now) limit result }
-        ensures cause { ReadCause (faults self.old) (faults self.new) result };
+        ensures cause { ReadCause (faults self.old) (faults self.new) result }
+        ensures named { result ≡ ReadAnswer.Failed → may_fail self.old name.now }
+        ensures fewer { (other : List ℕ) → may_fail self.new other → may_fail self.old other }
+        ensures once { by_read self.old name.now self.new };
 }
 
 /// Files in memory, of which chosen calls fail. A name that isn't held fails.
@@ -111,6 +119,10 @@ impl Files for MemFiles {
 
     ghost faults = { λ s. s.faults };
 
+    ghost may_fail = { MayFail };
+
+    ghost by_read = { λ s _ t. (t.files ≡ s.files) × (t.calls ≡ min (s.calls + 1) (2 ^ 32 - 1)) };
+
     fn read_all(&mut self, alloc: Global, name: &Text, limit: u64) -> ReadAnswer {
         let call = self.calls;
         self.calls = call.saturating_add(1);
@@ -163,6 +175,10 @@ impl Files for CleanFiles {
 
     ghost faults = { λ s. 0 };
 
+    ghost may_fail = { λ _ _. ⊥ };
+
+    ghost by_read = { λ s _ t. t ≡ s };
+
     fn read_all(&mut self, alloc: Global, name: &Text, limit: u64) -> ReadAnswer {
         match find_name(&self.files, name) {
             Some(bytes) => give(alloc, bytes.as_slice(), limit),
@@ -197,6 +213,10 @@ impl<R: Reaches> Files for RealFiles<'_, R> {
     ghost told = { λ s name. None };
 
     ghost faults = { λ s. s.faults };
+
+    ghost may_fail = { λ _ _. ⊤ };
+
+    ghost by_read = { λ s _ t. (t.rt ≡ s.rt) × (s.faults ≤ t.faults) };
 
     fn read_all(&mut self, alloc: Global, name: &Text, limit: u64) -> ReadAnswer {
         match read_some(self.rt, alloc, name, limit.saturating_add(1)) {

@@ -1,10 +1,10 @@
 // Sinks that are appended to.
-ghost use Rattle.std.specs.Prelude.{◌≡◌, ◌≤◌, ℕ, List, [], ◌∷◌, ◌++◌, Some, None, OnOk, OnErr, IfOk, length, take, vec_len, vec_capacity};
+ghost use Rattle.std.specs.Prelude.{◌≡◌, ◌≤◌, ◌+◌, ◌-◌, ◌^◌, ℕ, List, [], ◌∷◌, ◌++◌, Some, None, OnOk, OnErr, IfOk, length, take, min, vec_len, vec_capacity};
 ghost use Rattle.std.specs.declared.option.Option.{Option};
-ghost use Rattle.qbs_base.specs.Room.{MemSinkView};
-ghost use Rattle.qbs_base.specs.Outside.{Writes, WriteCause};
+ghost use Rattle.files_sinks.specs.Room.{MemSinkView};
+ghost use Rattle.files_sinks.specs.Outside.{Writes, WriteCause};
 
-use crate::NoMemory;
+use qbs_base::NoMemory;
 use std::alloc::Global;
 use std::io::Write;
 use std::marker::Model;
@@ -22,9 +22,14 @@ pub trait Sink {
     /// How often it has failed.
     ghost faults: { Self → ℕ };
 
+    /// What one write of this piece may leave of the sink.
+    ghost by_write: { Self → List ℕ → Self → Type 0 };
+
+    /// Appends the piece, or a prefix of it where it fails.
     fn write_all(&mut self, piece: &[u8]) -> WriteAnswer
         ensures wrote { Writes (told self.old) (told self.new) piece.now result }
-        ensures cause { WriteCause (faults self.old) (faults self.new) result };
+        ensures cause { WriteCause (faults self.old) (faults self.new) result }
+        ensures once { by_write self.old piece.now self.new };
 }
 
 /// Bytes in a room that was taken before, of which chosen calls fail.
@@ -79,6 +84,8 @@ impl Sink for MemSink {
 
     ghost faults = { λ s. s.faults };
 
+    ghost by_write = { λ s _ t. t.calls ≡ min (s.calls + 1) (2 ^ 32 - 1) };
+
     fn write_all(&mut self, piece: &[u8]) -> WriteAnswer {
         let call = self.calls;
         self.calls = call.saturating_add(1);
@@ -114,6 +121,8 @@ impl Sink for CleanSink {
 
     ghost faults = { λ s. 0 };
 
+    ghost by_write = { λ s piece t. t.count ≡ min (s.count + length piece) (2 ^ 64 - 1) };
+
     fn write_all(&mut self, piece: &[u8]) -> WriteAnswer {
         self.count = self.count.saturating_add(piece.len() as u64);
         WriteAnswer::Ok
@@ -137,6 +146,8 @@ impl<W: Write + Drop> Sink for RealSink<W> {
     ghost told = { λ s. None };
 
     ghost faults = { λ s. s.faults };
+
+    ghost by_write = { λ s _ t. s.faults ≤ t.faults };
 
     fn write_all(&mut self, piece: &[u8]) -> WriteAnswer {
         match self.inner.write_all(piece) {
