@@ -14,6 +14,7 @@ ghost use Rattle.kernel_interp.specs.Reading.{rows_in, plain_of};
 
 use crate::choice::all_hold;
 use crate::claims::Claims;
+use crate::flag::flag_end;
 use crate::given::rows_of;
 use crate::list::all_listed;
 use crate::member::Member;
@@ -22,7 +23,6 @@ use crate::place::Place;
 use crate::running::elem_at;
 use crate::setting::Setting;
 use kernel_lang::{Acc, Candidate, Entry, KFragment, Update};
-use kernel_steps::flag_end;
 use qbs_base::{Db, Items, Kind, NoMemory, Row, Rows, Scalar, Value, Values};
 use std::alloc::Global;
 use tor_terms::{Elem, Formula, Way, better, has_row, number_of, same_cell, same_row};

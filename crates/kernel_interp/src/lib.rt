@@ -5,6 +5,7 @@ mod atom;
 mod choice;
 mod claim;
 mod claims;
+mod flag;
 mod fragment;
 mod given;
 mod list;

@@ -11,7 +11,7 @@ use Rattle.kernel_lang.specs.declared.prune.PruneAnswer.{PruneAnswer}
 use Rattle.kernel_lang.specs.declared.prune.PruneAnswer.TheVariants as answers
 use Rattle.kernel_lang.specs.Refuted.{Refutes, IsRefuted}
 use Rattle.kernel_lang.specs.Typed.{is_typed}
-use Rattle.kernel_steps.specs.Answered.{answer_of}
+use Rattle.prune_steps.specs.Answered.{answer_of}
 use Rattle.small_dbs.specs.declared.small.SmallDb.{SmallDb}
 use Rattle.small_dbs.specs.Pruned.{OneRefutes, IsPruned}
 use Rattle.small_dbs.specs.Small.{smalls}

@@ -15,7 +15,7 @@ use crate::made::small_dbs;
 use crate::refute::refutes;
 use crate::small::SmallDb;
 use kernel_lang::{Candidate, KFragment, PruneAnswer};
-use kernel_steps::answered;
+use prune_steps::answered;
 use qbs_base::NoMemory;
 use schema::Schema;
 use std::alloc::Global;

@@ -1,6 +1,6 @@
 // Answers of a pruner.
 ghost use Rattle.std.specs.Prelude.{◌≡◌};
-ghost use Rattle.kernel_steps.specs.Answered.{answer_of};
+ghost use Rattle.prune_steps.specs.Answered.{answer_of};
 
 use kernel_lang::PruneAnswer;
 use qbs_base::NoMemory;

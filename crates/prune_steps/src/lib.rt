@@ -1,0 +1,6 @@
+//! What a pruner answers of a candidate.
+#![tactic(auto)]
+
+mod answer;
+
+pub use answer::answered;
