@@ -1,6 +1,7 @@
 // What a run ends with.
-ghost use Rattle.std.specs.Prelude.{IfOk};
+ghost use Rattle.std.specs.Prelude.{◌≡◌, IfOk, IfErr, Err};
 ghost use Rattle.kernel_steps.specs.Stops.{IsNoMemory, EndsWith};
+ghost use Rattle.kernel_steps.specs.declared.end.Stop.TheVariants as stops;
 
 use qbs_base::{NoMemory, Values};
 
@@ -27,9 +28,11 @@ impl From<NoMemory> for Stop {
     }
 }
 
-/// What a fragment ends with, from the values of its accumulators or why there are none.
+/// What a fragment ends with, from the values of its accumulators or why there are none. `NoMemory`
+/// comes where that was want of memory, and there alone.
 pub fn ended(values: Result<Values, Stop>) -> Result<FragmentEnd, NoMemory>
-    ensures { IfOk result (λ end. EndsWith values end) }
+    ensures end { IfOk result (λ end. EndsWith values end) }
+    ensures err { IfErr result (λ _. values ≡ Err stops.NoMemory) }
 {
     match values {
         Ok(values) => Ok(FragmentEnd::Store(values)),

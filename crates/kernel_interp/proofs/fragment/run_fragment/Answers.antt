@@ -27,5 +27,5 @@ returns c =
     let same = ap (λ (w : World). all_end (fragment_of c.args.frag.now) w (fragment_of c.args.frag.now).accs) (same_lists (fragment_of c.args.frag.now) c.args.db.now c.args.entry.now c.as_slice-2.result.now lists) in
     record {
       exact = IfOk-weaker c.ended.result (λ end. EndsWith c.all_end.result end) (λ end. end_of end ≡ fragment_end (fragment_of c.args.frag.now) c.args.db.now c.args.entry.now)
-          (λ end e. end_given c.all_end.result end _ c.all_end.ensures e ∙ same) c.ended.ensures;
+          (λ end e. end_given c.all_end.result end _ c.all_end.ensures e ∙ same) c.ended.ensures.end;
     }
