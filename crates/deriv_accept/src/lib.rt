@@ -7,4 +7,4 @@ mod limits;
 
 pub use accept::accepts;
 pub use accept_all::are_accepted;
-pub use limits::{most_splits, offset_of};
+pub use limits::most_splits;

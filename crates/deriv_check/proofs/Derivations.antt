@@ -6,10 +6,12 @@ use Rattle.readers.specs.Reading.{first_passes, either}
 use Rattle.readers.proofs.Again.{Any}
 use Rattle.tor_axioms.specs.declared.derivation.Step.{Step}
 use Rattle.tor_axioms.specs.Accepts.{Proof, Steps, Split, Absurd}
+use Rattle.text_readers.specs.Bytes.{Reader}
+use Rattle.text_readers.specs.Offsets.{Each}
 use Rattle.deriv_check.specs.Texts.{left_text, right_text, split_text, derivation_text}
-use Rattle.deriv_check.specs.Grammar.{Each, IsSmall, HasSmallStep, IsNested}
-use Rattle.deriv_check.specs.Reading.{Reader, steps_from, steps_at, absurd_at, choice_at, split_from, split_in, is_steps, is_split, derivation_at}
-use Rattle.deriv_check.proofs.Exact.{Exact, exact_byte, exact_both, exact_made, exact_either, exact_word}
+use Rattle.deriv_check.specs.Grammar.{IsSmall, HasSmallStep, IsNested}
+use Rattle.deriv_check.specs.Reading.{steps_from, steps_at, absurd_at, choice_at, split_from, split_in, is_steps, is_split, derivation_at}
+use Rattle.text_readers.proofs.Exact.{Exact, exact_byte, exact_both, exact_made, exact_either, exact_word}
 use Rattle.deriv_check.proofs.Numbers.{exact_number}
 use Rattle.deriv_check.proofs.Steps.{exact_lefts, exact_rights}
 

@@ -7,11 +7,14 @@ use Rattle.std.proofs.lemmas.Bool.{eqb-true}
 use Rattle.readers.specs.Reading.{both, made, first_passes, is_over}
 use Rattle.readers.proofs.Again.{Any}
 use Rattle.tor_axioms.specs.declared.derivation.Step.{Step}
+use Rattle.text_readers.specs.Bytes.{is_digit, byte_at}
+use Rattle.text_readers.specs.Offsets.{Each}
 use Rattle.deriv_check.specs.Texts.{further_text, path_text, step_text, left_text, right_text}
-use Rattle.deriv_check.specs.Grammar.{Each, IsSmall, HasSmallStep}
-use Rattle.deriv_check.specs.Reading.{is_digit, byte_at, number_at, ends_path, further_at, numbers_at, is_dash, path_at, step_from, step_at, left_at, right_at, is_slash, is_line_end, lefts_at, rights_at}
-use Rattle.deriv_check.proofs.Exact.{Exact, exact_byte, exact_both, exact_made, exact_many, exact_either}
-use Rattle.deriv_check.proofs.Numbers.{NoDigit, first_digit, exact_number}
+use Rattle.deriv_check.specs.Grammar.{IsSmall, HasSmallStep}
+use Rattle.deriv_check.specs.Reading.{number_at, ends_path, further_at, numbers_at, is_dash, path_at, step_from, step_at, left_at, right_at, is_slash, is_line_end, lefts_at, rights_at}
+use Rattle.text_readers.proofs.Exact.{Exact, exact_byte, exact_both, exact_made, exact_many, exact_either}
+use Rattle.text_readers.proofs.Numbers.{NoDigit}
+use Rattle.deriv_check.proofs.Numbers.{first_digit, exact_number}
 
 -- what follows a path
 abbrev pub PathEnds : List ℕ → Type 0

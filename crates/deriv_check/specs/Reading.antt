@@ -1,53 +1,17 @@
 -- Reading derivations and bundles from left to right, byte by byte.
-use Rattle.std.specs.Prelude.{◌+◌, ◌-◌, ◌*◌, ◌^◌, ℕ, zero, suc, Bool, ◌&&◌, ◌||◌, not, nat_eq, nat_lt, nat_le, List, [], ◌∷◌, ◌++◌, Option, Some, None, Result, Ok, codes, if◌then◌else◌}
+use Rattle.std.specs.Prelude.{◌^◌, ℕ, zero, suc, Bool, ◌||◌, not, nat_eq, List, [], ◌∷◌, ◌++◌, Result, codes}
 use Rattle.readers.specs.declared.fault.Fault.{Fault}
-use Rattle.readers.specs.Reading.{◌>>=◌, Read, token_at, both, made, either, many, whole, option_cases}
+use Rattle.readers.specs.Reading.{both, made, either, many, whole}
+use Rattle.text_readers.specs.Bytes.{Reader, byte_at, word_at, is_digit, number_at as below_at}
 use Rattle.tor_axioms.specs.declared.derivation.Step.{Step}
 use Rattle.tor_axioms.specs.Accepts.{Proof, Steps, Split, Absurd}
 use Rattle.deriv_check.specs.Bundles.{Entry}
 use Rattle.deriv_accept.specs.Limits.{most_splits}
 
-abbrev pub Reader : Type 0 → Type 0
-Reader A = List ℕ → Read ℕ A
+-- ---- numbers below 2 ^ 32
 
--- ---- single bytes and words
-
-abbrev pub passing : (ℕ → Bool) → ℕ → Option (Unit {0})
-passing test b = if test b then Some tt else None
-
-abbrev pub byte_at : ℕ → Reader (Unit {0})
-byte_at b ts = token_at (passing (λ t. nat_eq t b)) ts
-
-unfoldable pub word_at : List ℕ → Reader (Unit {0})
-word_at [] ts = Ok (tt, ts)
-word_at (b ∷ bs) ts = made (λ _. tt) (both (byte_at b) (word_at bs)) ts
-
--- ---- numbers
-
-abbrev pub is_digit : ℕ → Bool
-is_digit b = nat_le 48 b && nat_le b 57
-
-abbrev pub digit_in : ℕ → Option ℕ
-digit_in b = if is_digit b then Some (b - 48) else None
-
--- a number with one more digit, where it stays below 2 ^ 32
-abbrev pub small : ℕ → Option ℕ
-small n = if nat_lt n (2 ^ 32) then Some n else None
-
-abbrev pub with_digit : ℕ → ℕ → Option ℕ
-with_digit n b = option_cases (digit_in b) None (λ d. small (n * 10 + d))
-
--- digits behind those of n, as long as the number stays below 2 ^ 32
-unfoldable pub digits_from : ℕ → List ℕ → ℕ × List ℕ
-digits_from n [] = (n, [])
-digits_from n (b ∷ bs) = option_cases (with_digit n b) (n, b ∷ bs) (λ m. digits_from m bs)
-
--- behind a first digit; nothing goes on behind 0
-abbrev pub behind : ℕ → List ℕ → ℕ × List ℕ
-behind n ts = if nat_eq n 0 then (n, ts) else digits_from n ts
-
-unfoldable pub number_at : Reader ℕ
-number_at ts = token_at digit_in ts >>= λ x. Ok (behind x.0 x.1)
+abbrev pub number_at : Reader ℕ
+number_at ts = below_at (2 ^ 32) ts
 
 -- ---- paths and steps
 

@@ -6,11 +6,12 @@ ghost use Rattle.deriv_check.specs.Bundles.{entry_of, entries_of};
 ghost use Rattle.deriv_check.specs.Reading as spec;
 
 use crate::bundle::BundleEntry;
-use crate::bytes::{byte, is_over_at, number, word};
+use crate::number::number;
 use crate::reading::derivation_within;
 use qbs_base::Items;
 use readers::ReadError;
 use std::alloc::Global;
+use text_readers::{byte, is_over_at, word};
 use tor_axioms::Derivation;
 
 /// Whether no derivation goes on here: a loop, the end of the bundle, or the end of the bytes.

@@ -1,8 +1,9 @@
 //! What holds of the printers and the readers together.
 ghost use Rattle.std.specs.Prelude.{◌≡◌, IfOk};
 ghost use Rattle.tor_axioms.specs.Accepts.{proof_of};
+ghost use Rattle.text_readers.specs.Offsets.{Each};
 ghost use Rattle.deriv_check.specs.Bundles.{entries_of};
-ghost use Rattle.deriv_check.specs.Grammar.{IsWritable, IsWritableEntry, Each};
+ghost use Rattle.deriv_check.specs.Grammar.{IsWritable, IsWritableEntry};
 
 use crate::{Bundle, parse_bundle, parse_derivation, print_bundle, print_derivation};
 use qbs_base::{Fail, NoMemory};

@@ -2,10 +2,10 @@
 #![tactic(auto)]
 
 mod bundle;
-mod bytes;
 mod entries;
 mod fault;
 pub mod laws;
+mod number;
 mod parse;
 mod print;
 mod reading;

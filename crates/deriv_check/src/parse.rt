@@ -2,39 +2,29 @@
 ghost use Rattle.std.specs.Prelude.{◌≡◌, ◌-◌, length, IfOk, IfErr};
 ghost use Rattle.readers.specs.Reading.{Gives};
 ghost use Rattle.tor_axioms.specs.Accepts.{Proof, proof_of};
-ghost use Rattle.deriv_check.specs.Answers.{IsOnly, IsRightFault, AnswersAt, left_of};
+ghost use Rattle.text_readers.specs.Answers.{IsOnly, IsRightFault, AnswersAt, left_of};
+ghost use Rattle.deriv_check.specs.Answers.{offset_in};
 ghost use Rattle.deriv_check.specs.Bundles.{Entry, entries_of};
 ghost use Rattle.deriv_check.specs.Grammar.{HasDerivation, HasBundle};
 ghost use Rattle.deriv_check.specs.Reading.{read_derivation, read_bundle};
 ghost use Rattle.std.specs.Prelude.{List};
 
 use crate::bundle::{Bundle, BundleEntry};
-use crate::bytes::unexpected;
 use crate::entries::bundle;
 use crate::fault::BundleFault;
 use crate::reading::derivation_within;
-use deriv_accept::offset_of;
 use qbs_base::{Fail, Items};
 use readers::{Fault, ReadError};
 use std::alloc::Global;
+use text_readers::{offset_of, unexpected};
 use tor_axioms::Derivation;
-
-/// How many bytes are left from a fault on.
-fn left(fault: Fault) -> usize
-    ensures { result ≡ left_of fault }
-{
-    match fault {
-        Fault::Unexpected(left) => left,
-        Fault::TooDeep(left) => left,
-    }
-}
 
 /// The fault by its offset in these bytes.
 fn placed(bytes: &[u8], fault: Fault) -> BundleFault
     ensures { result.offset ≡ length bytes.now - left_of fault }
 {
     BundleFault {
-        offset: offset_of(bytes.len(), left(fault)),
+        offset: offset_of(bytes.len(), fault),
     }
 }
 
@@ -65,7 +55,7 @@ fn whole_bundle(alloc: Global, bytes: &[u8]) -> Result<Vec<BundleEntry>, ReadErr
 }
 
 fn answer_derivation(alloc: Global, bytes: &[u8]) -> Result<Derivation, Fail<BundleFault>>
-    ensures { AnswersAt proof_of (length bytes.now) result (read_derivation bytes.now) }
+    ensures { AnswersAt offset_in proof_of (length bytes.now) result (read_derivation bytes.now) }
 {
     match whole_derivation(alloc, bytes) {
         Ok(derivation) => Ok(derivation),
@@ -75,7 +65,7 @@ fn answer_derivation(alloc: Global, bytes: &[u8]) -> Result<Derivation, Fail<Bun
 }
 
 fn answer_bundle(alloc: Global, bytes: &[u8]) -> Result<Bundle, Fail<BundleFault>>
-    ensures { AnswersAt entries_of (length bytes.now) result (read_bundle bytes.now) }
+    ensures { AnswersAt offset_in entries_of (length bytes.now) result (read_bundle bytes.now) }
 {
     match whole_bundle(alloc, bytes) {
         Ok(entries) => Ok(Items::from_vec(entries)),
@@ -92,7 +82,7 @@ fn answer_bundle(alloc: Global, bytes: &[u8]) -> Result<Bundle, Fail<BundleFault
 pub fn parse_derivation(alloc: Global, bytes: &[u8]) -> Result<Derivation, Fail<BundleFault>>
     ensures found { IfOk result (λ d. HasDerivation bytes.now (proof_of d)) }
     ensures only { (d : Proof) → HasDerivation bytes.now d → IsOnly proof_of result d }
-    ensures fault { IfErr result (IsRightFault HasDerivation bytes.now) }
+    ensures fault { IfErr result (IsRightFault offset_in HasDerivation bytes.now) }
 {
     answer_derivation(alloc, bytes)
 }
@@ -105,7 +95,7 @@ pub fn parse_derivation(alloc: Global, bytes: &[u8]) -> Result<Derivation, Fail<
 pub fn parse_bundle(alloc: Global, bytes: &[u8]) -> Result<Bundle, Fail<BundleFault>>
     ensures found { IfOk result (λ b. HasBundle bytes.now (entries_of b)) }
     ensures only { (entries : List Entry) → HasBundle bytes.now entries → IsOnly entries_of result entries }
-    ensures fault { IfErr result (IsRightFault HasBundle bytes.now) }
+    ensures fault { IfErr result (IsRightFault offset_in HasBundle bytes.now) }
 {
     answer_bundle(alloc, bytes)
 }

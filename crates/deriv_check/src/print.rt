@@ -3,9 +3,10 @@ ghost use Rattle.std.specs.Prelude.{◌≡◌, ◌++◌, IfOk, OnOk, string_byte
 ghost use Rattle.std.specs.Fmt.{decimal};
 ghost use Rattle.std.specs.List.{flat_map};
 ghost use Rattle.tor_axioms.specs.Accepts.{proof_of};
+ghost use Rattle.text_readers.specs.Offsets.{Each};
 ghost use Rattle.deriv_check.specs.Bundles.{entry_of, entries_of};
 ghost use Rattle.deriv_check.specs.Texts.{further_text, path_text, step_text, left_text, right_text, split_text, derivation_text, loop_text, entry_text, bundle_text};
-ghost use Rattle.deriv_check.specs.Grammar.{HasDerivation, HasBundle, IsWritable, IsWritableEntry, Each};
+ghost use Rattle.deriv_check.specs.Grammar.{HasDerivation, HasBundle, IsWritable, IsWritableEntry};
 
 use crate::bundle::{Bundle, BundleEntry};
 use itoa::Buffer;

@@ -5,11 +5,12 @@ ghost use Rattle.tor_axioms.specs.Accepts.{Split, proof_of};
 ghost use Rattle.deriv_accept.specs.Limits.{most_splits};
 ghost use Rattle.deriv_check.specs.Reading as spec;
 
-use crate::bytes::{byte, is_next, is_over_at, number, word};
+use crate::number::number;
 use deriv_accept::most_splits;
 use qbs_base::Items;
 use readers::ReadError;
 use std::alloc::Global;
+use text_readers::{byte, is_next, is_over_at, word};
 use tor_axioms::{Derivation, Step};
 use tor_terms::TermPath;
 

@@ -4,9 +4,10 @@ use Rattle.std.specs.declared.option.Option.TheVariants.{Some, None}
 use Rattle.qbs_base.specs.declared.memory.Fail.TheVariants.{Fault}
 use Rattle.qbs_base.specs.declared.status.Status.{Status}
 use Rattle.qbs_base.specs.Values.{Schema}
+use Rattle.text_readers.specs.Offsets.{IsOffset}
 use Rattle.deriv_check.specs.declared.fault.BundleFault.{BundleFault}
 use Rattle.deriv_check.specs.Bundles.{Entry}
-use Rattle.deriv_check.specs.Grammar.{HasBundle, IsOffset}
+use Rattle.deriv_check.specs.Grammar.{HasBundle}
 use Rattle.java_ast.specs.Tree.{PlainProgram}
 use Rattle.java_lex.specs.declared.token.LexFault.{LexFault}
 use Rattle.java_lex.specs.declared.token.Tokens.{Tokens}

@@ -1,14 +1,13 @@
 -- What texts have is one, or their refusal is.
-use Rattle.std.proofs.Common.{◌≡◌, ◌≢◌, ◌<◌, ℕ, inl, inr, Bool, true, false, List, [], ◌∷◌, Option, Some, None, Result, Ok, Err, sym, refl, ap, ◌∙◌, arith}
-use Rattle.std.proofs.lemmas.Bool.{cases_lt}
+use Rattle.std.proofs.Common.{◌≡◌, ◌≢◌, ℕ, inl, inr, Bool, true, false, List, [], ◌∷◌, Option, Some, None, Result, Ok, Err, sym, refl, ap, ◌∙◌}
 use Rattle.qbs_base.specs.declared.scalar.Scalar.{Scalar}
 use Rattle.qbs_base.specs.declared.scalar.Ty.{Ty}
 use Rattle.qbs_base.specs.Values.{Schema, Database}
 use Rattle.deriv_check.specs.declared.fault.BundleFault.{BundleFault}
 use Rattle.deriv_check.specs.Bundles.{Entry}
-use Rattle.deriv_check.specs.Grammar.{HasBundle, IsOffset}
+use Rattle.deriv_check.specs.Grammar.{HasBundle}
 use Rattle.deriv_check.proofs.Bundled.{exact_bundle}
-use Rattle.deriv_check.proofs.Whole.{all_read}
+use Rattle.text_readers.proofs.Whole.{all_read, one_offset}
 use Rattle.java_ast.specs.Tree.{PlainMethod, PlainProgram}
 use Rattle.java_lex.specs.declared.token.LexFault.{LexFault}
 use Rattle.java_lex.specs.declared.token.Tokens.{Tokens}
@@ -76,20 +75,10 @@ program_one tables bytes =
 one_bundle : (bytes : List ℕ) (a b : List Entry) → HasBundle bytes a → HasBundle bytes b → a ≡ b
 one_bundle bytes a b x y = ok_same _ a b (all_read exact_bundle tt bytes a x) (all_read exact_bundle tt bytes b y)
 
--- two longest fronts are one
-one_offset : (bytes : List ℕ) (m n : ℕ) → IsOffset HasBundle bytes m → IsOffset HasBundle bytes n → m ≡ n
-one_offset bytes m n x y = elim (cases_lt m n) [
-  | inl less ↦ absurd (x.longest n less y.within y.begins)
-  | inr more ↦ elim (cases_lt n m) [
-    | inl less ↦ absurd (y.longest m less x.within x.begins)
-    | inr least ↦ omega (arith, more, least)
-  ]
-]
-
 pub bundle_one : (bytes : List ℕ) → IsOne {B = List Entry} (HasBundle bytes) (refused (BreaksBundle bytes) bundle_refusal)
 bundle_one bytes = record {
   same = λ b c x y. one_bundle bytes b c x y;
-  stops = λ p q x y. x.2 ∙ ap (λ (n : ℕ). bundle_refusal (record { offset = n })) (one_offset bytes x.0.offset y.0.offset x.1 y.1) ∙ sym y.2;
+  stops = λ p q x y. x.2 ∙ ap (λ (n : ℕ). bundle_refusal (record { offset = n })) (one_offset HasBundle bytes x.0.offset y.0.offset x.1 y.1) ∙ sym y.2;
   apart = λ b p x y. y.1.no_member b x;
 }
 

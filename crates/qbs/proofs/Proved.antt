@@ -10,7 +10,8 @@ use Rattle.java_grammar.specs.Marks.{all_strict}
 use Rattle.java_grammar.proofs.TwoPlaces.{strict_tokens, one_path}
 use Rattle.java_types.specs.Texts.{read_by}
 use Rattle.deriv_check.specs.Bundles.{Entry}
-use Rattle.deriv_check.specs.Grammar.{HasBundle, Each, IsWritableEntry}
+use Rattle.text_readers.specs.Offsets.{Each}
+use Rattle.deriv_check.specs.Grammar.{HasBundle, IsWritableEntry}
 use Rattle.deriv_check.specs.Texts.{bundle_text}
 use Rattle.verdicts.specs.declared.verdict.LoopVerdict.{LoopVerdict}
 use Rattle.rewrite_core.specs.Checking.{LoopsStandApart}

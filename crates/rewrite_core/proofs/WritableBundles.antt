@@ -20,7 +20,8 @@ use Rattle.tor_prover.specs.Derive.{derivation_of}
 use Rattle.tor_prover.specs.Shape.{IsStepOfRules, IsNestedWithin, IfNested}
 use Rattle.tor_prover.proofs.Nested.{derivation-nested}
 use Rattle.deriv_check.specs.Bundles.{Entry}
-use Rattle.deriv_check.specs.Grammar.{Each, IsSmall, HasSmallStep, IsNested, IsWritable, IsWritableEntry}
+use Rattle.text_readers.specs.Offsets.{Each}
+use Rattle.deriv_check.specs.Grammar.{IsSmall, HasSmallStep, IsNested, IsWritable, IsWritableEntry}
 use Rattle.kernel_lang.specs.declared.parts.Update.{Update}
 use Rattle.kernel_lang.specs.Paths.{Path, each_with, guard_paths}
 use Rattle.kernel_lang.specs.Plain.{Fragment}

@@ -3,7 +3,8 @@ ghost use Rattle.std.specs.Prelude.{◌≡◌, ℕ, ◌<◌, ◌≤◌, ◌^◌,
 ghost use Rattle.qbs_base.specs.Values.{Schema};
 ghost use Rattle.java_lex.specs.Lexing.{lexed};
 ghost use Rattle.java_lex.specs.declared.token.Tokens.{Tokens};
-ghost use Rattle.deriv_check.specs.Grammar.{Each, IsWritableEntry};
+ghost use Rattle.text_readers.specs.Offsets.{Each};
+ghost use Rattle.deriv_check.specs.Grammar.{IsWritableEntry};
 ghost use Rattle.java_ast.specs.Tree.{PlainProgram};
 ghost use Rattle.java_grammar.specs.Grammar.{IsProgram, IsReadable};
 ghost use Rattle.rewrite_core.specs.Checking.{All, checked_from, LoopsStandApart};

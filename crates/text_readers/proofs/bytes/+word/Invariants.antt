@@ -1,5 +1,5 @@
 use Rattle.std.proofs.Common.{length}
-use Rattle.deriv_check.proofs.bytes.+word.Given as goal
+use Rattle.text_readers.proofs.bytes.+word.Given as goal
 
 abbrev pub decreases-word : goal.decreases-word
 decreases-word l = length l.expected.now

@@ -9,8 +9,8 @@ use Rattle.readers.proofs.Tools.{ok_is}
 use Rattle.readers.proofs.Lawful.{Takes, Lawful, Inhabited, alike, token_lawful, both_lawful, made_lawful, either_lawful}
 use Rattle.readers.proofs.Many.{many_lawful}
 use Rattle.readers.proofs.Again.{Again, Any, Leads, token_again, both_again, made_again, many_again}
-use Rattle.deriv_check.specs.Grammar.{Each}
-use Rattle.deriv_check.specs.Reading.{Reader, passing, byte_at, word_at}
+use Rattle.text_readers.specs.Bytes.{Reader, passing, byte_at, word_at}
+use Rattle.text_readers.specs.Offsets.{Each}
 use Rattle.readers.proofs.Shallow.{Shallow, token_shallow, both_shallow, made_shallow, either_shallow, many_shallow}
 
 abbrev pub IsText : {A : Type 0} → (A → List ℕ) → (A → Type 0) → List ℕ → A → Type 0

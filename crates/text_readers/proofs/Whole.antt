@@ -1,5 +1,6 @@
 -- What an exact reader says of all of the bytes.
 use Rattle.std.proofs.Common.{◌≡◌, ℕ, suc, ◌+◌, ◌-◌, ◌≤◌, ◌<◌, List, [], ◌∷◌, ◌++◌, length, take, Result, Ok, Err, IfOk, IfErr, refl, sym, ap, subst, ◌∙◌, append_assoc, arith, inl, inr}
+use Rattle.std.proofs.lemmas.Bool.{cases_lt}
 use Rattle.std.proofs.lemmas.List.{append-nil, length-append}
 use Rattle.std.proofs.Math.Seq.{take-append_seam, take-append-add}
 use Rattle.readers.specs.declared.fault.Fault.{Fault}
@@ -9,11 +10,10 @@ use Rattle.readers.proofs.Again.{Leads, Leads-bind}
 use Rattle.readers.proofs.Whole.{whole_found, first_fault}
 use Rattle.qbs_base.specs.declared.memory.Fail.{Fail}
 use Rattle.qbs_base.specs.declared.memory.Fail.TheVariants as fails
-use Rattle.deriv_check.specs.declared.fault.BundleFault.{BundleFault}
-use Rattle.deriv_check.specs.Grammar.{IsOffset}
-use Rattle.deriv_check.specs.Answers.{IsOnly, IsRightFault, left_of, AnswersAt}
-use Rattle.deriv_check.specs.Reading.{Reader}
-use Rattle.deriv_check.proofs.Exact.{IsText, Exact}
+use Rattle.text_readers.specs.Answers.{IsOnly, IsRightFault, left_of, AnswersAt}
+use Rattle.text_readers.specs.Bytes.{Reader}
+use Rattle.text_readers.specs.Offsets.{IsOffset}
+use Rattle.text_readers.proofs.Exact.{IsText, Exact}
 use Rattle.readers.proofs.Shallow.{whole_shallow}
 
 -- ---- the place of a fault
@@ -41,6 +41,16 @@ module _ {A : Type 0} (Has : List ℕ → A → Type 0) where
             f.none_goes_on l.0 l.1 l.2 l.3;
         no_member = f.is_none;
       }
+
+-- two longest fronts are one
+pub one_offset : {A : Type 0} (Has : List ℕ → A → Type 0) (bytes : List ℕ) (m n : ℕ) → IsOffset Has bytes m → IsOffset Has bytes n → m ≡ n
+one_offset Has bytes m n x y = elim (cases_lt m n) [
+  | inl less ↦ absurd (x.longest n less y.within y.begins)
+  | inr more ↦ elim (cases_lt n m) [
+    | inl less ↦ absurd (y.longest m less x.within x.begins)
+    | inr least ↦ omega (arith, more, least)
+  ]
+]
 
 abbrev ok_of : {A : Type 0} → A → Result A Fault
 ok_of x = Ok x
@@ -73,17 +83,17 @@ module _ {A : Type 0} {text : A → List ℕ} {fits : A → Type 0} {F : List �
 
   -- ---- what is answered of it
 
-  module _ {X : Type 0} (view : X → A) (ts : List ℕ) where
-    pub answer_found : (a : Result X (Fail BundleFault)) → AnswersAt view (length ts) a (whole r ts) → IfOk a (λ x. IsText text fits ts (view x))
+  module _ {X E : Type 0} (place : E → ℕ) (view : X → A) (ts : List ℕ) where
+    pub answer_found : (a : Result X (Fail E)) → AnswersAt place view (length ts) a (whole r ts) → IfOk a (λ x. IsText text fits ts (view x))
     answer_found (Ok x) is = all_found ts (view x) is
     answer_found (Err f) is = tt
 
-    pub answer_only : (a : Result X (Fail BundleFault)) → AnswersAt view (length ts) a (whole r ts) → (x : A) → IsText text fits ts x → IsOnly view a x
+    pub answer_only : (a : Result X (Fail E)) → AnswersAt place view (length ts) a (whole r ts) → (x : A) → IsText text fits ts x → IsOnly view a x
     answer_only (Ok y) is x h = same_ok (view y) x (sym is ∙ all_read ts x h)
     answer_only (Err (fails.Fault fault)) is x h = clash is.0 x (sym is.1 ∙ all_read ts x h)
     answer_only (Err fails.NoMemory) is x h = tt
 
-    pub answer_fault : (a : Result X (Fail BundleFault)) → AnswersAt view (length ts) a (whole r ts) → IfErr a (IsRightFault (IsText text fits) ts)
+    pub answer_fault : (a : Result X (Fail E)) → AnswersAt place view (length ts) a (whole r ts) → IfErr a (IsRightFault place (IsText text fits) ts)
     answer_fault (Ok x) is = tt
     answer_fault (Err (fails.Fault fault)) is = subst (λ (n : ℕ). IsOffset (IsText text fits) ts n) (sym is.2) (all_fault ts is.0 is.1)
     answer_fault (Err fails.NoMemory) is = tt
