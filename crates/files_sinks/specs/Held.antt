@@ -1,6 +1,5 @@
 -- Files that are held in memory, as a list of names and bytes.
-use Rattle.std.specs.Prelude.{◌≡◌, ℕ, ◌≤◌, ◌⊎◌, List, [], unwrap_or}
-use Rattle.std.specs.List.{Contains}
+use Rattle.std.specs.Prelude.{◌≡◌, ℕ, ◌≤◌, ◌<◌, ◌⊎◌, List, [], length, get_or, unwrap_or}
 use Rattle.std.specs.declared.option.Option.{Option}
 use Rattle.std.specs.declared.option.Option.TheVariants.{Some, None}
 use Rattle.qbs_base.specs.Named.{at_name}
@@ -21,4 +20,4 @@ pub record MemFilesView : Type 0 where
 
 -- the name isn't held, or a call to come is one that is to fail
 abbrev pub MayFail : MemFilesView → List ℕ → Type 0
-MayFail s name = (at_name s.files name ≡ None) ⊎ ((call : ℕ) × Contains s.failing call × (s.calls ≤ call))
+MayFail s name = (at_name s.files name ≡ None) ⊎ ((n : ℕ) × (n < length s.failing) × (s.calls ≤ get_or s.failing n 0))
