@@ -4,3 +4,5 @@ pub mod Code
 pub mod Deliver
 pub mod Memory
 pub mod Found
+pub mod Reads
+pub mod Limits

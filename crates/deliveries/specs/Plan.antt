@@ -25,10 +25,14 @@ read_fault name = refusal Status.ReadFault (codes "qbs: read " ++ name)
 abbrev pub too_long : List ℕ → Plan
 too_long label = refusal Status.Limit (codes "qbs: limit: " ++ label)
 
--- the files of a call: what is told of them, and that their faults rose in the call
+-- a read of a name failed in a call: the files' faults rose, and before the call a read of it could fail
+abbrev pub Failed : {D : Type 0} → (D → ℕ) → (D → List ℕ → Type 0) → D → D → List ℕ → Type 0
+Failed faults may_fail old new name = Rose (faults old) (faults new) × may_fail old name
+
+-- the files of a call: what is told of them, and of which names a read may have failed in the call
 pub record Given : Type 1 where
   pub told : List ℕ → Option (List ℕ)
-  pub rose : Type 0
+  pub failed : List ℕ → Type 0
 
-abbrev pub given : {D : Type 0} → (D → List ℕ → Option (List ℕ)) → (D → ℕ) → D → D → Given
-given told faults old new = record { told = told old; rose = Rose (faults old) (faults new) }
+abbrev pub given : {D : Type 0} → (D → List ℕ → Option (List ℕ)) → (D → ℕ) → (D → List ℕ → Type 0) → D → D → Given
+given told faults may_fail old new = record { told = told old; failed = Failed faults may_fail old new }

@@ -27,10 +27,10 @@ finds Is Lacks refusal next = step Is (refused Lacks refusal) next
 abbrev pub IsRead : Given → List ℕ → ℕ → List ℕ → Type 0
 IsRead files name limit bytes = (length bytes ≤ limit) × IfSome (files.told name) (λ all. bytes ≡ all)
 
--- the files' faults rose, or it has more than the limit, which has a name
+-- a read of it failed, or it has more than the limit, which has a name
 abbrev pub IsNotRead : Given → List ℕ → ℕ → List ℕ → Ends
 IsNotRead files name limit label plan =
-    (files.rose × (plan ≡ read_fault name)) ⊎ (IfSome (files.told name) (λ all. limit < length all) × (plan ≡ too_long label))
+    (files.failed name × (plan ≡ read_fault name)) ⊎ (IfSome (files.told name) (λ all. limit < length all) × (plan ≡ too_long label))
 
 abbrev pub reads : Given → List ℕ → ℕ → List ℕ → (List ℕ → Ends) → Ends
 reads files name limit label next = step (IsRead files name limit) (IsNotRead files name limit label) next

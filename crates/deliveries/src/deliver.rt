@@ -1,7 +1,7 @@
 // Writing what is due.
 ghost use Rattle.std.specs.Prelude.{◌≡◌, ◌≤◌};
 ghost use Rattle.files_sinks.specs.Outside.{Rose};
-ghost use Rattle.deliveries.specs.Deliver.{Delivers, change};
+ghost use Rattle.deliveries.specs.Deliver.{Delivers, IsSent, FailsToSend, change};
 ghost use Rattle.deliveries.specs.declared.plan.Plan.{Plan};
 
 use crate::Plan;
@@ -17,7 +17,7 @@ pub fn deliver<O: Sink, E: Sink>(
     rep: &mut E,
 ) -> Status
     ensures { Delivers (record { status = status; out = text.now; rep = line.now })
-        (change O.told O.faults out.old out.new) (change E.told E.faults rep.old rep.new) result }
+        (change O.told O.faults O.by_write out.old out.new) (change E.told E.faults E.by_write rep.old rep.new) result }
 {
     if let WriteAnswer::Failed = send(text, out) {
         return Status::WriteFault;
@@ -31,7 +31,7 @@ pub fn deliver<O: Sink, E: Sink>(
 /// Writes a plan.
 pub fn deliver_plan<O: Sink, E: Sink>(plan: &Plan, out: &mut O, rep: &mut E) -> Status
     ensures { Delivers plan.now
-        (change O.told O.faults out.old out.new) (change E.told E.faults rep.old rep.new) result }
+        (change O.told O.faults O.by_write out.old out.new) (change E.told E.faults E.by_write rep.old rep.new) result }
 {
     deliver(
         plan.status,
@@ -42,12 +42,14 @@ pub fn deliver_plan<O: Sink, E: Sink>(plan: &Plan, out: &mut O, rep: &mut E) -> 
     )
 }
 
-ghost use Rattle.files_sinks.specs.Outside.{Writes, WriteCause};
+ghost use Rattle.files_sinks.specs.Outside.{Writes};
 
 // One call, where there is something to write.
+#[tactic(auto, using(crate::proofs::Sending::nothing_sent, crate::proofs::Sending::sent_by_none, crate::proofs::Sending::sent_by_one, crate::proofs::Sending::failed_by_one))]
 fn send<K: Sink>(piece: &[u8], sink: &mut K) -> WriteAnswer
     ensures wrote { Writes (K.told sink.old) (K.told sink.new) piece.now result }
-    ensures cause { WriteCause (K.faults sink.old) (K.faults sink.new) result }
+    ensures sent { IsSent (change K.told K.faults K.by_write sink.old sink.new) piece.now }
+    ensures fails { result ≡ WriteAnswer.Failed → FailsToSend (change K.told K.faults K.by_write sink.old sink.new) piece.now }
 {
     if piece.is_empty() {
         return WriteAnswer::Ok;

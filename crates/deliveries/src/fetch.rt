@@ -1,8 +1,9 @@
 // Reading a file, or what is due where it can't be read.
-ghost use Rattle.std.specs.Prelude.{◌≡◌, ◌<◌, ◌≤◌, ◌-◌, MatchResult, IfSome, codes, length};
+ghost use Rattle.std.specs.Prelude.{◌≡◌, ◌<◌, ◌≤◌, ◌-◌, MatchResult, IfSome, codes, length, ℕ, List};
 ghost use Rattle.files_sinks.specs.Outside.{Rose};
 ghost use Rattle.deliveries.specs.declared.fetch.Stop.TheVariants.{Memory};
 ghost use Rattle.deliveries.specs.Code.{Goes, StopsFor};
+ghost use Rattle.deliveries.specs.Limits.{most_schema, most_source};
 ghost use Rattle.deliveries.specs.Plan.{given};
 ghost use Rattle.deliveries.specs.Steps.{IsRead, IsNotRead};
 
@@ -10,6 +11,18 @@ use crate::Plan;
 use qbs_base::{Bytes, NoMemory, Status, Text};
 use files_sinks::{Files, ReadAnswer};
 use std::alloc::{AllocError, AllocFailed, Global};
+
+/// The most bytes of a schema.
+pub const MOST_SCHEMA: u64 = 262144;
+
+/// The most bytes of a source.
+pub const MOST_SOURCE: u64 = 1048576;
+
+/// The most bytes of a bundle.
+pub const MOST_BUNDLE: u64 = 16777216;
+
+/// The most bytes of all tables together.
+pub const MOST_TABLES: u64 = 33554432;
 
 /// What ends a command before its work is done.
 #[derive(Drop)]
@@ -52,8 +65,10 @@ pub fn fetch<F: Files>(
 ) -> Result<Bytes, Stop>
     ensures same { F.told files.new ≡ F.told files.old }
     ensures later { F.faults files.old ≤ F.faults files.new }
-    ensures read { Goes result (IsRead (given F.told F.faults files.old files.new) name.now limit)
-        (IsNotRead (given F.told F.faults files.old files.new) name.now limit label.now) }
+    ensures fewer { (other : List ℕ) → F.may_fail files.new other → F.may_fail files.old other }
+    ensures once { F.by_read files.old name.now files.new }
+    ensures read { Goes result (IsRead (given F.told F.faults F.may_fail files.old files.new) name.now limit)
+        (IsNotRead (given F.told F.faults F.may_fail files.old files.new) name.now limit label.now) }
 {
     match files.read_all(alloc, name, limit) {
         ReadAnswer::Ok(bytes) => Ok(bytes),
@@ -67,20 +82,24 @@ pub fn fetch<F: Files>(
 pub fn fetch_schema<F: Files>(alloc: Global, files: &mut F, name: &Text) -> Result<Bytes, Stop>
     ensures same { F.told files.new ≡ F.told files.old }
     ensures later { F.faults files.old ≤ F.faults files.new }
-    ensures read { Goes result (IsRead (given F.told F.faults files.old files.new) name.now 262144)
-        (IsNotRead (given F.told F.faults files.old files.new) name.now 262144 (codes "schema")) }
+    ensures fewer { (other : List ℕ) → F.may_fail files.new other → F.may_fail files.old other }
+    ensures once { F.by_read files.old name.now files.new }
+    ensures read { Goes result (IsRead (given F.told F.faults F.may_fail files.old files.new) name.now most_schema)
+        (IsNotRead (given F.told F.faults F.may_fail files.old files.new) name.now most_schema (codes "schema")) }
 {
-    fetch(alloc, files, name, 262144, "schema")
+    fetch(alloc, files, name, MOST_SCHEMA, "schema")
 }
 
 /// The bytes of a source's file, which has 1 MiB at most.
 pub fn fetch_source<F: Files>(alloc: Global, files: &mut F, name: &Text) -> Result<Bytes, Stop>
     ensures same { F.told files.new ≡ F.told files.old }
     ensures later { F.faults files.old ≤ F.faults files.new }
-    ensures read { Goes result (IsRead (given F.told F.faults files.old files.new) name.now 1048576)
-        (IsNotRead (given F.told F.faults files.old files.new) name.now 1048576 (codes "source")) }
+    ensures fewer { (other : List ℕ) → F.may_fail files.new other → F.may_fail files.old other }
+    ensures once { F.by_read files.old name.now files.new }
+    ensures read { Goes result (IsRead (given F.told F.faults F.may_fail files.old files.new) name.now most_source)
+        (IsNotRead (given F.told F.faults F.may_fail files.old files.new) name.now most_source (codes "source")) }
 {
-    fetch(alloc, files, name, 1048576, "source")
+    fetch(alloc, files, name, MOST_SOURCE, "source")
 }
 
 /// How many bytes are left for further files behind one that was read.
