@@ -1,3 +1,4 @@
+pub mod Chosen
 pub mod Coming
 pub mod Computed
 pub mod Finding

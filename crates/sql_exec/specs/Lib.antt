@@ -2,4 +2,5 @@ pub mod Found
 pub mod Answered
 pub mod Early
 pub mod Narrows
+pub mod Wishes
 pub mod Worked
