@@ -1,4 +1,3 @@
 pub mod Options
 pub mod Plain
 pub mod Reading
-pub mod Marks

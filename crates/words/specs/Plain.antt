@@ -5,15 +5,15 @@ use Rattle.std.specs.declared.option.Option.TheVariants.{Some, None}
 use Rattle.words.specs.declared.command.Command.{Command}
 use Rattle.words.specs.declared.command.Command.TheVariants as commands
 use Rattle.words.specs.declared.command.Key.{Key}
-use Rattle.words.specs.declared.command.Key.TheVariants.{Size, Candidates, Turns, Rewritten, Store}
+use Rattle.words.specs.declared.command.Key.TheVariants.{Size, Candidates, Turns, Rewritten, Store, View, Tables, Columns, Check}
 use Rattle.words.specs.declared.command.Options.{Options}
 use Rattle.words.specs.declared.command.Verb.{Verb}
-use Rattle.words.specs.declared.command.Verb.TheVariants.{Rewrite, Prove, Check, Run, Sql, Make, Unnest, Inline, Gather}
+use Rattle.words.specs.declared.command.Verb.TheVariants as verbs
 use Rattle.words.specs.Options.{name_of, word_of, has_value, takes, unset}
 
 -- the words of one option and its value: the value in the next word or behind `=` in the same one, or a flag by itself
 pub data Spells : List (List ℕ) → Key → List ℕ → Type 0 where
-  flag : Spells (word_of Rewritten ∷ []) Rewritten []
+  flag : {k : Key} → has_value k ≡ false → Spells (word_of k ∷ []) k []
   next : {k : Key} {v : List ℕ} → has_value k ≡ true → Spells (word_of k ∷ v ∷ []) k v
   same : {k : Key} {v : List ℕ} → has_value k ≡ true → Spells ((word_of k ++ (61 ∷ v)) ∷ []) k v
 
@@ -24,6 +24,10 @@ pub data Sets : Key → List ℕ → Options → Options → Type 0 where
   turns : {n : ℕ} {o : Options} → o.turns ≡ None → 1 ≤ n → n ≤ 100000000 → Sets Turns (decimal n) o (record o { turns = Some n })
   rewritten : {o : Options} → o.rewritten ≡ false → Sets Rewritten [] o (record o { rewritten = true })
   store : {v : List ℕ} {o : Options} → o.store ≡ None → Sets Store v o (record o { store = Some v })
+  view : {v : List ℕ} {o : Options} → o.view ≡ None → Sets View v o (record o { view = Some v })
+  tables : {v : List ℕ} {o : Options} → o.tables ≡ None → Sets Tables v o (record o { tables = Some v })
+  columns : {v : List ℕ} {o : Options} → o.columns ≡ None → Sets Columns v o (record o { columns = Some v })
+  check : {o : Options} → o.check ≡ false → Sets Check [] o (record o { check = true })
 
 -- the options of a command, one after the other
 pub data HasOptions (verb : Verb) : List (List ℕ) → Options → Options → Type 0 where
@@ -44,17 +48,22 @@ pub data HasOthers : List (List ℕ) → List (List ℕ) → Type 0 where
   bare : {ws : List (List ℕ)} → all_bare ws ≡ true → HasOthers ws ws
   dashed : {ws : List (List ℕ)} → HasOthers (codes "--" ∷ ws) ws
 
--- what a command takes besides its options
+-- What a command takes besides its options. A map is made of one file of entities at least; it is checked where the flag is set.
 pub data Names : Verb → Options → List (List ℕ) → Command → Type 0 where
-  rewrite : {o : Options} {s p : List ℕ} → Names Rewrite o (s ∷ p ∷ []) (commands.Rewrite o s p)
-  prove : {o : Options} {s p : List ℕ} → Names Prove o (s ∷ p ∷ []) (commands.Prove o s p)
-  check : {o : Options} {s p b : List ℕ} → Names Check o (s ∷ p ∷ b ∷ []) (commands.Check s p b)
-  run : {o : Options} {s p d m : List ℕ} {args : List (List ℕ)} → Names Run o (s ∷ p ∷ d ∷ m ∷ args) (commands.Run o s p d m args)
-  sql : {o : Options} {s d q : List ℕ} → Names Sql o (s ∷ d ∷ q ∷ []) (commands.Sql s d q)
-  make : {o : Options} {n : ℕ} → 1 ≤ n → n ≤ 100000 → Names Make o (decimal n ∷ []) (commands.Make n)
-  unnest : {o : Options} {s p : List ℕ} → Names Unnest o (s ∷ p ∷ []) (commands.Unnest o s p)
-  inline : {o : Options} {s p : List ℕ} → Names Inline o (s ∷ p ∷ []) (commands.Inline s p)
-  gather : {o : Options} {s p : List ℕ} → Names Gather o (s ∷ p ∷ []) (commands.Gather o s p)
+  rewrite : {o : Options} {s p : List ℕ} → Names verbs.Rewrite o (s ∷ p ∷ []) (commands.Rewrite o s p)
+  prove : {o : Options} {s p : List ℕ} → Names verbs.Prove o (s ∷ p ∷ []) (commands.Prove o s p)
+  check : {o : Options} {s p b : List ℕ} → Names verbs.Check o (s ∷ p ∷ b ∷ []) (commands.Check o s p b)
+  run : {o : Options} {s p d m : List ℕ} {args : List (List ℕ)} → Names verbs.Run o (s ∷ p ∷ d ∷ m ∷ args) (commands.Run o s p d m args)
+  sql : {o : Options} {s d q : List ℕ} → Names verbs.Sql o (s ∷ d ∷ q ∷ []) (commands.Sql s d q)
+  make : {o : Options} {n : ℕ} → 1 ≤ n → n ≤ 100000 → Names verbs.Make o (decimal n ∷ []) (commands.Make n)
+  unnest : {o : Options} {s p : List ℕ} → Names verbs.Unnest o (s ∷ p ∷ []) (commands.Unnest o s p)
+  narrow : {o : Options} {s p : List ℕ} → Names verbs.Narrow o (s ∷ p ∷ []) (commands.Narrow o s p)
+  inline : {o : Options} {s p : List ℕ} → Names verbs.Inline o (s ∷ p ∷ []) (commands.Inline s p)
+  gather : {o : Options} {s p : List ℕ} → Names verbs.Gather o (s ∷ p ∷ []) (commands.Gather o s p)
+  schema : {o : Options} {d : List ℕ} → Names verbs.Schema o (d ∷ []) (commands.Schema o d)
+  view : {o : Options} {m s p : List ℕ} → Names verbs.View o (m ∷ s ∷ p ∷ []) (commands.View m s p)
+  map : {o : Options} {e : List ℕ} {es : List (List ℕ)} → o.check ≡ false → Names verbs.Map o (e ∷ es) (commands.Map (e ∷ es))
+  check_map : {o : Options} {m s : List ℕ} → o.check ≡ true → Names verbs.Map o (m ∷ s ∷ []) (commands.CheckMap m s)
 
 -- the plain words of a command
 pub data HasWords : List (List ℕ) → Command → Type 0 where

@@ -11,8 +11,12 @@ pub enum Verb {
     Sql,
     Make,
     Unnest,
+    Narrow,
     Inline,
     Gather,
+    Schema,
+    View,
+    Map,
 }
 
 /// An option.
@@ -28,6 +32,14 @@ pub enum Key {
     Rewritten,
     /// `--store FILE`.
     Store,
+    /// `--view MAP`.
+    View,
+    /// `--tables NAME,..`.
+    Tables,
+    /// `--columns TABLE=NAME,..`.
+    Columns,
+    /// `--check`, which has no value.
+    Check,
 }
 
 /// What the options set. Each is set once at most.
@@ -38,6 +50,10 @@ pub struct Options {
     pub turns: Option<u64>,
     pub rewritten: bool,
     pub store: Option<Text>,
+    pub view: Option<Text>,
+    pub tables: Option<Text>,
+    pub columns: Option<Text>,
+    pub check: bool,
 }
 
 /// A command and what it names. Texts are names of files and folders as they were given.
@@ -54,6 +70,7 @@ pub enum Command {
         source: Text,
     },
     Check {
+        options: Options,
         schema: Text,
         source: Text,
         bundle: Text,
@@ -80,6 +97,11 @@ pub enum Command {
         schema: Text,
         source: Text,
     },
+    Narrow {
+        options: Options,
+        schema: Text,
+        source: Text,
+    },
     Inline {
         schema: Text,
         source: Text,
@@ -88,5 +110,25 @@ pub enum Command {
         options: Options,
         schema: Text,
         source: Text,
+    },
+    /// A schema as a database writes it, to be written in this language.
+    Schema {
+        options: Options,
+        dump: Text,
+    },
+    /// What a map lets one see of a file.
+    View {
+        map: Text,
+        schema: Text,
+        source: Text,
+    },
+    /// A map of these files of entities, one at least.
+    Map {
+        entities: Words,
+    },
+    /// A Java file that compiles only where the map is true.
+    CheckMap {
+        map: Text,
+        schema: Text,
     },
 }

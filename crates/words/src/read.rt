@@ -1,8 +1,8 @@
 // Reading the words of a command line.
-ghost use Rattle.std.specs.Prelude.{◌≡◌, IfOk, MatchOption, Some, None};
+ghost use Rattle.std.specs.Prelude.{◌≡◌, IfOk, MatchOption, Some, None, true};
 ghost use Rattle.words.specs.Options.{takes, unset};
 ghost use Rattle.words.specs.Plain.{all_bare, begins_with_dash};
-ghost use Rattle.words.specs.Reading.{plain, spelled, spelled_within, spelling, verb_of, set, set_for, seen, with, value_then, options_of, others_of, command_of, command_with, ReadsPlainWords};
+ghost use Rattle.words.specs.Reading.{plain, schema_in, spelled, spelled_within, spelling, verb_of, set, set_for, seen, with, value_then, options_of, others_of, command_of, command_with, entity_names, map_names, ReadsPlainWords};
 
 use crate::{Command, Key, Options, Verb};
 use qbs_base::{Text, Words};
@@ -13,7 +13,7 @@ use word_values::{first_of, number_within, size_value, size_within, value_behind
 /// `=`, or not at all.
 #[derive(Clone, Copy)]
 pub enum Spelling<'a> {
-    Flag,
+    Flag(Key),
     Next(Key),
     Same(Key, &'a str),
     Other,
@@ -30,8 +30,12 @@ pub fn verb_of(word: &str) -> Option<Verb>
         "sql" => Some(Verb::Sql),
         "make" => Some(Verb::Make),
         "unnest" => Some(Verb::Unnest),
+        "narrow" => Some(Verb::Narrow),
         "inline" => Some(Verb::Inline),
         "gather" => Some(Verb::Gather),
+        "schema" => Some(Verb::Schema),
+        "view" => Some(Verb::View),
+        "map" => Some(Verb::Map),
         _ => None,
     }
 }
@@ -40,7 +44,10 @@ pub fn spelling_of(word: &str) -> Spelling<'_>
     ensures { spelling result ≡ spelled word.now }
 {
     if word == "--rewritten" {
-        return Spelling::Flag;
+        return Spelling::Flag(Key::Rewritten);
+    }
+    if word == "--check" {
+        return Spelling::Flag(Key::Check);
     }
     if word == "--size" {
         return Spelling::Next(Key::Size);
@@ -53,6 +60,15 @@ pub fn spelling_of(word: &str) -> Spelling<'_>
     }
     if word == "--store" {
         return Spelling::Next(Key::Store);
+    }
+    if word == "--view" {
+        return Spelling::Next(Key::View);
+    }
+    if word == "--tables" {
+        return Spelling::Next(Key::Tables);
+    }
+    if word == "--columns" {
+        return Spelling::Next(Key::Columns);
     }
     value_of(word)
 }
@@ -73,6 +89,15 @@ fn value_of(word: &str) -> Spelling<'_>
     if let Some(value) = value_behind("--store=", word) {
         return Spelling::Same(Key::Store, value);
     }
+    if let Some(value) = value_behind("--view=", word) {
+        return Spelling::Same(Key::View, value);
+    }
+    if let Some(value) = value_behind("--tables=", word) {
+        return Spelling::Same(Key::Tables, value);
+    }
+    if let Some(value) = value_behind("--columns=", word) {
+        return Spelling::Same(Key::Columns, value);
+    }
     Spelling::Other
 }
 
@@ -80,10 +105,19 @@ pub fn takes(verb: Verb, key: Key) -> bool
     ensures { result ≡ takes verb key }
 {
     match verb {
-        Verb::Rewrite | Verb::Prove => matches!(key, Key::Size | Key::Candidates | Key::Store),
-        Verb::Run => !matches!(key, Key::Store),
-        Verb::Unnest | Verb::Gather => matches!(key, Key::Size | Key::Candidates),
-        Verb::Check | Verb::Sql | Verb::Make | Verb::Inline => false,
+        Verb::Rewrite | Verb::Prove => {
+            matches!(key, Key::Size | Key::Candidates | Key::Store | Key::View)
+        }
+        Verb::Check | Verb::Narrow => matches!(key, Key::View),
+        Verb::Run => matches!(
+            key,
+            Key::Size | Key::Candidates | Key::Turns | Key::Rewritten
+        ),
+        Verb::Unnest => matches!(key, Key::Size | Key::Candidates | Key::View),
+        Verb::Gather => matches!(key, Key::Size | Key::Candidates),
+        Verb::Schema => matches!(key, Key::Tables | Key::Columns),
+        Verb::Map => matches!(key, Key::Check),
+        Verb::Sql | Verb::Make | Verb::Inline | Verb::View => false,
     }
 }
 
@@ -102,6 +136,10 @@ fn set(
         Key::Turns => set_turns(alloc, value, options),
         Key::Rewritten => Ok(set_rewritten(value, options)),
         Key::Store => set_store(alloc, value, options),
+        Key::View => set_view(alloc, value, options),
+        Key::Tables => set_tables(alloc, value, options),
+        Key::Columns => set_columns(alloc, value, options),
+        Key::Check => Ok(set_check(value, options)),
     }
 }
 
@@ -185,6 +223,57 @@ fn set_store(
     Ok(Some(options))
 }
 
+fn set_view(alloc: Global, value: &str, mut options: Options) -> Result<Option<Options>, AllocError>
+    ensures { IfOk result (λ o. o ≡ set Key.View value.now options) }
+{
+    if options.view.is_some() {
+        return Ok(None);
+    }
+    options.view = Some(Text::from_str(alloc, value)?);
+    Ok(Some(options))
+}
+
+fn set_tables(
+    alloc: Global,
+    value: &str,
+    mut options: Options,
+) -> Result<Option<Options>, AllocError>
+    ensures { IfOk result (λ o. o ≡ set Key.Tables value.now options) }
+{
+    if options.tables.is_some() {
+        return Ok(None);
+    }
+    options.tables = Some(Text::from_str(alloc, value)?);
+    Ok(Some(options))
+}
+
+fn set_columns(
+    alloc: Global,
+    value: &str,
+    mut options: Options,
+) -> Result<Option<Options>, AllocError>
+    ensures { IfOk result (λ o. o ≡ set Key.Columns value.now options) }
+{
+    if options.columns.is_some() {
+        return Ok(None);
+    }
+    options.columns = Some(Text::from_str(alloc, value)?);
+    Ok(Some(options))
+}
+
+fn set_check(value: &str, mut options: Options) -> Option<Options>
+    ensures { result ≡ set Key.Check value.now options }
+{
+    if !value.is_empty() {
+        return None;
+    }
+    if options.check {
+        return None;
+    }
+    options.check = true;
+    Some(options)
+}
+
 fn set_for(
     alloc: Global,
     verb: Verb,
@@ -217,7 +306,7 @@ fn options_of(
         return Ok(Some((options, words)));
     };
     match spelling_of(first.as_str()) {
-        Spelling::Flag => option_then(alloc, verb, Key::Rewritten, "", rest, options),
+        Spelling::Flag(key) => option_then(alloc, verb, key, "", rest, options),
         Spelling::Next(key) => value_then(alloc, verb, key, rest, options),
         Spelling::Same(key, value) => option_then(alloc, verb, key, value, rest, options),
         Spelling::Other => Ok(Some((options, words))),
@@ -337,6 +426,7 @@ fn check_of(options: Options, names: &[Text]) -> Result<Option<Command>, AllocEr
         return Ok(None);
     };
     Ok(Some(Command::Check {
+        options,
         schema: schema.clone()?,
         source: source.clone()?,
         bundle: bundle.clone()?,
@@ -397,6 +487,19 @@ fn unnest_of(options: Options, names: &[Text]) -> Result<Option<Command>, AllocE
     }))
 }
 
+fn narrow_of(options: Options, names: &[Text]) -> Result<Option<Command>, AllocError>
+    ensures { IfOk result (λ c. c ≡ command_of Verb.Narrow options names.now) }
+{
+    let [schema, source] = names else {
+        return Ok(None);
+    };
+    Ok(Some(Command::Narrow {
+        options,
+        schema: schema.clone()?,
+        source: source.clone()?,
+    }))
+}
+
 fn inline_of(options: Options, names: &[Text]) -> Result<Option<Command>, AllocError>
     ensures { IfOk result (λ c. c ≡ command_of Verb.Inline options names.now) }
 {
@@ -422,6 +525,64 @@ fn gather_of(options: Options, names: &[Text]) -> Result<Option<Command>, AllocE
     }))
 }
 
+fn schema_of(options: Options, names: &[Text]) -> Result<Option<Command>, AllocError>
+    ensures { IfOk result (λ c. c ≡ command_of Verb.Schema options names.now) }
+{
+    let [dump] = names else {
+        return Ok(None);
+    };
+    Ok(Some(Command::Schema {
+        options,
+        dump: dump.clone()?,
+    }))
+}
+
+fn view_of(options: Options, names: &[Text]) -> Result<Option<Command>, AllocError>
+    ensures { IfOk result (λ c. c ≡ command_of Verb.View options names.now) }
+{
+    let [map, schema, source] = names else {
+        return Ok(None);
+    };
+    Ok(Some(Command::View {
+        map: map.clone()?,
+        schema: schema.clone()?,
+        source: source.clone()?,
+    }))
+}
+
+fn entities_of(alloc: Global, names: &[Text]) -> Result<Option<Command>, AllocError>
+    ensures { IfOk result (λ c. c ≡ entity_names names.now) }
+{
+    if names.is_empty() {
+        return Ok(None);
+    }
+    Ok(Some(Command::Map {
+        entities: copies(alloc, names)?,
+    }))
+}
+
+fn checked_map_of(names: &[Text]) -> Result<Option<Command>, AllocError>
+    ensures { IfOk result (λ c. c ≡ map_names true names.now) }
+{
+    let [map, schema] = names else {
+        return Ok(None);
+    };
+    Ok(Some(Command::CheckMap {
+        map: map.clone()?,
+        schema: schema.clone()?,
+    }))
+}
+
+fn map_of(alloc: Global, options: Options, names: &[Text]) -> Result<Option<Command>, AllocError>
+    ensures { IfOk result (λ c. c ≡ command_of Verb.Map options names.now) }
+{
+    if options.check {
+        checked_map_of(names)
+    } else {
+        entities_of(alloc, names)
+    }
+}
+
 // The command with its names; None where they aren't as many as it takes.
 fn command_of(
     alloc: Global,
@@ -439,8 +600,12 @@ fn command_of(
         Verb::Sql => sql_of(options, names),
         Verb::Make => make_of(alloc, options, names),
         Verb::Unnest => unnest_of(options, names),
+        Verb::Narrow => narrow_of(options, names),
         Verb::Inline => inline_of(options, names),
         Verb::Gather => gather_of(options, names),
+        Verb::Schema => schema_of(options, names),
+        Verb::View => view_of(options, names),
+        Verb::Map => map_of(alloc, options, names),
     }
 }
 
@@ -454,6 +619,10 @@ fn unset() -> Options
         turns: None,
         rewritten: false,
         store: None,
+        view: None,
+        tables: None,
+        columns: None,
+        check: false,
     }
 }
 
@@ -483,5 +652,17 @@ pub fn read_words(alloc: Global, words: &Words) -> Result<Option<Command>, Alloc
     match verb_of(word.as_str()) {
         Some(verb) => command_with(alloc, verb, rest),
         None => Ok(None),
+    }
+}
+
+/// SCHEMA of plain words of `rewrite`, `prove` or `run`, and None for all other words.
+pub fn schema_word(alloc: Global, words: &Words) -> Result<Option<Text>, AllocError>
+    ensures { IfOk result (λ name. name ≡ schema_in words.now) }
+{
+    match read_words(alloc, words)? {
+        Some(Command::Rewrite { schema, .. }) => Ok(Some(schema)),
+        Some(Command::Prove { schema, .. }) => Ok(Some(schema)),
+        Some(Command::Run { schema, .. }) => Ok(Some(schema)),
+        _ => Ok(None),
     }
 }
