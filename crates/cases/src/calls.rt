@@ -1,9 +1,9 @@
 // Commands over files and sinks in memory, and what is printed of them: the status, then what stands on `out` behind `>`, and on `rep` behind `!`.
 use crate::held::{File, clean_files_of, files_of};
 use crate::split::{first_and_rest, number_of};
+use files_sinks::{CleanSink, MemFiles, MemSink};
 use qbs::{qbs_main, qbs_main_over_clean_ends};
 use qbs_base::{NoMemory, Words};
-use files_sinks::{CleanSink, MemFiles, MemSink};
 use std::alloc::{AllocError, Global};
 
 /// The calls of the files and of both sinks that are to fail, and the room of `out`.

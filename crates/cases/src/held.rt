@@ -1,7 +1,7 @@
 // Files that are held for commands, and the rules that their bytes are made by.
 use crate::split::{first_and_rest, number_of};
-use qbs_base::{Bytes, NoMemory, Text};
 use files_sinks::{CleanFiles, MemFiles};
+use qbs_base::{Bytes, NoMemory, Text};
 use std::alloc::Global;
 
 /// A file's name and its bytes.

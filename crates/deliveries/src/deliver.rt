@@ -5,8 +5,8 @@ ghost use Rattle.deliveries.specs.Deliver.{Delivers, IsSent, FailsToSend, change
 ghost use Rattle.deliveries.specs.declared.plan.Plan.{Plan};
 
 use crate::Plan;
-use qbs_base::Status;
 use files_sinks::{Sink, WriteAnswer};
+use qbs_base::Status;
 
 /// Writes the text to `out` and then the line to `rep`, each by one call where it has bytes.
 pub fn deliver<O: Sink, E: Sink>(

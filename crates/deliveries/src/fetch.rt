@@ -8,8 +8,8 @@ ghost use Rattle.deliveries.specs.Plan.{given};
 ghost use Rattle.deliveries.specs.Steps.{IsRead, IsNotRead};
 
 use crate::Plan;
-use qbs_base::{Bytes, NoMemory, Status, Text};
 use files_sinks::{Files, ReadAnswer};
+use qbs_base::{Bytes, NoMemory, Status, Text};
 use std::alloc::{AllocError, AllocFailed, Global};
 
 /// The most bytes of a schema.

@@ -2,8 +2,8 @@
 ghost use Rattle.files_sinks.specs.Outside.{Rose};
 ghost use Rattle.deliveries.specs.Memory.{RefusesForMemory};
 
-use qbs_base::Status;
 use files_sinks::{Sink, WriteAnswer};
+use qbs_base::Status;
 
 /// Writes the line of want of memory to `rep`, as the answer where memory runs out before the words are read.
 pub fn refuse_for_memory<E: Sink>(rep: &mut E) -> Status

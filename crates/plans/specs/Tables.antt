@@ -12,6 +12,7 @@ use Rattle.qbs_base.specs.Values.{Schema, Database, IsRowOf}
 use Rattle.schema.specs.declared.fault.DataFault.{DataFault}
 use Rattle.schema.specs.Rows.{table_rows}
 use Rattle.schema.specs.Schemas.{schema_of}
+use Rattle.deliveries.specs.Limits.{most_tables}
 use Rattle.deliveries.specs.declared.plan.Plan.{Plan}
 use Rattle.deliveries.specs.declared.fetch.Stop.{Stop}
 use Rattle.plans.specs.Lines.{data_text}
@@ -23,9 +24,10 @@ use Rattle.deliveries.specs.Steps.{Ends, step, refused, finds, IsRead, IsNotRead
 abbrev pub table_file : List ℕ → List ℕ → List ℕ
 table_file folder table = folder ++ codes "/" ++ table ++ codes ".csv"
 
--- all tables together have 32 MiB
-abbrev pub most_bytes : ℕ
-most_bytes = 33554432
+-- the files of tables in a folder, in their order
+abbrev pub table_files : List ℕ → List Table → List (List ℕ)
+table_files folder [] = []
+table_files folder (table ∷ tables) = table_file folder table.name ∷ table_files folder tables
 
 -- each text is that of its table's file, in order and all within a limit
 abbrev pub AreRead : Given → List ℕ → List Table → ℕ → List (List ℕ) → Type 0
@@ -43,7 +45,7 @@ AreNotRead files folder (table ∷ tables) left plan =
 
 -- the files of all tables are read in order
 abbrev pub reads_tables : Given → List ℕ → List Table → (List (List ℕ) → Ends) → Ends
-reads_tables files folder tables next = step (AreRead files folder tables most_bytes) (AreNotRead files folder tables most_bytes) next
+reads_tables files folder tables next = step (AreRead files folder tables most_tables) (AreNotRead files folder tables most_tables) next
 
 -- the bytes are a schema, and then the files of its tables are read
 abbrev pub over_tables : Given → List ℕ → List ℕ → (Schema → List (List ℕ) → Ends) → Ends

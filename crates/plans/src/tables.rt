@@ -1,14 +1,14 @@
 // The tables of a schema, from files of a folder.
 ghost use Rattle.std.specs.Prelude.{◌≡◌, ◌<◌, ◌≤◌, ◌++◌, ◌∷◌, [], length, IfOk, OnOk, IfErr, slice_get, string_bytes};
-ghost use Rattle.files_sinks.specs.Outside.{Rose};
 ghost use Rattle.qbs_base.specs.Values.{IsDatabaseOf};
 ghost use Rattle.deliveries.specs.Plan.{given};
-ghost use Rattle.plans.specs.Tables.{table_file as file_of, IsFresh, Reads, Loads, LoadsNext, with_rows_at};
+ghost use Rattle.deliveries.specs.Reads.{looks, OnlyReads};
+ghost use Rattle.plans.specs.Tables.{table_file as file_of, table_files, IsFresh, Reads, Loads, LoadsNext, with_rows_at};
 
 use crate::lines::data_refused;
 use deliveries::fetch::{Stop, fetch, left_behind};
-use qbs_base::{Bytes, Db, Fail, Items, NoMemory, Rows, Table, Text};
 use files_sinks::Files;
+use qbs_base::{Bytes, Db, Fail, Items, NoMemory, Rows, Table, Text};
 use schema::Schema;
 use schema_text::load_table;
 use std::alloc::{AllocError, Global};
@@ -44,7 +44,8 @@ pub fn fetch_tables<F: Files>(
 ) -> Result<(), Stop>
     ensures same { F.told files.new ≡ F.told files.old }
     ensures later { F.faults files.old ≤ F.faults files.new }
-    ensures read { Reads (given F.told F.faults files.old files.new) folder.now tables.now left texts.old texts.new result }
+    ensures only { OnlyReads (looks F.told F.faults F.may_fail F.by_read) (table_files folder.now tables.now) files.old files.new }
+    ensures read { Reads (given F.told F.faults F.may_fail files.old files.new) folder.now tables.now left texts.old texts.new result }
 {
     match tables {
         [] => Ok(()),

@@ -15,12 +15,13 @@ use Rattle.java_mean.specs.Queries.{Reader}
 use Rattle.java_types.specs.Texts.{read_by}
 use Rattle.java_types.proofs.Found.{found_exactly}
 use Rattle.words.specs.declared.command.Options.{Options}
+use Rattle.deliveries.specs.Limits.{most_schema, most_source, most_tables}
 use Rattle.deliveries.specs.declared.plan.Plan.{Plan}
 use Rattle.plans.specs.Calls.{Call, Called, Calls, CallsNothing, arguments, method_at, method_named, word_refusal}
 use Rattle.plans.specs.Opening.{IsSchemaOf, schema_refusal}
 use Rattle.plans.specs.Lines.{fault_text}
 use Rattle.deliveries.specs.Plan.{Given, refusal}
-use Rattle.plans.specs.Tables.{most_bytes, AreRead, AreNotRead, over_tables, loaded, HasRows, data_refusal, IsFileOf, IsTableFile}
+use Rattle.plans.specs.Tables.{AreRead, AreNotRead, over_tables, loaded, HasRows, data_refusal, IsFileOf, IsTableFile}
 use Rattle.plans.proofs.Called.{position_mapped}
 use Rattle.plans.proofs.Fetched.{as_many}
 use Rattle.qbs.specs.Rewrite.{size_of, budget_of}
@@ -160,34 +161,34 @@ programs_alike o tables call source texts first second many ok (inr (p, is, inr 
     let one : p' ≡ p = (program_one tables source).same p' p is' is in
     chosen_runs o tables texts call p q r first second many ok same (subst (λ (k : PlainProgram). IsChosen true tables (size_of o) (budget_of o) k r) one other) a b
 
-tables_alike : (files : Given) (o : Options) (folder s t : List ℕ) (call : Call) (first second : Plan) → first.status ≡ statuses.Ok → (files.rose → ⊥) →
+tables_alike : (files : Given) (o : Options) (folder s t : List ℕ) (call : Call) (first second : Plan) → first.status ≡ statuses.Ok → ((name : List ℕ) → files.failed name → ⊥) →
     ((tables : Schema) → IsSchemaOf s tables → (name : List ℕ) → IsFileOf folder tables name → IsSome (files.told name)) →
     over_tables files folder s (λ tables texts. run_of (record o { rewritten = false }) tables call t texts) first →
     over_tables files folder s (λ tables texts. run_of (record o { rewritten = true }) tables call t texts) second → first ≡ second
 tables_alike files o folder s t call first second ok calm told (inl h) y = absurd (refusal_fails first (schema_refusal h.0) statuses.Schema h.2 refl (λ e. cc) ok)
-tables_alike files o folder s t call first second ok calm told (inr (tables, is, inl h)) y = absurd (unread_texts files folder tables most_bytes first h ok)
+tables_alike files o folder s t call first second ok calm told (inr (tables, is, inl h)) y = absurd (unread_texts files folder tables most_tables first h ok)
 tables_alike files o folder s t call first second ok calm told (inr (tables, is, inr (texts, are, a))) (inl h) = absurd ((schema_one s).apart tables second is h)
 tables_alike files o folder s t call first second ok calm told (inr (tables, is, inr (texts, are, a))) (inr (tables', is', inl h)) =
     let one : tables' ≡ tables = (schema_one s).same tables' tables is' is in
-    absurd ((tables_one files folder tables most_bytes (told tables is) calm).apart texts second are (subst (λ (ts : Schema). AreNotRead files folder ts most_bytes second) one h))
+    absurd ((tables_one files folder tables most_tables (told tables is) calm).apart texts second are (subst (λ (ts : Schema). AreNotRead files folder ts most_tables second) one h))
 tables_alike files o folder s t call first second ok calm told (inr (tables, is, inr (texts, are, a))) (inr (tables', is', inr (texts', are', b))) =
     let one : tables' ≡ tables = (schema_one s).same tables' tables is' is in
-    let texts_one : texts' ≡ texts = (tables_one files folder tables most_bytes (told tables is) calm).same texts' texts (subst (λ (ts : Schema). AreRead files folder ts most_bytes texts') one are') are in
-    programs_alike o tables call t texts first second (as_many files folder tables most_bytes texts are) ok a
+    let texts_one : texts' ≡ texts = (tables_one files folder tables most_tables (told tables is) calm).same texts' texts (subst (λ (ts : Schema). AreRead files folder ts most_tables texts') one are') are in
+    programs_alike o tables call t texts first second (as_many files folder tables most_tables texts are) ok a
     (subst (λ (xs : List (List ℕ)). run_of (record o { rewritten = true }) tables call t xs second) texts_one (subst (λ (ts : Schema). run_of (record o { rewritten = true }) ts call t texts' second) one b))
 
 pub commands_alike : (files : Given) (o : Options) (schema source folder : List ℕ) (call : Call) (first second : Plan) → IsSome (files.told schema) → IsSome (files.told source) →
-    ((name : List ℕ) → IsTableFile files.told schema folder name → IsSome (files.told name)) → (files.rose → ⊥) → first.status ≡ statuses.Ok →
+    ((name : List ℕ) → IsTableFile files.told schema folder name → IsSome (files.told name)) → ((name : List ℕ) → files.failed name → ⊥) → first.status ≡ statuses.Ok →
     run files (record o { rewritten = false }) schema source folder call first → run files (record o { rewritten = true }) schema source folder call second → first ≡ second
-commands_alike files o schema source folder call first second has_schema has_source told calm ok (inl h) y = absurd (unread files schema 262144 (codes "schema") first h ok)
-commands_alike files o schema source folder call first second has_schema has_source told calm ok (inr (s, read, inl h)) y = absurd (unread files source 1048576 (codes "source") first h ok)
+commands_alike files o schema source folder call first second has_schema has_source told calm ok (inl h) y = absurd (unread files schema most_schema (codes "schema") first h ok)
+commands_alike files o schema source folder call first second has_schema has_source told calm ok (inr (s, read, inl h)) y = absurd (unread files source most_source (codes "source") first h ok)
 commands_alike files o schema source folder call first second has_schema has_source told calm ok (inr (s, read, inr (t, has, a))) (inl h) =
-    absurd ((read_one files schema 262144 (codes "schema") has_schema calm).apart s second read h)
+    absurd ((read_one files schema most_schema (codes "schema") has_schema calm).apart s second read h)
 commands_alike files o schema source folder call first second has_schema has_source told calm ok (inr (s, read, inr (t, has, a))) (inr (s', read', inl h)) =
-    absurd ((read_one files source 1048576 (codes "source") has_source calm).apart t second has h)
+    absurd ((read_one files source most_source (codes "source") has_source calm).apart t second has h)
 commands_alike files o schema source folder call first second has_schema has_source told calm ok (inr (s, read, inr (t, has, a))) (inr (s', read', inr (t', has', b))) =
-    let one : s' ≡ s = (read_one files schema 262144 (codes "schema") has_schema calm).same s' s read' read in
-    let two : t' ≡ t = (read_one files source 1048576 (codes "source") has_source calm).same t' t has' has in
+    let one : s' ≡ s = (read_one files schema most_schema (codes "schema") has_schema calm).same s' s read' read in
+    let two : t' ≡ t = (read_one files source most_source (codes "source") has_source calm).same t' t has' has in
     tables_alike files o folder s t call first second ok calm (λ tables is. table_files files schema folder s tables read is told) a
     (subst (λ (x : List ℕ). over_tables files folder x (λ tables texts. run_of (record o { rewritten = true }) tables call t texts) second) one
     (subst (λ (x : List ℕ). over_tables files folder s' (λ tables texts. run_of (record o { rewritten = true }) tables call x texts) second) two b))

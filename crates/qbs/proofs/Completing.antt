@@ -21,6 +21,7 @@ use Rattle.words.specs.declared.command.Options.{Options}
 use Rattle.words.specs.Plain.{HasWords}
 use Rattle.words.specs.Reading.{plain}
 use Rattle.words.proofs.Exact.{reads_plain_words}
+use Rattle.deliveries.specs.Limits.{most_schema, most_source, most_bundle, most_tables}
 use Rattle.deliveries.specs.declared.plan.Plan.{Plan}
 use Rattle.plans.specs.Calls.{Call, Called, Calls, CallsNothing, arguments, word_refusal}
 use Rattle.plans.specs.Opening.{BreaksBundle, bundle_refusal, has_bundle, IsSchemaOf, BreaksSchema, schema_refusal, IsProgramOf, HasNoProgram, has_schema, has_program}
@@ -28,10 +29,10 @@ use Rattle.deliveries.specs.Deliver.{Change}
 use Rattle.deliveries.specs.Plan.{Given, not_yet}
 use Rattle.plans.specs.Results.{names_of}
 use Rattle.deliveries.specs.Steps.{Ends, step, refused, IsRead, IsNotRead, reads}
-use Rattle.plans.specs.Tables.{table_file, most_bytes, AreRead, AreNotRead, reads_tables, IsFileOf, HasRows, LacksRows, data_refusal, has_rows}
+use Rattle.plans.specs.Tables.{table_file, AreRead, AreNotRead, reads_tables, IsFileOf, HasRows, LacksRows, data_refusal, has_rows}
 use Rattle.qbs.specs.Check.{tells, checks, check_of, check}
-use Rattle.qbs.specs.Commands.{without_store, command, IsDue}
-use Rattle.qbs.specs.Complete.{HasFile, HaveTexts, HasSchema, HasSource, HasTables, HasCall, IsRight, IsNotYet, IsListed, IsComplete}
+use Rattle.qbs.specs.Commands.{is_built, built, where_built, command, IsDue}
+use Rattle.qbs.specs.Complete.{HasFile, HaveTexts, HasSchema, HasSource, HasTables, HasCall, IsRight, IsEnd, IsEndWhere, IsListed, IsComplete}
 use Rattle.qbs.specs.Make.{IsResult, IsNotDone, method_text, outcome_over, runs, make_of, make}
 use Rattle.qbs.specs.Pruners.{May}
 use Rattle.qbs.specs.Prove.{Proves, prove_of, prove}
@@ -57,7 +58,7 @@ some_is (Some all) bytes e = refl
 some_is None bytes e = absurd cc
 
 -- a file that is told
-module _ (files : Given) (calm : files.rose → ⊥) where
+module _ (files : Given) (calm : (name : List ℕ) → files.failed name → ⊥) where
   opens : (name : List ℕ) (limit : ℕ) (label bytes : List ℕ) (next : List ℕ → Ends) → files.told name ≡ Some bytes → length bytes ≤ limit → (plan : Plan) → reads files name limit label next plan → next bytes plan
   opens name limit label bytes next e within plan h =
       goes (IsRead files name limit) (IsNotRead files name limit label) next (read_one files name limit label (some_is (files.told name) bytes e) calm) bytes
@@ -77,10 +78,10 @@ module _ (files : Given) (calm : files.rose → ⊥) where
       subst (λ (n : List ℕ). IsSome (files.told n)) (sym same) (some_is (files.told (table_file folder table.name)) text h.0)
   all_told folder (table ∷ tables) left (text ∷ texts) h name (inr file) = all_told folder tables (left - length text) texts h.2 name file
 
-  opens_tables : (folder : List ℕ) (tables : Schema) (texts : List (List ℕ)) (next : List (List ℕ) → Ends) → HaveTexts files.told folder tables most_bytes texts → (plan : Plan) → reads_tables files folder tables next plan → next texts plan
+  opens_tables : (folder : List ℕ) (tables : Schema) (texts : List (List ℕ)) (next : List (List ℕ) → Ends) → HaveTexts files.told folder tables most_tables texts → (plan : Plan) → reads_tables files folder tables next plan → next texts plan
   opens_tables folder tables texts next have plan h =
-      goes (AreRead files folder tables most_bytes) (AreNotRead files folder tables most_bytes) next (tables_one files folder tables most_bytes (all_told folder tables most_bytes texts have) calm) texts
-      (are_read folder tables most_bytes texts have) plan h
+      goes (AreRead files folder tables most_tables) (AreNotRead files folder tables most_tables) next (tables_one files folder tables most_tables (all_told folder tables most_tables texts have) calm) texts
+      (are_read folder tables most_tables texts have) plan h
 
 goes_schema : (bytes : List ℕ) (tables : Schema) (next : Schema → Ends) → IsSchemaOf bytes tables → (plan : Plan) → has_schema bytes next plan → next tables plan
 goes_schema bytes tables next is plan h = goes (IsSchemaOf bytes) (refused (BreaksSchema bytes) schema_refusal) next (schema_one bytes) tables is plan h
@@ -93,26 +94,26 @@ goes_rows tables texts db next is plan h = goes (HasRows tables texts) (refused 
 
 -- ---- `rewrite`
 
-rewrite_listed : (files : Given) → (files.rose → ⊥) → (may : May) (o : Options) (schema source : List ℕ) (plan : Plan) → HasSchema files.told schema (λ tables. HasSource files.told source tables (λ p. Unit {0})) →
+rewrite_listed : (files : Given) → ((name : List ℕ) → files.failed name → ⊥) → (may : May) (o : Options) (schema source : List ℕ) (plan : Plan) → HasSchema files.told schema (λ tables. HasSource files.told source tables (λ p. Unit {0})) →
     rewrite files may o schema source plan → plan.status ≡ statuses.Ok
 rewrite_listed files calm may o schema source plan right h =
     let tables : Schema = right.is.0 in
     let text = right.is.2 in
-    let read = opens files calm schema 262144 (codes "schema") right.bytes (λ s. reads files source 1048576 (codes "source") (λ t. rewrite_of may o s t)) right.has right.within plan h in
-    let both = opens files calm source 1048576 (codes "source") text.bytes (λ t. rewrite_of may o right.bytes t) text.has text.within plan read in
+    let read = opens files calm schema most_schema (codes "schema") right.bytes (λ s. reads files source most_source (codes "source") (λ t. rewrite_of may o s t)) right.has right.within plan h in
+    let both = opens files calm source most_source (codes "source") text.bytes (λ t. rewrite_of may o right.bytes t) text.has text.within plan read in
     let opened = goes_schema right.bytes tables (λ ts. has_program ts text.bytes (λ p. Rewrites may ts (size_of o) (budget_of o) text.bytes p)) right.is.1 plan both in
     let done = goes_program tables text.bytes text.is.0 (λ p. Rewrites may tables (size_of o) (budget_of o) text.bytes p) text.is.1 plan opened in
     ap (λ (x : Plan). x.status) done.written
 
 -- ---- `prove`
 
-prove_listed : (files : Given) → (files.rose → ⊥) → (may : May) (o : Options) (schema source : List ℕ) (plan : Plan) → HasSchema files.told schema (λ tables. HasSource files.told source tables (λ p. Unit {0})) →
+prove_listed : (files : Given) → ((name : List ℕ) → files.failed name → ⊥) → (may : May) (o : Options) (schema source : List ℕ) (plan : Plan) → HasSchema files.told schema (λ tables. HasSource files.told source tables (λ p. Unit {0})) →
     prove files may o schema source plan → plan.status ≡ statuses.Ok
 prove_listed files calm may o schema source plan right h =
     let tables : Schema = right.is.0 in
     let text = right.is.2 in
-    let read = opens files calm schema 262144 (codes "schema") right.bytes (λ s. reads files source 1048576 (codes "source") (λ t. prove_of may o s t)) right.has right.within plan h in
-    let both = opens files calm source 1048576 (codes "source") text.bytes (λ t. prove_of may o right.bytes t) text.has text.within plan read in
+    let read = opens files calm schema most_schema (codes "schema") right.bytes (λ s. reads files source most_source (codes "source") (λ t. prove_of may o s t)) right.has right.within plan h in
+    let both = opens files calm source most_source (codes "source") text.bytes (λ t. prove_of may o right.bytes t) text.has text.within plan read in
     let opened = goes_schema right.bytes tables (λ ts. has_program ts text.bytes (λ p. Proves may ts (size_of o) (budget_of o) p)) right.is.1 plan both in
     let done = goes_program tables text.bytes text.is.0 (λ p. Proves may tables (size_of o) (budget_of o) p) text.is.1 plan opened in
     ap (λ (x : Plan). x.status) done.written
@@ -123,17 +124,17 @@ tells_listed : (tables : Schema) (entries : List Entry) (p : PlainProgram) (foun
 tells_listed tables entries p (All n q) plan h = inl (ap (λ (x : Plan). x.status) h.1)
 tells_listed tables entries p (Refused ordinal) plan h = inr (ap (λ (x : Plan). x.status) h)
 
-check_listed : (files : Given) → (files.rose → ⊥) → (schema source bundle : List ℕ) (plan : Plan) →
-    HasSchema files.told schema (λ tables. HasSource files.told source tables (λ p. Unit {0})) → HasFile files.told bundle 16777216 (λ bytes. (entries : List Entry) × HasBundle bytes entries) →
+check_listed : (files : Given) → ((name : List ℕ) → files.failed name → ⊥) → (schema source bundle : List ℕ) (plan : Plan) →
+    HasSchema files.told schema (λ tables. HasSource files.told source tables (λ p. Unit {0})) → HasFile files.told bundle most_bundle (λ bytes. (entries : List Entry) × HasBundle bytes entries) →
     check files schema source bundle plan → (plan.status ≡ statuses.Ok) ⊎ (plan.status ≡ statuses.Refused)
 check_listed files calm schema source bundle plan right evidence h =
     let tables : Schema = right.is.0 in
     let text = right.is.2 in
     let entries : List Entry = evidence.is.0 in
-    let read = opens files calm schema 262144 (codes "schema") right.bytes
-    (λ s. reads files source 1048576 (codes "source") (λ t. reads files bundle 16777216 (codes "bundle") (λ b. check_of s t b))) right.has right.within plan h in
-    let both = opens files calm source 1048576 (codes "source") text.bytes (λ t. reads files bundle 16777216 (codes "bundle") (λ b. check_of right.bytes t b)) text.has text.within plan read in
-    let all = opens files calm bundle 16777216 (codes "bundle") evidence.bytes (λ b. check_of right.bytes text.bytes b) evidence.has evidence.within plan both in
+    let read = opens files calm schema most_schema (codes "schema") right.bytes
+    (λ s. reads files source most_source (codes "source") (λ t. reads files bundle most_bundle (codes "bundle") (λ b. check_of s t b))) right.has right.within plan h in
+    let both = opens files calm source most_source (codes "source") text.bytes (λ t. reads files bundle most_bundle (codes "bundle") (λ b. check_of right.bytes t b)) text.has text.within plan read in
+    let all = opens files calm bundle most_bundle (codes "bundle") evidence.bytes (λ b. check_of right.bytes text.bytes b) evidence.has evidence.within plan both in
     let opened = goes_schema right.bytes tables (λ ts. has_program ts text.bytes (λ p. has_bundle evidence.bytes (λ es. checks ts p es))) right.is.1 plan all in
     let typed = goes_program tables text.bytes text.is.0 (λ p. has_bundle evidence.bytes (λ es. checks tables p es)) text.is.1 plan opened in
     let held = goes (HasBundle evidence.bytes) (refused (BreaksBundle evidence.bytes) bundle_refusal) (λ es. checks tables text.is.0 es) (bundle_one evidence.bytes) entries evidence.is.1 plan typed in
@@ -173,16 +174,16 @@ chosen_listed o tables texts db call p plan has rows (inl h) = absurd h
 chosen_listed o tables texts db call p plan has rows (inr h) =
     call_listed tables texts db call (turns_of o) h.0 plan (called_in o.rewritten tables (size_of o) (budget_of o) p h.0 call h.1 has) rows h.2
 
-run_listed : (files : Given) → (files.rose → ⊥) → (o : Options) (schema source folder : List ℕ) (call : Call) (plan : Plan) →
+run_listed : (files : Given) → ((name : List ℕ) → files.failed name → ⊥) → (o : Options) (schema source folder : List ℕ) (call : Call) (plan : Plan) →
     HasSchema files.told schema (λ tables. HasSource files.told source tables (λ p. HasCall p call) × HasTables files.told folder tables) →
     run files o schema source folder call plan → (plan.status ≡ statuses.Ok) ⊎ (plan.status ≡ statuses.Faulted) ⊎ (plan.status ≡ statuses.Turns)
 run_listed files calm o schema source folder call plan right h =
     let tables : Schema = right.is.0 in
     let text = right.is.2.0 in
     let rows = right.is.2.1 in
-    let read = opens files calm schema 262144 (codes "schema") right.bytes
-    (λ s. reads files source 1048576 (codes "source") (λ t. has_schema s (λ ts. reads_tables files folder ts (λ texts. run_of o ts call t texts)))) right.has right.within plan h in
-    let both = opens files calm source 1048576 (codes "source") text.bytes (λ t. has_schema right.bytes (λ ts. reads_tables files folder ts (λ texts. run_of o ts call t texts))) text.has text.within plan read in
+    let read = opens files calm schema most_schema (codes "schema") right.bytes
+    (λ s. reads files source most_source (codes "source") (λ t. has_schema s (λ ts. reads_tables files folder ts (λ texts. run_of o ts call t texts)))) right.has right.within plan h in
+    let both = opens files calm source most_source (codes "source") text.bytes (λ t. has_schema right.bytes (λ ts. reads_tables files folder ts (λ texts. run_of o ts call t texts))) text.has text.within plan read in
     let opened = goes_schema right.bytes tables (λ ts. reads_tables files folder ts (λ texts. run_of o ts call text.bytes texts)) right.is.1 plan both in
     let fetched = opens_tables files calm folder tables rows.texts (λ texts. run_of o tables call text.bytes texts) rows.have plan opened in
     let typed = goes_program tables text.bytes text.is.0 (λ p. chooses o tables p (λ q. call_of tables rows.texts call (turns_of o) q)) text.is.1 plan fetched in
@@ -195,14 +196,14 @@ answer_listed tables (meaning.Rows rows) plan h = inl (ap (λ (x : Plan). x.stat
 answer_listed tables (meaning.One x) plan h = inl (ap (λ (y : Plan). y.status) h)
 answer_listed tables meaning.TooLarge plan h = inr (ap (λ (x : Plan). x.status) h)
 
-sql_listed : (files : Given) → (files.rose → ⊥) → (schema folder query : List ℕ) (plan : Plan) →
+sql_listed : (files : Given) → ((name : List ℕ) → files.failed name → ⊥) → (schema folder query : List ℕ) (plan : Plan) →
     HasSchema files.told schema (λ tables. ((q : PlainQuery) × IsAsked tables query q) × HasTables files.told folder tables) →
     sql files schema folder query plan → (plan.status ≡ statuses.Ok) ⊎ (plan.status ≡ statuses.Faulted)
 sql_listed files calm schema folder query plan right h =
     let tables : Schema = right.is.0 in
     let asked = right.is.2.0 in
     let rows = right.is.2.1 in
-    let read = opens files calm schema 262144 (codes "schema") right.bytes (λ s. has_schema s (λ ts. reads_tables files folder ts (λ texts. sql_of ts query texts))) right.has right.within plan h in
+    let read = opens files calm schema most_schema (codes "schema") right.bytes (λ s. has_schema s (λ ts. reads_tables files folder ts (λ texts. sql_of ts query texts))) right.has right.within plan h in
     let opened = goes_schema right.bytes tables (λ ts. reads_tables files folder ts (λ texts. sql_of ts query texts)) right.is.1 plan read in
     let fetched = opens_tables files calm folder tables rows.texts (λ texts. sql_of tables query texts) rows.have plan opened in
     let found = goes (IsAsked tables query) (refused (AsksNothing tables query) word_refusal) (λ q. has_rows tables rows.texts (λ db. answers tables q db)) (query_one tables query) asked.0 asked.1 plan fetched in
@@ -230,27 +231,33 @@ make_listed n plan (inr h) = runs_listed _ _ _ _ plan h.2
 
 -- ---- the whole
 
-stored_listed : (store : Option (List ℕ)) (next : Ends) (Is : Status → Type 0) (plan : Plan) → (next plan → Is plan.status) → without_store store next plan → IsNotYet store plan.status Is
-stored_listed None next Is plan f h = f h
-stored_listed (Some name) next Is plan f h = ap (λ (x : Plan). x.status) h
+built_ends : (files : Given) → ((name : List ℕ) → files.failed name → ⊥) → (may : May) (c : Command) (plan : Plan) → IsRight files.told c → built files may c plan → IsEnd c plan.status
+built_ends files calm may (commands.Rewrite o s t) plan right h = rewrite_listed files calm may o s t plan right h
+built_ends files calm may (commands.Run o s t d method words) plan right h = run_listed files calm o s t d (record { method = method; words = words }) plan right h
+built_ends files calm may (commands.Sql s d q) plan right h = sql_listed files calm s d q plan right h
+built_ends files calm may (commands.Prove o s t) plan right h = prove_listed files calm may o s t plan right h
+built_ends files calm may (commands.Check o s t b) plan right h = check_listed files calm s t b plan right.0 right.1 h
+built_ends files calm may (commands.Make n) plan right h = make_listed n plan h
+built_ends files calm may (commands.Unnest o s t) plan right h = ap (λ (x : Plan). x.status) h
+built_ends files calm may (commands.Narrow o s t) plan right h = ap (λ (x : Plan). x.status) h
+built_ends files calm may (commands.Inline s t) plan right h = ap (λ (x : Plan). x.status) h
+built_ends files calm may (commands.Gather o s t) plan right h = ap (λ (x : Plan). x.status) h
+built_ends files calm may (commands.Schema o d) plan right h = ap (λ (x : Plan). x.status) h
+built_ends files calm may (commands.View m s t) plan right h = ap (λ (x : Plan). x.status) h
+built_ends files calm may (commands.Map es) plan right h = ap (λ (x : Plan). x.status) h
+built_ends files calm may (commands.CheckMap m s) plan right h = ap (λ (x : Plan). x.status) h
 
-command_listed : (files : Given) → (files.rose → ⊥) → (may : May) (c : Command) (plan : Plan) → IsRight files.told c → command files may c plan → IsListed c plan.status
-command_listed files calm may (commands.Rewrite o s t) plan right h = stored_listed o.store (rewrite files may o s t) (λ x. x ≡ statuses.Ok) plan (rewrite_listed files calm may o s t plan right) h
-command_listed files calm may (commands.Run o s t d method words) plan right h =
-    stored_listed o.store (run files o s t d (record { method = method; words = words })) (λ x. (x ≡ statuses.Ok) ⊎ (x ≡ statuses.Faulted) ⊎ (x ≡ statuses.Turns)) plan
-    (run_listed files calm o s t d (record { method = method; words = words }) plan right) h
-command_listed files calm may (commands.Sql s d q) plan right h = sql_listed files calm s d q plan right h
-command_listed files calm may (commands.Prove o s t) plan right h = stored_listed o.store (prove files may o s t) (λ x. x ≡ statuses.Ok) plan (prove_listed files calm may o s t plan right) h
-command_listed files calm may (commands.Check s t b) plan right h = check_listed files calm s t b plan right.0 right.1 h
-command_listed files calm may (commands.Make n) plan right h = make_listed n plan h
-command_listed files calm may (commands.Unnest o s t) plan right h = ap (λ (x : Plan). x.status) h
-command_listed files calm may (commands.Inline s t) plan right h = ap (λ (x : Plan). x.status) h
-command_listed files calm may (commands.Gather o s t) plan right h = ap (λ (x : Plan). x.status) h
+ends_where : (is : Bool) (c : Command) (next : Ends) (plan : Plan) → (next plan → IsEnd c plan.status) → where_built is next plan → IsEndWhere is c plan.status
+ends_where true c next plan f h = f h
+ends_where false c next plan f h = ap (λ (x : Plan). x.status) h
+
+command_listed : (files : Given) → ((name : List ℕ) → files.failed name → ⊥) → (may : May) (c : Command) (plan : Plan) → IsRight files.told c → command files may c plan → IsListed c plan.status
+command_listed files calm may c plan right h = ends_where (is_built c) c (built files may c) plan (built_ends files calm may c plan right) h
 
 command_same : (o : Option Command) (b c : Command) → o ≡ Some b → o ≡ Some c → b ≡ c
 command_same o b c x y = cc
 
-due_listed : (files : Given) → (files.rose → ⊥) → (may : May) (words : List (List ℕ)) (c : Command) (plan : Plan) → HasWords words c → IsRight files.told c → IsDue files may words plan →
+due_listed : (files : Given) → ((name : List ℕ) → files.failed name → ⊥) → (may : May) (words : List (List ℕ)) (c : Command) (plan : Plan) → HasWords words c → IsRight files.told c → IsDue files may words plan →
     IsListed c plan.status ⊎ (plan.status ≡ statuses.NoMemory)
 due_listed files calm may words c plan has right (inl memory) = inr (ap (λ (x : Plan). x.status) memory)
 due_listed files calm may words c plan has right (inr (inl bad)) = absurd (bad.0 c has)
@@ -266,8 +273,5 @@ pub complete : (files : Given) (may : May) (words : List (List ℕ)) (out rep : 
 complete files may words out rep result done c has right calm =
     elim done.delivered [
       | inl all ↦ listed_or c done.plan.status result all.0 (due_listed files calm may words c done.plan has right done.due)
-      | inr rest ↦ elim rest [
-        | inl short ↦ inr (inr short.0)
-        | inr short ↦ inr (inr short.0)
-      ]
+      | inr short ↦ inr (inr short.0)
     ]

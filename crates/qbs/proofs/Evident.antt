@@ -16,13 +16,14 @@ use Rattle.words.specs.declared.command.Options.{Options}
 use Rattle.words.specs.Plain.{HasWords}
 use Rattle.words.specs.Reading.{plain}
 use Rattle.words.proofs.Exact.{reads_plain_words}
+use Rattle.deliveries.specs.Limits.{most_schema, most_source, most_bundle}
 use Rattle.deliveries.specs.declared.plan.Plan.{Plan}
 use Rattle.deliveries.specs.Deliver.{Change}
 use Rattle.plans.specs.Opening.{IsSchemaOf, IsProgramOf, HasNoProgram}
 use Rattle.deliveries.specs.Plan.{Given}
 use Rattle.deliveries.specs.Steps.{IsRead, IsNotRead}
 use Rattle.qbs.specs.Check.{AreAccepted, accepted_line, tells, check_of, check}
-use Rattle.qbs.specs.Commands.{without_store, command, IsDue}
+use Rattle.qbs.specs.Commands.{is_built, command, IsDue}
 use Rattle.qbs.specs.Evidence.{IsProved, IsProof, HasProof, IsAccepted, IsRefused, IsChecked, IsCheck, HasCheck}
 use Rattle.qbs.specs.Headline.{DropsNone}
 use Rattle.qbs.specs.Pruners.{May}
@@ -30,7 +31,7 @@ use Rattle.qbs.specs.Prove.{prove_of, prove}
 use Rattle.qbs.specs.Rewrite.{size_of, budget_of}
 use Rattle.qbs.specs.Top.{IsDone}
 use Rattle.qbs.proofs.Checked.{all_same}
-use Rattle.qbs.proofs.Promised.{command_is, none_dropped, rewrite_drops_none, unread, no_program}
+use Rattle.qbs.proofs.Promised.{command_is, none_dropped, rewrite_drops_none, unread, no_program, where_ends}
 
 -- the plan of words that name a command, where its status is neither want of memory nor of words
 due_for : (files : Given) (may : May) (words : List (List ℕ)) (named : Command) (plan : Plan) → HasWords words named → IsDue files may words plan → (plan.status ≡ statuses.NoMemory → ⊥) → command files may named plan
@@ -52,18 +53,18 @@ written : (files : Given) (may : May) (words : List (List ℕ)) (out rep : Chang
 written files may words out rep result done other =
     elim done.delivered [
       | inl all ↦ record { plan = done.plan; due = done.due; status = sym all.0; wrote_text = all.1; wrote_lines = all.2 }
-      | inr rest ↦ elim rest [ inl short ↦ absurd (other short.0) | inr short ↦ absurd (other short.0) ]
+      | inr short ↦ absurd (other short.0)
     ]
 
 -- ---- `prove`
 
 -- the bytes that `prove` read, and what it wrote
 record Evidence (files : Given) (may : May) (o : Options) (schema source : List ℕ) (plan : Plan) : Type 0 where
-  tables : List ℕ
-  class : List ℕ
-  read_tables : IsRead files schema 262144 tables
-  read_class : IsRead files source 1048576 class
-  is : IsProved may (size_of o) (budget_of o) tables class plan.out plan.rep
+  schema_read : List ℕ
+  source_read : List ℕ
+  read_schema : IsRead files schema most_schema schema_read
+  read_source : IsRead files source most_source source_read
+  is : IsProved may (size_of o) (budget_of o) schema_read source_read plan.out plan.rep
 
 proved_of : (may : May) (o : Options) (s t : List ℕ) (plan : Plan) → prove_of may o s t plan → plan.status ≡ statuses.Ok → IsProved may (size_of o) (budget_of o) s t plan.out plan.rep
 proved_of may o s t plan (inl h) ok = let e : statuses.Schema ≡ statuses.Ok = subst (λ (p : Plan). p.status ≡ statuses.Ok) h.2 ok in absurd cc
@@ -84,29 +85,26 @@ proved_of may o s t plan (inr (tables, is, inr (p, read, h))) ok =
     })
 
 evidence : (files : Given) (may : May) (o : Options) (schema source : List ℕ) (plan : Plan) → prove files may o schema source plan → plan.status ≡ statuses.Ok → Evidence files may o schema source plan
-evidence files may o schema source plan (inl h) ok = absurd (unread files schema 262144 (codes "schema") plan h ok)
-evidence files may o schema source plan (inr (s, read, inl h)) ok = absurd (unread files source 1048576 (codes "source") plan h ok)
+evidence files may o schema source plan (inl h) ok = absurd (unread files schema most_schema (codes "schema") plan h ok)
+evidence files may o schema source plan (inr (s, read, inl h)) ok = absurd (unread files source most_source (codes "source") plan h ok)
 evidence files may o schema source plan (inr (s, read, inr (t, has, h))) ok =
-    record { tables = s; class = t; read_tables = read; read_class = has; is = proved_of may o s t plan h ok }
-
-unstored : (files : Given) (may : May) (o : Options) (schema source : List ℕ) (plan : Plan) (store : Option (List ℕ)) → without_store store (prove files may o schema source) plan → plan.status ≡ statuses.Ok →
-    Evidence files may o schema source plan
-unstored files may o schema source plan None h ok = evidence files may o schema source plan h ok
-unstored files may o schema source plan (Some name) h ok = let e : statuses.NotYet ≡ statuses.Ok = subst (λ (p : Plan). p.status ≡ statuses.Ok) h ok in absurd cc
+    record { schema_read = s; source_read = t; read_schema = read; read_source = has; is = proved_of may o s t plan h ok }
 
 pub proved : (files : Given) (may : May) (words : List (List ℕ)) (out rep : Change) (result : Status) → IsDone files may words out rep result → HasProof files may words out rep result
 proved files may words out rep result done o schema source has ok =
     let w = written files may words out rep result done (λ e. let no : statuses.WriteFault ≡ statuses.Ok = sym e ∙ ok in cc) in
     let well : w.plan.status ≡ statuses.Ok = w.status ∙ ok in
     let due = due_for files may words (commands.Prove o schema source) w.plan has w.due (λ e. let no : statuses.NoMemory ≡ statuses.Ok = sym e ∙ well in cc) in
-    let h : Evidence files may o schema source w.plan = unstored files may o schema source w.plan o.store due well in
+    let h : Evidence files may o schema source w.plan =
+    evidence files may o schema source w.plan
+    (where_ends (is_built (commands.Prove o schema source)) (prove files may o schema source) w.plan due (λ e. let no : statuses.NotYet ≡ statuses.Ok = sym e ∙ well in cc)) well in
     record {
-      tables = h.tables;
-      class = h.class;
+      schema_read = h.schema_read;
+      source_read = h.source_read;
       text = w.plan.out;
       lines = w.plan.rep;
-      read_tables = h.read_tables;
-      read_class = h.read_class;
+      read_schema = h.read_schema;
+      read_source = h.read_source;
       is = h.is;
       wrote_text = w.wrote_text;
       wrote_lines = w.wrote_lines;
@@ -142,24 +140,24 @@ no_source tables bytes plan (inr (inr h)) is = of_no_other plan.status statuses.
 
 -- the bytes that `check` read, what they have, and what is told of them
 record Read (files : Given) (schema source bundle : List ℕ) (plan : Plan) : Type 0 where
-  tables : List ℕ
-  class : List ℕ
-  evidence : List ℕ
-  read_tables : IsRead files schema 262144 tables
-  read_class : IsRead files source 1048576 class
-  read_evidence : IsRead files bundle 16777216 evidence
+  schema_read : List ℕ
+  source_read : List ℕ
+  bundle_read : List ℕ
+  read_schema : IsRead files schema most_schema schema_read
+  read_source : IsRead files source most_source source_read
+  read_bundle : IsRead files bundle most_bundle bundle_read
   known : Schema
   program : PlainProgram
   entries : List Entry
-  is_schema : IsSchemaOf tables known
-  is_program : IsProgramOf known class program
-  is_bundle : HasBundle evidence entries
+  is_schema : IsSchemaOf schema_read known
+  is_program : IsProgramOf known source_read program
+  is_bundle : HasBundle bundle_read entries
   told : tells known entries program (checked_from known 0 entries program) plan
 
 read_all : (files : Given) (schema source bundle : List ℕ) (plan : Plan) → check files schema source bundle plan → OfEntries plan.status → Read files schema source bundle plan
-read_all files schema source bundle plan (inl h) is = absurd (no_file files schema 262144 (codes "schema") plan h is)
-read_all files schema source bundle plan (inr (s, read, inl h)) is = absurd (no_file files source 1048576 (codes "source") plan h is)
-read_all files schema source bundle plan (inr (s, read, inr (t, has, inl h))) is = absurd (no_file files bundle 16777216 (codes "bundle") plan h is)
+read_all files schema source bundle plan (inl h) is = absurd (no_file files schema most_schema (codes "schema") plan h is)
+read_all files schema source bundle plan (inr (s, read, inl h)) is = absurd (no_file files source most_source (codes "source") plan h is)
+read_all files schema source bundle plan (inr (s, read, inr (t, has, inl h))) is = absurd (no_file files bundle most_bundle (codes "bundle") plan h is)
 read_all files schema source bundle plan (inr (s, read, inr (t, has, inr (b, there, inl h)))) is =
     absurd (of_no_other plan.status statuses.Schema (ap (λ (p : Plan). p.status) h.2) (λ x. x) is)
 read_all files schema source bundle plan (inr (s, read, inr (t, has, inr (b, there, inr (tables, known, inl h))))) is = absurd (no_source tables t plan h is)
@@ -167,12 +165,12 @@ read_all files schema source bundle plan (inr (s, read, inr (t, has, inr (b, the
     absurd (of_no_other plan.status statuses.Bundle (ap (λ (x : Plan). x.status) h.2) (λ x. x) is)
 read_all files schema source bundle plan (inr (s, read, inr (t, has, inr (b, there, inr (tables, known, inr (p, program, inr (entries, found, h))))))) is =
     record {
-      tables = s;
-      class = t;
-      evidence = b;
-      read_tables = read;
-      read_class = has;
-      read_evidence = there;
+      schema_read = s;
+      source_read = t;
+      bundle_read = b;
+      read_schema = read;
+      read_source = has;
+      read_bundle = there;
       known = tables;
       program = p;
       entries = entries;
@@ -193,22 +191,25 @@ told_not : (tables : Schema) (entries : List Entry) (p : PlainProgram) (c : Chec
 told_not tables entries p (All n q) plan e h ok = let no : statuses.Ok ≡ statuses.Refused = sym (ap (λ (x : Plan). x.status) h.1) ∙ ok in absurd cc
 told_not tables entries p (Refused ordinal) plan e h ok = (record { ordinal = ordinal; refused = e; is = ap (λ (x : Plan). x.out) h }, ap (λ (x : Plan). x.rep) h)
 
-module _ (files : Given) (may : May) (words : List (List ℕ)) (out rep : Change) (result : Status) (done : IsDone files may words out rep result) (schema source bundle : List ℕ) (has : HasWords words (commands.Check schema source bundle)) where
+module _ (files : Given) (may : May) (words : List (List ℕ)) (out rep : Change) (result : Status) (done : IsDone files may words out rep result) (o : Options) (schema source bundle : List ℕ) (has : HasWords words (commands.Check o schema source bundle)) where
   entries_read : (w : IsWritten files may words out rep result) → OfEntries result → Read files schema source bundle w.plan
   entries_read w such =
       let is : OfEntries w.plan.status = subst OfEntries (sym w.status) such in
-      read_all files schema source bundle w.plan (due_for files may words (commands.Check schema source bundle) w.plan has w.due (λ e. of_no_other w.plan.status statuses.NoMemory e (λ x. x) is)) is
+      read_all files schema source bundle w.plan
+      (where_ends (is_built (commands.Check o schema source bundle)) (check files schema source bundle) w.plan
+      (due_for files may words (commands.Check o schema source bundle) w.plan has w.due (λ e. of_no_other w.plan.status statuses.NoMemory e (λ x. x) is))
+      (λ e. of_no_other w.plan.status statuses.NotYet e (λ x. x) is)) is
 
   said : (Says : Schema → List Entry → PlainProgram → List ℕ → Type 0) (w : IsWritten files may words out rep result) (h : Read files schema source bundle w.plan) → Says h.known h.entries h.program w.plan.out × (w.plan.rep ≡ []) → IsCheck files Says schema source bundle out rep
   said Says w h s =
       record {
-        tables = h.tables;
-        class = h.class;
-        evidence = h.evidence;
+        schema_read = h.schema_read;
+        source_read = h.source_read;
+        bundle_read = h.bundle_read;
         text = w.plan.out;
-        read_tables = h.read_tables;
-        read_class = h.read_class;
-        read_evidence = h.read_evidence;
+        read_schema = h.read_schema;
+        read_source = h.read_source;
+        read_bundle = h.read_bundle;
         is = record { tables = h.known; program = h.program; entries = h.entries; is_schema = h.is_schema; is_program = h.is_program; is_bundle = h.is_bundle; says = s.0 };
         wrote_text = w.wrote_text;
         wrote_lines = subst (λ (text : List ℕ). Appends rep.old rep.new text) s.1 w.wrote_lines;
@@ -227,5 +228,5 @@ module _ (files : Given) (may : May) (words : List (List ℕ)) (out rep : Change
       said IsRefused w h (told_not h.known h.entries h.program (checked_from h.known 0 h.entries h.program) w.plan refl h.told (w.status ∙ ok))
 
 pub checked : (files : Given) (may : May) (words : List (List ℕ)) (out rep : Change) (result : Status) → IsDone files may words out rep result → HasCheck files words out rep result
-checked files may words out rep result done schema source bundle has =
-    record { well = well files may words out rep result done schema source bundle has; refuses = refuses files may words out rep result done schema source bundle has }
+checked files may words out rep result done o schema source bundle has =
+    record { well = well files may words out rep result done o schema source bundle has; refuses = refuses files may words out rep result done o schema source bundle has }

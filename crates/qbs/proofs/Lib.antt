@@ -11,6 +11,7 @@ pub mod OneFound
 pub mod OnePlan
 pub mod OneRead
 pub mod OneStep
+pub mod Ordered
 pub mod Planned
 pub mod Promised
 pub mod Proved

@@ -22,15 +22,16 @@ use Rattle.words.specs.declared.command.Options.{Options}
 use Rattle.words.specs.Plain.{HasWords}
 use Rattle.words.specs.Reading.{plain}
 use Rattle.words.proofs.Exact.{reads_plain_words}
+use Rattle.deliveries.specs.Limits.{most_schema, most_source, most_bundle, most_tables}
 use Rattle.deliveries.specs.declared.plan.Plan.{Plan}
 use Rattle.plans.specs.Calls.{Call, Calls, CallsNothing, word_refusal}
 use Rattle.plans.specs.Opening.{BreaksBundle, bundle_refusal, has_bundle, IsSchemaOf, BreaksSchema, schema_refusal, IsProgramOf, HasNoProgram, has_schema, has_program}
 use Rattle.deliveries.specs.Plan.{Given, not_yet}
 use Rattle.plans.specs.Results.{names_of}
 use Rattle.deliveries.specs.Steps.{Ends, refused, IsRead, IsNotRead, reads}
-use Rattle.plans.specs.Tables.{most_bytes, AreRead, AreNotRead, reads_tables, IsFileOf, IsTableFile, HasRows, LacksRows, data_refusal, has_rows}
+use Rattle.plans.specs.Tables.{AreRead, AreNotRead, reads_tables, IsFileOf, IsTableFile, HasRows, LacksRows, data_refusal, has_rows}
 use Rattle.qbs.specs.Check.{tells, checks, check_of, check}
-use Rattle.qbs.specs.Commands.{without_store, command, AreRefused}
+use Rattle.qbs.specs.Commands.{is_built, built, where_built, command, AreRefused}
 use Rattle.verdicts.specs.Reports.{verdict_line}
 use Rattle.qbs.specs.Make.{loops_text, method_text, summary, IsResult, IsNotDone, outcome_over, runs, make}
 use Rattle.qbs.specs.Pruners.{May}
@@ -63,10 +64,10 @@ rewrite_of_one may o s t =
     (λ tables is. step_one (IsProgramOf tables t) (HasNoProgram tables t) (λ p. Rewrites may tables (size_of o) (budget_of o) t p) (program_one tables t)
     (λ p read. record { alike = rewrites_alike may tables (size_of o) (budget_of o) t p }))
 
-rewrite_one : (files : Given) (may : May) (o : Options) (schema source : List ℕ) → IsSome (files.told schema) → IsSome (files.told source) → (files.rose → ⊥) → HasOne (rewrite files may o schema source)
+rewrite_one : (files : Given) (may : May) (o : Options) (schema source : List ℕ) → IsSome (files.told schema) → IsSome (files.told source) → ((name : List ℕ) → files.failed name → ⊥) → HasOne (rewrite files may o schema source)
 rewrite_one files may o schema source has_schema has_source calm =
-    step_one (IsRead files schema 262144) (IsNotRead files schema 262144 (codes "schema")) (λ s. reads files source 1048576 (codes "source") (λ t. rewrite_of may o s t)) (read_one files schema 262144 (codes "schema") has_schema calm)
-    (λ s is. step_one (IsRead files source 1048576) (IsNotRead files source 1048576 (codes "source")) (λ t. rewrite_of may o s t) (read_one files source 1048576 (codes "source") has_source calm)
+    step_one (IsRead files schema most_schema) (IsNotRead files schema most_schema (codes "schema")) (λ s. reads files source most_source (codes "source") (λ t. rewrite_of may o s t)) (read_one files schema most_schema (codes "schema") has_schema calm)
+    (λ s is. step_one (IsRead files source most_source) (IsNotRead files source most_source (codes "source")) (λ t. rewrite_of may o s t) (read_one files source most_source (codes "source") has_source calm)
     (λ t has. rewrite_of_one may o s t))
 
 -- ---- `prove`
@@ -89,10 +90,10 @@ prove_of_one may o s t =
     (λ tables is. step_one (IsProgramOf tables t) (HasNoProgram tables t) (λ p. Proves may tables (size_of o) (budget_of o) p) (program_one tables t)
     (λ p read. record { alike = proves_alike may tables (size_of o) (budget_of o) p }))
 
-prove_one : (files : Given) (may : May) (o : Options) (schema source : List ℕ) → IsSome (files.told schema) → IsSome (files.told source) → (files.rose → ⊥) → HasOne (prove files may o schema source)
+prove_one : (files : Given) (may : May) (o : Options) (schema source : List ℕ) → IsSome (files.told schema) → IsSome (files.told source) → ((name : List ℕ) → files.failed name → ⊥) → HasOne (prove files may o schema source)
 prove_one files may o schema source has_schema has_source calm =
-    step_one (IsRead files schema 262144) (IsNotRead files schema 262144 (codes "schema")) (λ s. reads files source 1048576 (codes "source") (λ t. prove_of may o s t)) (read_one files schema 262144 (codes "schema") has_schema calm)
-    (λ s is. step_one (IsRead files source 1048576) (IsNotRead files source 1048576 (codes "source")) (λ t. prove_of may o s t) (read_one files source 1048576 (codes "source") has_source calm)
+    step_one (IsRead files schema most_schema) (IsNotRead files schema most_schema (codes "schema")) (λ s. reads files source most_source (codes "source") (λ t. prove_of may o s t)) (read_one files schema most_schema (codes "schema") has_schema calm)
+    (λ s is. step_one (IsRead files source most_source) (IsNotRead files source most_source (codes "source")) (λ t. prove_of may o s t) (read_one files source most_source (codes "source") has_source calm)
     (λ t has. prove_of_one may o s t))
 
 -- ---- `check`
@@ -108,13 +109,13 @@ check_of_one s t b =
     (λ p read. step_one (HasBundle b) (refused (BreaksBundle b) bundle_refusal) (λ entries. checks tables p entries) (bundle_one b)
     (λ entries has. record { alike = tells_one tables entries p (checked_from tables 0 entries p) })))
 
-check_one : (files : Given) (schema source bundle : List ℕ) → IsSome (files.told schema) → IsSome (files.told source) → IsSome (files.told bundle) → (files.rose → ⊥) → HasOne (check files schema source bundle)
+check_one : (files : Given) (schema source bundle : List ℕ) → IsSome (files.told schema) → IsSome (files.told source) → IsSome (files.told bundle) → ((name : List ℕ) → files.failed name → ⊥) → HasOne (check files schema source bundle)
 check_one files schema source bundle has_schema has_source has_evidence calm =
-    step_one (IsRead files schema 262144) (IsNotRead files schema 262144 (codes "schema"))
-    (λ s. reads files source 1048576 (codes "source") (λ t. reads files bundle 16777216 (codes "bundle") (λ b. check_of s t b))) (read_one files schema 262144 (codes "schema") has_schema calm)
-    (λ s is. step_one (IsRead files source 1048576) (IsNotRead files source 1048576 (codes "source"))
-    (λ t. reads files bundle 16777216 (codes "bundle") (λ b. check_of s t b)) (read_one files source 1048576 (codes "source") has_source calm)
-    (λ t has. step_one (IsRead files bundle 16777216) (IsNotRead files bundle 16777216 (codes "bundle")) (λ b. check_of s t b) (read_one files bundle 16777216 (codes "bundle") has_evidence calm)
+    step_one (IsRead files schema most_schema) (IsNotRead files schema most_schema (codes "schema"))
+    (λ s. reads files source most_source (codes "source") (λ t. reads files bundle most_bundle (codes "bundle") (λ b. check_of s t b))) (read_one files schema most_schema (codes "schema") has_schema calm)
+    (λ s is. step_one (IsRead files source most_source) (IsNotRead files source most_source (codes "source"))
+    (λ t. reads files bundle most_bundle (codes "bundle") (λ b. check_of s t b)) (read_one files source most_source (codes "source") has_source calm)
+    (λ t has. step_one (IsRead files bundle most_bundle) (IsNotRead files bundle most_bundle (codes "bundle")) (λ b. check_of s t b) (read_one files bundle most_bundle (codes "bundle") has_evidence calm)
     (λ b there. check_of_one s t b)))
 
 -- ---- `run`
@@ -141,21 +142,21 @@ run_of_one o tables call source texts =
     (λ p is. step_one (IsChosen o.rewritten tables (size_of o) (budget_of o) p) (λ plan. ⊥) (λ q. call_of tables texts call (turns_of o) q) (chosen_one o.rewritten tables (size_of o) (budget_of o) p)
     (λ q has. call_of_one tables texts call (turns_of o) q))
 
-pub table_files : (files : Given) (schema folder bytes : List ℕ) (tables : Schema) → IsRead files schema 262144 bytes → IsSchemaOf bytes tables →
+pub table_files : (files : Given) (schema folder bytes : List ℕ) (tables : Schema) → IsRead files schema most_schema bytes → IsSchemaOf bytes tables →
     ((name : List ℕ) → IsTableFile files.told schema folder name → IsSome (files.told name)) → (name : List ℕ) → IsFileOf folder tables name → IsSome (files.told name)
 table_files files schema folder bytes tables read is told name file = told name (record { bytes = bytes; tables = tables; read = read.1; is_schema = is; file = file })
 
 run_one : (files : Given) (o : Options) (schema source folder : List ℕ) (call : Call) → IsSome (files.told schema) → IsSome (files.told source) →
-    ((name : List ℕ) → IsTableFile files.told schema folder name → IsSome (files.told name)) → (files.rose → ⊥) → HasOne (run files o schema source folder call)
+    ((name : List ℕ) → IsTableFile files.told schema folder name → IsSome (files.told name)) → ((name : List ℕ) → files.failed name → ⊥) → HasOne (run files o schema source folder call)
 run_one files o schema source folder call has_schema_file has_source told calm =
-    step_one (IsRead files schema 262144) (IsNotRead files schema 262144 (codes "schema"))
-    (λ s. reads files source 1048576 (codes "source") (λ t. has_schema s (λ tables. reads_tables files folder tables (λ texts. run_of o tables call t texts)))) (read_one files schema 262144 (codes "schema") has_schema_file calm)
-    (λ s read. step_one (IsRead files source 1048576) (IsNotRead files source 1048576 (codes "source"))
-    (λ t. has_schema s (λ tables. reads_tables files folder tables (λ texts. run_of o tables call t texts))) (read_one files source 1048576 (codes "source") has_source calm)
+    step_one (IsRead files schema most_schema) (IsNotRead files schema most_schema (codes "schema"))
+    (λ s. reads files source most_source (codes "source") (λ t. has_schema s (λ tables. reads_tables files folder tables (λ texts. run_of o tables call t texts)))) (read_one files schema most_schema (codes "schema") has_schema_file calm)
+    (λ s read. step_one (IsRead files source most_source) (IsNotRead files source most_source (codes "source"))
+    (λ t. has_schema s (λ tables. reads_tables files folder tables (λ texts. run_of o tables call t texts))) (read_one files source most_source (codes "source") has_source calm)
     (λ t read_source. step_one (IsSchemaOf s) (refused (BreaksSchema s) schema_refusal)
     (λ tables. reads_tables files folder tables (λ texts. run_of o tables call t texts)) (schema_one s)
-    (λ tables is. step_one (AreRead files folder tables most_bytes) (AreNotRead files folder tables most_bytes)
-    (λ texts. run_of o tables call t texts) (tables_one files folder tables most_bytes (table_files files schema folder s tables read is told) calm)
+    (λ tables is. step_one (AreRead files folder tables most_tables) (AreNotRead files folder tables most_tables)
+    (λ texts. run_of o tables call t texts) (tables_one files folder tables most_tables (table_files files schema folder s tables read is told) calm)
     (λ texts are. run_of_one o tables call t texts))))
 
 -- ---- `make`
@@ -188,41 +189,44 @@ sql_of_one tables query texts =
     (λ db has. ends_one (answer_plan tables (query_answer db [] q))))
 
 sql_one : (files : Given) (schema folder query : List ℕ) → IsSome (files.told schema) →
-    ((name : List ℕ) → IsTableFile files.told schema folder name → IsSome (files.told name)) → (files.rose → ⊥) → HasOne (sql files schema folder query)
+    ((name : List ℕ) → IsTableFile files.told schema folder name → IsSome (files.told name)) → ((name : List ℕ) → files.failed name → ⊥) → HasOne (sql files schema folder query)
 sql_one files schema folder query has_schema_file told calm =
-    step_one (IsRead files schema 262144) (IsNotRead files schema 262144 (codes "schema"))
-    (λ s. has_schema s (λ tables. reads_tables files folder tables (λ texts. sql_of tables query texts))) (read_one files schema 262144 (codes "schema") has_schema_file calm)
+    step_one (IsRead files schema most_schema) (IsNotRead files schema most_schema (codes "schema"))
+    (λ s. has_schema s (λ tables. reads_tables files folder tables (λ texts. sql_of tables query texts))) (read_one files schema most_schema (codes "schema") has_schema_file calm)
     (λ s read. step_one (IsSchemaOf s) (refused (BreaksSchema s) schema_refusal)
     (λ tables. reads_tables files folder tables (λ texts. sql_of tables query texts)) (schema_one s)
-    (λ tables is. step_one (AreRead files folder tables most_bytes) (AreNotRead files folder tables most_bytes)
-    (λ texts. sql_of tables query texts) (tables_one files folder tables most_bytes (table_files files schema folder s tables read is told) calm)
+    (λ tables is. step_one (AreRead files folder tables most_tables) (AreNotRead files folder tables most_tables)
+    (λ texts. sql_of tables query texts) (tables_one files folder tables most_tables (table_files files schema folder s tables read is told) calm)
     (λ texts are. sql_of_one tables query texts)))
 
 -- ---- the whole
 
-stored_one : (store : Option (List ℕ)) (next : Ends) → HasOne next → HasOne (without_store store next)
-stored_one None next h = record { alike = h.alike }
-stored_one (Some name) next h = record { alike = λ p q a b. inl (a ∙ sym b) }
+built_one : (is : Bool) (next : Ends) → HasOne next → HasOne (where_built is next)
+built_one true next h = record { alike = h.alike }
+built_one false next h = record { alike = λ p q a b. inl (a ∙ sym b) }
 
-unbuilt_one : (p q : Plan) → p ≡ not_yet → q ≡ not_yet → Alike p q
-unbuilt_one p q a b = inl (a ∙ sym b)
+unbuilt_one : HasOne (ends not_yet)
+unbuilt_one = record { alike = λ p q a b. inl (a ∙ sym b) }
 
-command_one : (files : Given) (may : May) (c : Command) → ((name : List ℕ) → MayRead files.told c name → IsSome (files.told name)) → (files.rose → ⊥) → (p q : Plan) → command files may c p → command files may c q → Alike p q
-command_one files may (commands.Rewrite o schema source) told calm p q =
-    (stored_one o.store (rewrite files may o schema source) (rewrite_one files may o schema source (told schema (inl refl)) (told source (inr refl)) calm)).alike p q
-command_one files may (commands.Run o schema source folder method words) told calm p q =
-    (stored_one o.store (run files o schema source folder (record { method = method; words = words }))
-    (run_one files o schema source folder (record { method = method; words = words }) (told schema (inl refl)) (told source (inr (inl refl))) (λ name file. told name (inr (inr file))) calm)).alike p q
-command_one files may (commands.Sql schema folder query) told calm p q =
-    (sql_one files schema folder query (told schema (inl refl)) (λ name file. told name (inr file)) calm).alike p q
-command_one files may (commands.Prove o schema source) told calm p q =
-    (stored_one o.store (prove files may o schema source) (prove_one files may o schema source (told schema (inl refl)) (told source (inr refl)) calm)).alike p q
-command_one files may (commands.Check schema source bundle) told calm p q =
-    (check_one files schema source bundle (told schema (inl refl)) (told source (inr (inl refl))) (told bundle (inr (inr refl))) calm).alike p q
-command_one files may (commands.Make n) told calm p q = (make_one n).alike p q
-command_one files may (commands.Unnest o s t) told calm p q = unbuilt_one p q
-command_one files may (commands.Inline s t) told calm p q = unbuilt_one p q
-command_one files may (commands.Gather o s t) told calm p q = unbuilt_one p q
+command_one : (files : Given) (may : May) (c : Command) → ((name : List ℕ) → MayRead files.told c name → IsSome (files.told name)) → ((name : List ℕ) → files.failed name → ⊥) → HasOne (built files may c)
+command_one files may (commands.Rewrite o schema source) told calm = record { alike = (rewrite_one files may o schema source (told schema (inl refl)) (told source (inr refl)) calm).alike }
+command_one files may (commands.Run o schema source folder method words) told calm =
+    record {
+      alike = (run_one files o schema source folder (record { method = method; words = words }) (told schema (inl refl)) (told source (inr (inl refl))) (λ name file. told name (inr (inr file))) calm).alike;
+    }
+command_one files may (commands.Sql schema folder query) told calm = record { alike = (sql_one files schema folder query (told schema (inl refl)) (λ name file. told name (inr file)) calm).alike }
+command_one files may (commands.Prove o schema source) told calm = record { alike = (prove_one files may o schema source (told schema (inl refl)) (told source (inr refl)) calm).alike }
+command_one files may (commands.Check o schema source bundle) told calm =
+    record { alike = (check_one files schema source bundle (told schema (inl refl)) (told source (inr (inl refl))) (told bundle (inr (inr refl))) calm).alike }
+command_one files may (commands.Make n) told calm = record { alike = (make_one n).alike }
+command_one files may (commands.Unnest o s t) told calm = record { alike = unbuilt_one.alike }
+command_one files may (commands.Narrow o s t) told calm = record { alike = unbuilt_one.alike }
+command_one files may (commands.Inline s t) told calm = record { alike = unbuilt_one.alike }
+command_one files may (commands.Gather o s t) told calm = record { alike = unbuilt_one.alike }
+command_one files may (commands.Schema o d) told calm = record { alike = unbuilt_one.alike }
+command_one files may (commands.View m s t) told calm = record { alike = unbuilt_one.alike }
+command_one files may (commands.Map es) told calm = record { alike = unbuilt_one.alike }
+command_one files may (commands.CheckMap m s) told calm = record { alike = unbuilt_one.alike }
 
 command_same : (o : Option Command) (b c : Command) → o ≡ Some b → o ≡ Some c → b ≡ c
 command_same o b c x y = cc
@@ -237,4 +241,4 @@ words_one words = record {
 pub one_plan : (files : Given) (may : May) (words : List (List ℕ)) → HasOnePlan files may words
 one_plan files may words told p q a b =
     (step_one (HasWords words) (AreRefused words) (command files may) (words_one words)
-    (λ c has. record { alike = command_one files may c (λ name reads. told.told c name has reads) told.calm })).alike p q a b
+    (λ c has. record { alike = (built_one (is_built c) (built files may c) (command_one files may c (λ name reads. told.told c name has reads) told.calm)).alike })).alike p q a b

@@ -16,16 +16,16 @@ told_apart : (told : Option (List ℕ)) (b : List ℕ) (limit : ℕ) → IsSome 
 told_apart (Some all) b limit some within is long = let h : limit < length b = subst (λ (bytes : List ℕ). limit < length bytes) (sym is) long in omega arith
 told_apart None b limit some within is long = cc
 
-not_read_same : (files : Given) (name : List ℕ) (limit : ℕ) (label : List ℕ) (p q : Plan) → (files.rose → ⊥) → IsNotRead files name limit label p → IsNotRead files name limit label q → p ≡ q
-not_read_same files name limit label p q calm (inl a) y = absurd (calm a.0)
-not_read_same files name limit label p q calm (inr a) (inl b) = absurd (calm b.0)
+not_read_same : (files : Given) (name : List ℕ) (limit : ℕ) (label : List ℕ) (p q : Plan) → ((name : List ℕ) → files.failed name → ⊥) → IsNotRead files name limit label p → IsNotRead files name limit label q → p ≡ q
+not_read_same files name limit label p q calm (inl a) y = absurd (calm name a.0)
+not_read_same files name limit label p q calm (inr a) (inl b) = absurd (calm name b.0)
 not_read_same files name limit label p q calm (inr a) (inr b) = a.1 ∙ sym b.1
 
-read_apart : (files : Given) (name : List ℕ) (limit : ℕ) (label : List ℕ) (b : List ℕ) (p : Plan) → IsSome (files.told name) → (files.rose → ⊥) → IsRead files name limit b → IsNotRead files name limit label p → ⊥
-read_apart files name limit label b p told calm read (inl rose) = calm rose.0
+read_apart : (files : Given) (name : List ℕ) (limit : ℕ) (label : List ℕ) (b : List ℕ) (p : Plan) → IsSome (files.told name) → ((name : List ℕ) → files.failed name → ⊥) → IsRead files name limit b → IsNotRead files name limit label p → ⊥
+read_apart files name limit label b p told calm read (inl rose) = calm name rose.0
 read_apart files name limit label b p told calm read (inr long) = told_apart (files.told name) b limit told read.0 read.1 long.0
 
-pub read_one : (files : Given) (name : List ℕ) (limit : ℕ) (label : List ℕ) → IsSome (files.told name) → (files.rose → ⊥) → IsOne {B = List ℕ} (IsRead files name limit) (IsNotRead files name limit label)
+pub read_one : (files : Given) (name : List ℕ) (limit : ℕ) (label : List ℕ) → IsSome (files.told name) → ((name : List ℕ) → files.failed name → ⊥) → IsOne {B = List ℕ} (IsRead files name limit) (IsNotRead files name limit label)
 read_one files name limit label told calm = record {
   same = λ b c x y. told_same (files.told name) b c told x.1 y.1;
   stops = λ p q x y. not_read_same files name limit label p q calm x y;
@@ -49,7 +49,7 @@ texts_same files folder (table ∷ tables) left (t ∷ ts) (u ∷ us) told x y =
     same_front t u ts us here
     (texts_same files folder tables (left - length u) ts us (λ name file. told name (inr file)) (subst (λ (text : List ℕ). AreRead files folder tables (left - length text) ts) here x.1) y.1)
 
-texts_stop : (files : Given) (folder : List ℕ) (tables : List Table) (left : ℕ) (p q : Plan) → ((name : List ℕ) → IsFileOf folder tables name → IsSome (files.told name)) → (files.rose → ⊥) →
+texts_stop : (files : Given) (folder : List ℕ) (tables : List Table) (left : ℕ) (p q : Plan) → ((name : List ℕ) → IsFileOf folder tables name → IsSome (files.told name)) → ((name : List ℕ) → files.failed name → ⊥) →
     AreNotRead files folder tables left p → AreNotRead files folder tables left q → p ≡ q
 texts_stop files folder [] left p q told calm x y = absurd x
 texts_stop files folder (table ∷ tables) left p q told calm (inl x) (inl y) = not_read_same files (table_file folder table.name) left (codes "tables") p q calm x y
@@ -61,7 +61,7 @@ texts_stop files folder (table ∷ tables) left p q told calm (inr x) (inr y) =
     let here : x.0 ≡ y.0 = told_same (files.told (table_file folder table.name)) x.0 y.0 (told (table_file folder table.name) (inl refl)) x.1.1 y.1.1 in
     texts_stop files folder tables (left - length y.0) p q (λ name file. told name (inr file)) calm (subst (λ (text : List ℕ). AreNotRead files folder tables (left - length text) p) here x.2) y.2
 
-texts_apart : (files : Given) (folder : List ℕ) (tables : List Table) (left : ℕ) (b : List (List ℕ)) (p : Plan) → ((name : List ℕ) → IsFileOf folder tables name → IsSome (files.told name)) → (files.rose → ⊥) →
+texts_apart : (files : Given) (folder : List ℕ) (tables : List Table) (left : ℕ) (b : List (List ℕ)) (p : Plan) → ((name : List ℕ) → IsFileOf folder tables name → IsSome (files.told name)) → ((name : List ℕ) → files.failed name → ⊥) →
     AreRead files folder tables left b → AreNotRead files folder tables left p → ⊥
 texts_apart files folder [] left b p told calm x y = y
 texts_apart files folder (table ∷ tables) left [] p told calm x y = x
@@ -71,7 +71,7 @@ texts_apart files folder (table ∷ tables) left (t ∷ ts) p told calm x (inr y
     let here : t ≡ y.0 = told_same (files.told (table_file folder table.name)) t y.0 (told (table_file folder table.name) (inl refl)) x.0.1 y.1.1 in
     texts_apart files folder tables (left - length y.0) ts p (λ name file. told name (inr file)) calm (subst (λ (text : List ℕ). AreRead files folder tables (left - length text) ts) here x.1) y.2
 
-pub tables_one : (files : Given) (folder : List ℕ) (tables : List Table) (left : ℕ) → ((name : List ℕ) → IsFileOf folder tables name → IsSome (files.told name)) → (files.rose → ⊥) →
+pub tables_one : (files : Given) (folder : List ℕ) (tables : List Table) (left : ℕ) → ((name : List ℕ) → IsFileOf folder tables name → IsSome (files.told name)) → ((name : List ℕ) → files.failed name → ⊥) →
     IsOne {B = List (List ℕ)} (AreRead files folder tables left) (AreNotRead files folder tables left)
 tables_one files folder tables left told calm = record {
   same = λ b c x y. texts_same files folder tables left b c told x y;

@@ -3,13 +3,14 @@ use Rattle.std.proofs.Common.{◌≡◌, ℕ, List, [], ◌++◌, Option, Result
 use Rattle.qbs_base.specs.Values.{Schema}
 use Rattle.qbs_base.specs.declared.columns.Table.{Table}
 use Rattle.words.specs.declared.command.Options.{Options}
+use Rattle.deliveries.specs.Limits.{most_schema, most_source, most_tables}
 use Rattle.deliveries.specs.declared.plan.Plan.{Plan}
 use Rattle.deliveries.specs.declared.fetch.Stop.{Stop}
 use Rattle.deliveries.specs.Code.{Goes, OrMemory}
 use Rattle.plans.specs.Opening.{IsSchemaOf, BreaksSchema, schema_refusal}
 use Rattle.deliveries.specs.Plan.{Given}
 use Rattle.deliveries.specs.Steps.{Ends, refused, IsRead, IsNotRead, reads}
-use Rattle.plans.specs.Tables.{most_bytes, AreRead, AreNotRead, Reads, reads_tables, over_tables}
+use Rattle.plans.specs.Tables.{AreRead, AreNotRead, Reads, reads_tables, over_tables}
 use Rattle.plans.proofs.Fetched.{read_there, not_read_there, are_read_there, are_not_read_there}
 use Rattle.qbs.specs.Pruners.{May}
 use Rattle.qbs.specs.Prove.{prove_of, prove}
@@ -19,76 +20,76 @@ use Rattle.qbs.proofs.Going.{goes_on, stops_at}
 -- ---- a schema and a source
 
 abbrev pub both : Given → List ℕ → List ℕ → (List ℕ → List ℕ → Ends) → Ends
-both files schema source next = reads files schema 262144 (codes "schema") (λ s. reads files source 1048576 (codes "source") (λ t. next s t))
+both files schema source next = reads files schema most_schema (codes "schema") (λ s. reads files source most_source (codes "source") (λ t. next s t))
 
 pub first_unread : (files : Given) (schema source : List ℕ) (next : List ℕ → List ℕ → Ends) (stop : Stop) →
-    Goes {A = List ℕ} (Err stop) (IsRead files schema 262144) (IsNotRead files schema 262144 (codes "schema")) → OrMemory (Err stop) (both files schema source next)
+    Goes {A = List ℕ} (Err stop) (IsRead files schema most_schema) (IsNotRead files schema most_schema (codes "schema")) → OrMemory (Err stop) (both files schema source next)
 first_unread files schema source next stop h =
-    stops_at (IsRead files schema 262144) (IsRead files schema 262144) (IsNotRead files schema 262144 (codes "schema")) (λ s. reads files source 1048576 (codes "source") (λ t. next s t)) stop h
+    stops_at (IsRead files schema most_schema) (IsRead files schema most_schema) (IsNotRead files schema most_schema (codes "schema")) (λ s. reads files source most_source (codes "source") (λ t. next s t)) stop h
 
-pub second_unread : (told later : List ℕ → Option (List ℕ)) (rose after : Type 0) (schema source : List ℕ) (next : List ℕ → List ℕ → Ends) (s : List ℕ) (stop : Stop) →
-    later ≡ told → (after → rose) → IsRead (record { told = told; rose = rose }) schema 262144 s →
-    Goes {A = List ℕ} (Err stop) (IsRead (record { told = later; rose = after }) source 1048576) (IsNotRead (record { told = later; rose = after }) source 1048576 (codes "source")) →
-    OrMemory (Err stop) (both (record { told = told; rose = rose }) schema source next)
+pub second_unread : (told later : List ℕ → Option (List ℕ)) (rose after : List ℕ → Type 0) (schema source : List ℕ) (next : List ℕ → List ℕ → Ends) (s : List ℕ) (stop : Stop) →
+    later ≡ told → ((name : List ℕ) → after name → rose name) → IsRead (record { told = told; failed = rose }) schema most_schema s →
+    Goes {A = List ℕ} (Err stop) (IsRead (record { told = later; failed = after }) source most_source) (IsNotRead (record { told = later; failed = after }) source most_source (codes "source")) →
+    OrMemory (Err stop) (both (record { told = told; failed = rose }) schema source next)
 second_unread told later rose after schema source next s (Stop.Due plan) same f read h =
-    inr (s, read, inl (not_read_there told later after rose source 1048576 (codes "source") plan same f h))
+    inr (s, read, inl (not_read_there told later after rose source most_source (codes "source") plan same f h))
 second_unread told later rose after schema source next s Stop.Memory same f read h = tt
 
-pub both_read : (told later : List ℕ → Option (List ℕ)) (rose after : Type 0) (schema source : List ℕ) (next : List ℕ → List ℕ → Ends) (s t : List ℕ) (result : Result Plan Stop) →
-    later ≡ told → IsRead (record { told = told; rose = rose }) schema 262144 s → IsRead (record { told = later; rose = after }) source 1048576 t → OrMemory result (next s t) →
-    OrMemory result (both (record { told = told; rose = rose }) schema source next)
-both_read told later rose after schema source next s t (Ok plan) same read has h = inr (s, read, inr (t, read_there told later after rose source 1048576 t same has, h))
-both_read told later rose after schema source next s t (Err (Stop.Due plan)) same read has h = inr (s, read, inr (t, read_there told later after rose source 1048576 t same has, h))
+pub both_read : (told later : List ℕ → Option (List ℕ)) (rose after : List ℕ → Type 0) (schema source : List ℕ) (next : List ℕ → List ℕ → Ends) (s t : List ℕ) (result : Result Plan Stop) →
+    later ≡ told → IsRead (record { told = told; failed = rose }) schema most_schema s → IsRead (record { told = later; failed = after }) source most_source t → OrMemory result (next s t) →
+    OrMemory result (both (record { told = told; failed = rose }) schema source next)
+both_read told later rose after schema source next s t (Ok plan) same read has h = inr (s, read, inr (t, read_there told later after rose source most_source t same has, h))
+both_read told later rose after schema source next s t (Err (Stop.Due plan)) same read has h = inr (s, read, inr (t, read_there told later after rose source most_source t same has, h))
 both_read told later rose after schema source next s t (Err Stop.Memory) same read has h = tt
 
 -- the same of `rewrite`
 pub rewrite_unread : (files : Given) (may : May) (o : Options) (schema source : List ℕ) (stop : Stop) →
-    Goes {A = List ℕ} (Err stop) (IsRead files schema 262144) (IsNotRead files schema 262144 (codes "schema")) → OrMemory (Err stop) (rewrite files may o schema source)
+    Goes {A = List ℕ} (Err stop) (IsRead files schema most_schema) (IsNotRead files schema most_schema (codes "schema")) → OrMemory (Err stop) (rewrite files may o schema source)
 rewrite_unread files may o schema source stop h = first_unread files schema source (λ s t. rewrite_of may o s t) stop h
 
-pub rewrite_half_read : (told later : List ℕ → Option (List ℕ)) (rose after : Type 0) (may : May) (o : Options) (schema source s : List ℕ) (stop : Stop) →
-    later ≡ told → (after → rose) → IsRead (record { told = told; rose = rose }) schema 262144 s →
-    Goes {A = List ℕ} (Err stop) (IsRead (record { told = later; rose = after }) source 1048576) (IsNotRead (record { told = later; rose = after }) source 1048576 (codes "source")) →
-    OrMemory (Err stop) (rewrite (record { told = told; rose = rose }) may o schema source)
+pub rewrite_half_read : (told later : List ℕ → Option (List ℕ)) (rose after : List ℕ → Type 0) (may : May) (o : Options) (schema source s : List ℕ) (stop : Stop) →
+    later ≡ told → ((name : List ℕ) → after name → rose name) → IsRead (record { told = told; failed = rose }) schema most_schema s →
+    Goes {A = List ℕ} (Err stop) (IsRead (record { told = later; failed = after }) source most_source) (IsNotRead (record { told = later; failed = after }) source most_source (codes "source")) →
+    OrMemory (Err stop) (rewrite (record { told = told; failed = rose }) may o schema source)
 rewrite_half_read told later rose after may o schema source s stop same f read h = second_unread told later rose after schema source (λ s t. rewrite_of may o s t) s stop same f read h
 
-pub rewrite_read : (told later : List ℕ → Option (List ℕ)) (rose after : Type 0) (may : May) (o : Options) (schema source s t lent lent_too : List ℕ) (result : Result Plan Stop) →
-    later ≡ told → IsRead (record { told = told; rose = rose }) schema 262144 s → IsRead (record { told = later; rose = after }) source 1048576 t → lent ≡ s → lent_too ≡ t →
-    OrMemory result (rewrite_of may o lent lent_too) → OrMemory result (rewrite (record { told = told; rose = rose }) may o schema source)
+pub rewrite_read : (told later : List ℕ → Option (List ℕ)) (rose after : List ℕ → Type 0) (may : May) (o : Options) (schema source s t lent lent_too : List ℕ) (result : Result Plan Stop) →
+    later ≡ told → IsRead (record { told = told; failed = rose }) schema most_schema s → IsRead (record { told = later; failed = after }) source most_source t → lent ≡ s → lent_too ≡ t →
+    OrMemory result (rewrite_of may o lent lent_too) → OrMemory result (rewrite (record { told = told; failed = rose }) may o schema source)
 rewrite_read told later rose after may o schema source s t lent lent_too result same read has first second h =
     both_read told later rose after schema source (λ s t. rewrite_of may o s t) s t result same read has
     (subst (λ (x : List ℕ). OrMemory result (rewrite_of may o s x)) second (subst (λ (x : List ℕ). OrMemory result (rewrite_of may o x lent_too)) first h))
 
 -- and of `prove`
 pub prove_unread : (files : Given) (may : May) (o : Options) (schema source : List ℕ) (stop : Stop) →
-    Goes {A = List ℕ} (Err stop) (IsRead files schema 262144) (IsNotRead files schema 262144 (codes "schema")) → OrMemory (Err stop) (prove files may o schema source)
+    Goes {A = List ℕ} (Err stop) (IsRead files schema most_schema) (IsNotRead files schema most_schema (codes "schema")) → OrMemory (Err stop) (prove files may o schema source)
 prove_unread files may o schema source stop h = first_unread files schema source (λ s t. prove_of may o s t) stop h
 
-pub prove_half_read : (told later : List ℕ → Option (List ℕ)) (rose after : Type 0) (may : May) (o : Options) (schema source s : List ℕ) (stop : Stop) →
-    later ≡ told → (after → rose) → IsRead (record { told = told; rose = rose }) schema 262144 s →
-    Goes {A = List ℕ} (Err stop) (IsRead (record { told = later; rose = after }) source 1048576) (IsNotRead (record { told = later; rose = after }) source 1048576 (codes "source")) →
-    OrMemory (Err stop) (prove (record { told = told; rose = rose }) may o schema source)
+pub prove_half_read : (told later : List ℕ → Option (List ℕ)) (rose after : List ℕ → Type 0) (may : May) (o : Options) (schema source s : List ℕ) (stop : Stop) →
+    later ≡ told → ((name : List ℕ) → after name → rose name) → IsRead (record { told = told; failed = rose }) schema most_schema s →
+    Goes {A = List ℕ} (Err stop) (IsRead (record { told = later; failed = after }) source most_source) (IsNotRead (record { told = later; failed = after }) source most_source (codes "source")) →
+    OrMemory (Err stop) (prove (record { told = told; failed = rose }) may o schema source)
 prove_half_read told later rose after may o schema source s stop same f read h = second_unread told later rose after schema source (λ s t. prove_of may o s t) s stop same f read h
 
-pub prove_read : (told later : List ℕ → Option (List ℕ)) (rose after : Type 0) (may : May) (o : Options) (schema source s t lent lent_too : List ℕ) (result : Result Plan Stop) →
-    later ≡ told → IsRead (record { told = told; rose = rose }) schema 262144 s → IsRead (record { told = later; rose = after }) source 1048576 t → lent ≡ s → lent_too ≡ t →
-    OrMemory result (prove_of may o lent lent_too) → OrMemory result (prove (record { told = told; rose = rose }) may o schema source)
+pub prove_read : (told later : List ℕ → Option (List ℕ)) (rose after : List ℕ → Type 0) (may : May) (o : Options) (schema source s t lent lent_too : List ℕ) (result : Result Plan Stop) →
+    later ≡ told → IsRead (record { told = told; failed = rose }) schema most_schema s → IsRead (record { told = later; failed = after }) source most_source t → lent ≡ s → lent_too ≡ t →
+    OrMemory result (prove_of may o lent lent_too) → OrMemory result (prove (record { told = told; failed = rose }) may o schema source)
 prove_read told later rose after may o schema source s t lent lent_too result same read has first second h =
     both_read told later rose after schema source (λ s t. prove_of may o s t) s t result same read has
     (subst (λ (x : List ℕ). OrMemory result (prove_of may o s x)) second (subst (λ (x : List ℕ). OrMemory result (prove_of may o x lent_too)) first h))
 
 -- ---- a file that is read later
 
-pub unread_there : (told later : List ℕ → Option (List ℕ)) (rose after : Type 0) (name : List ℕ) (limit : ℕ) (label : List ℕ) (next : List ℕ → Ends) (stop : Stop) → later ≡ told → (after → rose) →
-    Goes {A = List ℕ} (Err stop) (IsRead (record { told = later; rose = after }) name limit) (IsNotRead (record { told = later; rose = after }) name limit label) →
-    OrMemory (Err stop) (reads (record { told = told; rose = rose }) name limit label next)
+pub unread_there : (told later : List ℕ → Option (List ℕ)) (rose after : List ℕ → Type 0) (name : List ℕ) (limit : ℕ) (label : List ℕ) (next : List ℕ → Ends) (stop : Stop) → later ≡ told → ((name : List ℕ) → after name → rose name) →
+    Goes {A = List ℕ} (Err stop) (IsRead (record { told = later; failed = after }) name limit) (IsNotRead (record { told = later; failed = after }) name limit label) →
+    OrMemory (Err stop) (reads (record { told = told; failed = rose }) name limit label next)
 unread_there told later rose after name limit label next (Stop.Due plan) same f h = inl (not_read_there told later after rose name limit label plan same f h)
 unread_there told later rose after name limit label next Stop.Memory same f h = tt
 
-pub read_on : (told later : List ℕ → Option (List ℕ)) (rose after : Type 0) (name : List ℕ) (limit : ℕ) (label : List ℕ) (next : List ℕ → Ends) (bytes : List ℕ) (result : Result Plan Stop) → later ≡ told →
-    IsRead (record { told = later; rose = after }) name limit bytes → OrMemory result (next bytes) → OrMemory result (reads (record { told = told; rose = rose }) name limit label next)
+pub read_on : (told later : List ℕ → Option (List ℕ)) (rose after : List ℕ → Type 0) (name : List ℕ) (limit : ℕ) (label : List ℕ) (next : List ℕ → Ends) (bytes : List ℕ) (result : Result Plan Stop) → later ≡ told →
+    IsRead (record { told = later; failed = after }) name limit bytes → OrMemory result (next bytes) → OrMemory result (reads (record { told = told; failed = rose }) name limit label next)
 read_on told later rose after name limit label next bytes result same read h =
-    goes_on (IsRead (record { told = told; rose = rose }) name limit) (IsNotRead (record { told = told; rose = rose }) name limit label) next bytes result
+    goes_on (IsRead (record { told = told; failed = rose }) name limit) (IsNotRead (record { told = told; failed = rose }) name limit label) next bytes result
     (read_there told later after rose name limit bytes same read) h
 
 -- ---- a schema, and the files of its tables
@@ -98,42 +99,42 @@ pub no_schema : (files : Given) (folder s : List ℕ) (next : Schema → List (L
 no_schema files folder s next stop h =
     stops_at (IsSchemaOf s) (IsSchemaOf s) (refused (BreaksSchema s) schema_refusal) (λ tables. reads_tables files folder tables (λ texts. next tables texts)) stop h
 
-pub no_texts : (A : Type 0) (told later : List ℕ → Option (List ℕ)) (rose after : Type 0) (folder s : List ℕ) (next : Schema → List (List ℕ) → Ends) (tables : Schema) (lent : List Table) (old new : List (List ℕ)) (stop : Stop) →
-    later ≡ told → (after → rose) → IsSchemaOf s tables → lent ≡ tables → Reads {A = A} (record { told = later; rose = after }) folder lent most_bytes old new (Err stop) →
-    OrMemory (Err stop) (over_tables (record { told = told; rose = rose }) folder s next)
+pub no_texts : (A : Type 0) (told later : List ℕ → Option (List ℕ)) (rose after : List ℕ → Type 0) (folder s : List ℕ) (next : Schema → List (List ℕ) → Ends) (tables : Schema) (lent : List Table) (old new : List (List ℕ)) (stop : Stop) →
+    later ≡ told → ((name : List ℕ) → after name → rose name) → IsSchemaOf s tables → lent ≡ tables → Reads {A = A} (record { told = later; failed = after }) folder lent most_tables old new (Err stop) →
+    OrMemory (Err stop) (over_tables (record { told = told; failed = rose }) folder s next)
 no_texts A told later rose after folder s next tables lent old new (Stop.Due plan) same f is holds h =
-    inr (tables, is, inl (are_not_read_there told later after rose folder tables most_bytes plan same f (subst (λ (ts : List Table). AreNotRead (record { told = later; rose = after }) folder ts most_bytes plan) holds h)))
+    inr (tables, is, inl (are_not_read_there told later after rose folder tables most_tables plan same f (subst (λ (ts : List Table). AreNotRead (record { told = later; failed = after }) folder ts most_tables plan) holds h)))
 no_texts A told later rose after folder s next tables lent old new Stop.Memory same f is holds h = tt
 
-pub has_texts : (A : Type 0) (told later : List ℕ → Option (List ℕ)) (rose after : Type 0) (folder s : List ℕ) (next : Schema → List (List ℕ) → Ends) (tables : Schema) (lent : List Table) (old new : List (List ℕ)) (done : A) (result : Result Plan Stop) →
-    later ≡ told → IsSchemaOf s tables → lent ≡ tables → old ≡ [] → Reads {A = A} (record { told = later; rose = after }) folder lent most_bytes old new (Ok done) → OrMemory result (next tables new) →
-    OrMemory result (over_tables (record { told = told; rose = rose }) folder s next)
+pub has_texts : (A : Type 0) (told later : List ℕ → Option (List ℕ)) (rose after : List ℕ → Type 0) (folder s : List ℕ) (next : Schema → List (List ℕ) → Ends) (tables : Schema) (lent : List Table) (old new : List (List ℕ)) (done : A) (result : Result Plan Stop) →
+    later ≡ told → IsSchemaOf s tables → lent ≡ tables → old ≡ [] → Reads {A = A} (record { told = later; failed = after }) folder lent most_tables old new (Ok done) → OrMemory result (next tables new) →
+    OrMemory result (over_tables (record { told = told; failed = rose }) folder s next)
 has_texts A told later rose after folder s next tables lent old new done result same is holds none read h =
-    goes_on (IsSchemaOf s) (refused (BreaksSchema s) schema_refusal) (λ tables. reads_tables (record { told = told; rose = rose }) folder tables (λ texts. next tables texts)) tables result is
-    (goes_on (AreRead (record { told = told; rose = rose }) folder tables most_bytes) (AreNotRead (record { told = told; rose = rose }) folder tables most_bytes) (λ texts. next tables texts) new result
-    (are_read_there told later after rose folder tables most_bytes new same
-    (subst (λ (ts : List Table). AreRead (record { told = later; rose = after }) folder ts most_bytes new) holds
-    (subst (AreRead (record { told = later; rose = after }) folder lent most_bytes) (sym (read.1 ∙ ap (λ (ts : List (List ℕ)). ts ++ read.0) none)) read.2)))
+    goes_on (IsSchemaOf s) (refused (BreaksSchema s) schema_refusal) (λ tables. reads_tables (record { told = told; failed = rose }) folder tables (λ texts. next tables texts)) tables result is
+    (goes_on (AreRead (record { told = told; failed = rose }) folder tables most_tables) (AreNotRead (record { told = told; failed = rose }) folder tables most_tables) (λ texts. next tables texts) new result
+    (are_read_there told later after rose folder tables most_tables new same
+    (subst (λ (ts : List Table). AreRead (record { told = later; failed = after }) folder ts most_tables new) holds
+    (subst (AreRead (record { told = later; failed = after }) folder lent most_tables) (sym (read.1 ∙ ap (λ (ts : List (List ℕ)). ts ++ read.0) none)) read.2)))
     h)
 
 -- the same of what is told later
-over_later : (told later : List ℕ → Option (List ℕ)) (rose after : Type 0) (folder s : List ℕ) (next : Schema → List (List ℕ) → Ends) (plan : Plan) → later ≡ told → (after → rose) →
-    over_tables (record { told = later; rose = after }) folder s next plan → over_tables (record { told = told; rose = rose }) folder s next plan
+over_later : (told later : List ℕ → Option (List ℕ)) (rose after : List ℕ → Type 0) (folder s : List ℕ) (next : Schema → List (List ℕ) → Ends) (plan : Plan) → later ≡ told → ((name : List ℕ) → after name → rose name) →
+    over_tables (record { told = later; failed = after }) folder s next plan → over_tables (record { told = told; failed = rose }) folder s next plan
 over_later told later rose after folder s next plan same f (inl h) = inl h
-over_later told later rose after folder s next plan same f (inr (tables, is, inl h)) = inr (tables, is, inl (are_not_read_there told later after rose folder tables most_bytes plan same f h))
-over_later told later rose after folder s next plan same f (inr (tables, is, inr (texts, are, h))) = inr (tables, is, inr (texts, are_read_there told later after rose folder tables most_bytes texts same are, h))
+over_later told later rose after folder s next plan same f (inr (tables, is, inl h)) = inr (tables, is, inl (are_not_read_there told later after rose folder tables most_tables plan same f h))
+over_later told later rose after folder s next plan same f (inr (tables, is, inr (texts, are, h))) = inr (tables, is, inr (texts, are_read_there told later after rose folder tables most_tables texts same are, h))
 
-pub over_there : (told later : List ℕ → Option (List ℕ)) (rose after : Type 0) (folder s : List ℕ) (next : Schema → List (List ℕ) → Ends) (result : Result Plan Stop) → later ≡ told → (after → rose) →
-    OrMemory result (over_tables (record { told = later; rose = after }) folder s next) → OrMemory result (over_tables (record { told = told; rose = rose }) folder s next)
+pub over_there : (told later : List ℕ → Option (List ℕ)) (rose after : List ℕ → Type 0) (folder s : List ℕ) (next : Schema → List (List ℕ) → Ends) (result : Result Plan Stop) → later ≡ told → ((name : List ℕ) → after name → rose name) →
+    OrMemory result (over_tables (record { told = later; failed = after }) folder s next) → OrMemory result (over_tables (record { told = told; failed = rose }) folder s next)
 over_there told later rose after folder s next (Ok plan) same f h = over_later told later rose after folder s next plan same f h
 over_there told later rose after folder s next (Err (Stop.Due plan)) same f h = over_later told later rose after folder s next plan same f h
 over_there told later rose after folder s next (Err Stop.Memory) same f h = tt
 
-pub schema_read : (told later : List ℕ → Option (List ℕ)) (rose after : Type 0) (schema : List ℕ) (next : List ℕ → Ends) (s : List ℕ) (result : Result Plan Stop) →
-    IsRead (record { told = told; rose = after }) schema 262144 s → OrMemory result (next s) → OrMemory result (reads (record { told = told; rose = rose }) schema 262144 (codes "schema") next)
+pub schema_read : (told later : List ℕ → Option (List ℕ)) (rose after : List ℕ → Type 0) (schema : List ℕ) (next : List ℕ → Ends) (s : List ℕ) (result : Result Plan Stop) →
+    IsRead (record { told = told; failed = after }) schema most_schema s → OrMemory result (next s) → OrMemory result (reads (record { told = told; failed = rose }) schema most_schema (codes "schema") next)
 schema_read told later rose after schema next s result read h =
-    goes_on (IsRead (record { told = told; rose = rose }) schema 262144) (IsNotRead (record { told = told; rose = rose }) schema 262144 (codes "schema")) next s result read h
+    goes_on (IsRead (record { told = told; failed = rose }) schema most_schema) (IsNotRead (record { told = told; failed = rose }) schema most_schema (codes "schema")) next s result read h
 
 pub schema_unread : (files : Given) (schema : List ℕ) (next : List ℕ → Ends) (stop : Stop) →
-    Goes {A = List ℕ} (Err stop) (IsRead files schema 262144) (IsNotRead files schema 262144 (codes "schema")) → OrMemory (Err stop) (reads files schema 262144 (codes "schema") next)
-schema_unread files schema next stop h = stops_at (IsRead files schema 262144) (IsRead files schema 262144) (IsNotRead files schema 262144 (codes "schema")) next stop h
+    Goes {A = List ℕ} (Err stop) (IsRead files schema most_schema) (IsNotRead files schema most_schema (codes "schema")) → OrMemory (Err stop) (reads files schema most_schema (codes "schema") next)
+schema_unread files schema next stop h = stops_at (IsRead files schema most_schema) (IsRead files schema most_schema) (IsNotRead files schema most_schema (codes "schema")) next stop h

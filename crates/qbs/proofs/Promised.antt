@@ -1,5 +1,5 @@
 -- What the top call promises follows from a plan that is due and was delivered.
-use Rattle.std.proofs.Common.{◌≡◌, ◌≢◌, ℕ, ◌⊎◌, inl, inr, List, [], ◌∷◌, ◌++◌, subst, sym, refl, ◌∙◌, codes, Option, Some, None}
+use Rattle.std.proofs.Common.{◌≡◌, ◌≢◌, ℕ, ◌⊎◌, inl, inr, Bool, true, false, List, [], ◌∷◌, ◌++◌, subst, sym, refl, ap, ◌∙◌, codes, Option, Some, None}
 use Rattle.std.specs.Io.KnownBytes.{Appends}
 use Rattle.std.specs.List.{flat_map}
 use Rattle.qbs_base.specs.declared.status.Status.{Status}
@@ -12,26 +12,31 @@ use Rattle.query_search.specs.Counted.{OneIs}
 use Rattle.rewrite_core.proofs.PrunedTries.{are_pruned, none_pruned}
 use Rattle.rewrite_core.specs.Pruned.{ArePruned}
 use Rattle.rewrite_core.specs.Rewriting.{verdicts_of}
-use Rattle.rewrite_core.specs.Trying.{Tried, all_tried}
+use Rattle.rewrite_core.specs.Trying.{Tried, all_tried, rewritten}
 use Rattle.words.specs.declared.command.Command.{Command}
 use Rattle.words.specs.declared.command.Command.TheVariants as commands
 use Rattle.words.specs.declared.command.Options.{Options}
 use Rattle.words.specs.Plain.{HasWords}
 use Rattle.words.specs.Reading.{plain}
 use Rattle.words.proofs.Exact.{reads_plain_words}
+use Rattle.deliveries.specs.Limits.{most_schema, most_source}
 use Rattle.deliveries.specs.declared.plan.Plan.{Plan}
 use Rattle.deliveries.specs.Deliver.{Change}
 use Rattle.plans.specs.Opening.{HasNoProgram}
 use Rattle.deliveries.specs.Plan.{Given}
-use Rattle.deliveries.specs.Steps.{IsRead, IsNotRead}
+use Rattle.deliveries.specs.Steps.{Ends, IsRead, IsNotRead}
 use Rattle.plans.specs.Tables.{AreNotRead}
-use Rattle.qbs.specs.Commands.{without_store, command, HasNoWords, IsDue}
+use Rattle.qbs.specs.Commands.{is_built, where_built, command, HasNoWords, IsDue}
 use Rattle.qbs.specs.Headline.{IsRewritten, IsHeadline, HasHeadline}
 use Rattle.verdicts.specs.Reports.{verdict_line, pruned_line}
 use Rattle.qbs.specs.Reports.{report_text}
 use Rattle.qbs.specs.Pruners.{May}
 use Rattle.qbs.specs.Rewrite.{size_of, budget_of, rewrite_of, rewrite}
-use Rattle.qbs.specs.Top.{IsDone, CutShort}
+use Rattle.qbs.specs.Top.{IsDone, CutShort, MayRead, ReadFailed, HasReadFault}
+use Rattle.java_mean.proofs.Kept.{keeps_through}
+use Rattle.java_types.specs.Texts.{read_by}
+use Rattle.java_unplaced.proofs.Kept.{keep_alike}
+use Rattle.java_unplaced.proofs.Typed.{well_typed_alike}
 use Rattle.qbs.proofs.Fair.{IsFair, command_fair}
 
 -- ---- all plans that are due
@@ -42,7 +47,7 @@ record IsFine (files : Given) (words : List (List ℕ)) (plan : Plan) : Type 0 w
   write : plan.status ≢ statuses.WriteFault
   only : plan.status ≡ statuses.Words → HasNoWords words
   all : HasNoWords words → (plan.status ≡ statuses.Words) ⊎ (plan.status ≡ statuses.NoMemory)
-  read : plan.status ≡ statuses.ReadFault → files.rose
+  read : plan.status ≡ statuses.ReadFault → (c : Command) × HasWords words c × ReadFailed files (MayRead files.told c) plan
 
 due_fine : (files : Given) (may : May) (words : List (List ℕ)) (plan : Plan) → IsDue files may words plan → IsFine files words plan
 due_fine files may words plan (inl memory) =
@@ -50,24 +55,24 @@ due_fine files may words plan (inl memory) =
 due_fine files may words plan (inr (inl bad)) =
     subst (IsFine files words) (sym bad.1) (record { out = λ k. refl; write = λ e. cc; only = λ e. bad.0; all = λ none. inl refl; read = λ e. absurd cc })
 due_fine files may words plan (inr (inr (c, has, h))) =
-    let fair : IsFair files plan = command_fair files may c plan h in
-    record { out = fair.out; write = fair.write; only = λ e. absurd (fair.words e); all = λ none. absurd (none c has); read = fair.read }
+    let fair : IsFair files (MayRead files.told c) plan = command_fair files may c plan h in
+    record { out = fair.out; write = fair.write; only = λ e. absurd (fair.words e); all = λ none. absurd (none c has); read = λ e. (c, has, fair.read e) }
 
 pub record Promised (files : Given) (may : May) (words : List (List ℕ)) (out rep : Change) (result : Status) : Type 0 where
   pub only : result ≡ statuses.Words → HasNoWords words
   pub all : HasNoWords words → (result ≡ statuses.Words) ⊎ (result ≡ statuses.NoMemory) ⊎ (result ≡ statuses.WriteFault)
   pub unchanged : KeepsOutput result → Appends out.old out.new []
   pub cut_short : result ≡ statuses.WriteFault → CutShort files may words out rep
-  pub read : result ≡ statuses.ReadFault → files.rose
+  pub read : HasReadFault files words rep result
 
-whole : (files : Given) (may : May) (words : List (List ℕ)) (out rep : Change) (plan : Plan) → IsFine files words plan → Appends out.old out.new plan.out → Promised files may words out rep plan.status
-whole files may words out rep plan fine wrote =
+whole : (files : Given) (may : May) (words : List (List ℕ)) (out rep : Change) (plan : Plan) → IsFine files words plan → Appends out.old out.new plan.out → Appends rep.old rep.new plan.rep → Promised files may words out rep plan.status
+whole files may words out rep plan fine wrote told =
     record {
       only = fine.only;
       all = λ none. elim (fine.all none) [ inl h ↦ inl h | inr h ↦ inr (inl h) ];
       unchanged = λ k. subst (λ text. Appends out.old out.new text) (fine.out k) wrote;
       cut_short = λ e. absurd (fine.write e);
-      read = fine.read;
+      read = λ e. let f : (c : Command) × HasWords words c × ReadFailed files (MayRead files.told c) plan = fine.read e in (f.0, plan, f.1, f.2, told);
     }
 
 cut : (files : Given) (may : May) (words : List (List ℕ)) (out rep : Change) → CutShort files may words out rep → Promised files may words out rep statuses.WriteFault
@@ -78,22 +83,19 @@ pub promised : (files : Given) (may : May) (words : List (List ℕ)) (out rep : 
 promised files may words out rep result done =
     let P : Status → Type 0 = Promised files may words out rep in
     elim done.delivered [
-      | inl all ↦ subst P (sym all.0) (whole files may words out rep done.plan (due_fine files may words done.plan done.due) all.1)
-      | inr rest ↦ elim rest [
-        | inl short ↦ subst P (sym short.0) (cut files may words out rep (record { plan = done.plan; due = done.due; cut = inl (short.1, short.2, short.3) }))
-        | inr short ↦ subst P (sym short.0) (cut files may words out rep (record { plan = done.plan; due = done.due; cut = inr (short.1, short.2, short.3) }))
-      ]
+      | inl all ↦ subst P (sym all.0) (whole files may words out rep done.plan (due_fine files may words done.plan done.due) all.1 all.2)
+      | inr short ↦ subst P (sym short.0) (cut files may words out rep (record { plan = done.plan; due = done.due; cut = short.1 }))
     ]
 
 -- ---- the headline
 
 -- the bytes that `rewrite` read, and what it wrote
 record Rewrote (files : Given) (may : May) (o : Options) (schema source : List ℕ) (plan : Plan) : Type 0 where
-  tables : List ℕ
-  class : List ℕ
-  read_tables : IsRead files schema 262144 tables
-  read_class : IsRead files source 1048576 class
-  is : IsRewritten may (size_of o) (budget_of o) tables class plan.out plan.rep
+  schema_read : List ℕ
+  source_read : List ℕ
+  read_schema : IsRead files schema most_schema schema_read
+  read_source : IsRead files source most_source source_read
+  is : IsRewritten may (size_of o) (budget_of o) schema_read source_read plan.out plan.rep
 
 pub unread : (files : Given) (name : List ℕ) (limit : ℕ) (label : List ℕ) (plan : Plan) → IsNotRead files name limit label plan → plan.status ≡ statuses.Ok → ⊥
 unread files name limit label plan (inl h) ok = let e : statuses.ReadFault ≡ statuses.Ok = subst (λ (p : Plan). p.status ≡ statuses.Ok) h.1 ok in cc
@@ -116,32 +118,34 @@ rewritten_of may o s t plan (inr (tables, is, inr (p, read, h))) ok =
     subst (λ (x : Plan). IsRewritten may (size_of o) (budget_of o) s t x.out x.rep) (sym h.written)
     (record {
       tables = tables;
-      tokens = read.tokens;
       program = p;
       is_schema = is;
-      has_tokens = read.has_tokens;
-      has_program = read.has_program;
-      typed = read.typed;
-      text = h.text;
+      is_program = read;
+      tries = all_tried tables (size_of o) (budget_of o) p;
+      are_tries = refl;
+      written = h.text.read.program;
+      is_written = record { tokens = h.text.tokens; lexed = h.text.lexed; has = h.text.read.has };
+      well = well_typed_alike tables (read_by tables) (rewritten tables (size_of o) (budget_of o) p) h.text.read.program (sym h.text.read.same) h.rewriting.well;
       output = h.output;
-      well = h.rewriting.well;
-      keeps = h.rewriting.keeps;
+      keeps = keeps_through tables p (rewritten tables (size_of o) (budget_of o) p) h.text.read.program h.rewriting.keeps (keep_alike tables (rewritten tables (size_of o) (budget_of o) p) h.text.read.program (sym h.text.read.same));
       pruned = h.pruned;
       counted = h.counted;
       report = refl;
+      left = rewritten tables (size_of o) (budget_of o) p;
+      alike = h.text.read.same;
       standing = h.rewriting.standing;
     })
 
 rewrote : (files : Given) (may : May) (o : Options) (schema source : List ℕ) (plan : Plan) → rewrite files may o schema source plan → plan.status ≡ statuses.Ok → Rewrote files may o schema source plan
-rewrote files may o schema source plan (inl h) ok = absurd (unread files schema 262144 (codes "schema") plan h ok)
-rewrote files may o schema source plan (inr (s, read, inl h)) ok = absurd (unread files source 1048576 (codes "source") plan h ok)
+rewrote files may o schema source plan (inl h) ok = absurd (unread files schema most_schema (codes "schema") plan h ok)
+rewrote files may o schema source plan (inr (s, read, inl h)) ok = absurd (unread files source most_source (codes "source") plan h ok)
 rewrote files may o schema source plan (inr (s, read, inr (t, has, h))) ok =
-    record { tables = s; class = t; read_tables = read; read_class = has; is = rewritten_of may o s t plan h ok }
+    record { schema_read = s; source_read = t; read_schema = read; read_source = has; is = rewritten_of may o s t plan h ok }
 
-stored : (files : Given) (may : May) (o : Options) (schema source : List ℕ) (plan : Plan) (store : Option (List ℕ)) → without_store store (rewrite files may o schema source) plan → plan.status ≡ statuses.Ok →
-    Rewrote files may o schema source plan
-stored files may o schema source plan None h ok = rewrote files may o schema source plan h ok
-stored files may o schema source plan (Some name) h ok = let e : statuses.NotYet ≡ statuses.Ok = subst (λ (p : Plan). p.status ≡ statuses.Ok) h ok in absurd cc
+-- what isn't built ends with no such status
+pub where_ends : (is : Bool) (next : Ends) (plan : Plan) → where_built is next plan → (plan.status ≡ statuses.NotYet → ⊥) → next plan
+where_ends true next plan h other = h
+where_ends false next plan h other = absurd (other (ap (λ (p : Plan). p.status) h))
 
 pub command_is : (o : Option Command) (b c : Command) → o ≡ Some b → o ≡ Some c → b ≡ c
 command_is o b c x y = cc
@@ -152,7 +156,8 @@ due_rewrote files may words o schema source plan has (inl memory) ok = let e : s
 due_rewrote files may words o schema source plan has (inr (inl bad)) ok = absurd (bad.0 (commands.Rewrite o schema source) has)
 due_rewrote files may words o schema source plan has (inr (inr (c, is, h))) ok =
     let same : c ≡ commands.Rewrite o schema source = command_is (plain words) c (commands.Rewrite o schema source) ((reads_plain_words words c).1 is) ((reads_plain_words words (commands.Rewrite o schema source)).1 has) in
-    stored files may o schema source plan o.store (subst (λ (d : Command). command files may d plan) same h) ok
+    rewrote files may o schema source plan
+    (where_ends (is_built (commands.Rewrite o schema source)) (rewrite files may o schema source) plan (subst (λ (d : Command). command files may d plan) same h) (λ e. let no : statuses.NotYet ≡ statuses.Ok = sym e ∙ ok in cc)) ok
 
 pub headline : (files : Given) (may : May) (words : List (List ℕ)) (out rep : Change) (result : Status) → IsDone files may words out rep result → HasHeadline files may words out rep result
 headline files may words out rep result done o schema source has ok =
@@ -160,20 +165,17 @@ headline files may words out rep result done o schema source has ok =
       | inl all ↦ (
           let h : Rewrote files may o schema source done.plan = due_rewrote files may words o schema source done.plan has done.due (sym all.0 ∙ ok) in
           record {
-            tables = h.tables;
-            class = h.class;
+            schema_read = h.schema_read;
+            source_read = h.source_read;
             text = done.plan.out;
             lines = done.plan.rep;
-            read_tables = h.read_tables;
-            read_class = h.read_class;
+            read_schema = h.read_schema;
+            read_source = h.read_source;
             is = h.is;
             wrote_text = all.1;
             wrote_lines = all.2;
           })
-      | inr rest ↦ elim rest [
-        | inl short ↦ (let e : statuses.WriteFault ≡ statuses.Ok = sym short.0 ∙ ok in absurd cc)
-        | inr short ↦ (let e : statuses.WriteFault ≡ statuses.Ok = sym short.0 ∙ ok in absurd cc)
-      ]
+      | inr short ↦ (let e : statuses.WriteFault ≡ statuses.Ok = sym short.0 ∙ ok in absurd cc)
     ]
 
 -- ---- without pruners

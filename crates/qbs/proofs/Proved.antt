@@ -20,6 +20,7 @@ use Rattle.rewrite_core.specs.Rewriting.{bundle_of, verdicts_of, StandAsTried}
 use Rattle.rewrite_core.specs.Trying.{all_tried, rewritten}
 use Rattle.rewrite_core.proofs.AcceptedBundles.{bundle_accepted}
 use Rattle.rewrite_core.proofs.WritableBundles.{bundle_writable}
+use Rattle.deliveries.specs.Limits.{most_source}
 use Rattle.deliveries.specs.declared.plan.Plan.{Plan}
 use Rattle.plans.specs.Opening.{IsProgramOf}
 use Rattle.verdicts.specs.Reports.{verdict_line, pruned_line}
@@ -27,21 +28,21 @@ use Rattle.qbs.specs.Pruners.{May}
 use Rattle.qbs.specs.Prove.{entries_for, Proves}
 use Rattle.qbs.proofs.Rewrote.{is_rewriting}
 
-short_source : (n : ℕ) → n ≤ 1048576 → n < 2 ^ 32
+short_source : (n : ℕ) → n ≤ most_source → n < 2 ^ 32
 short_source n h = omega arith
 
 module _ (tables : Schema) (source : List ℕ) (p : PlainProgram) (read : IsProgramOf tables source p) where
   loops_apart : LoopsStandApart p
   loops_apart m n a b first other l = one_path source read.tokens (all_strict read.tokens.list) p read.has_tokens (strict_tokens read.tokens.list) read.has_program a b l
 
-  entries_written : (size budget : ℕ) → budget ≤ 1000000 → length source ≤ 1048576 → Each IsWritableEntry (entries_for tables size budget p)
+  entries_written : (size budget : ℕ) → budget ≤ 1000000 → length source ≤ most_source → Each IsWritableEntry (entries_for tables size budget p)
   entries_written size budget few short = bundle_writable tables size budget source read.tokens p few (short_source (length source) short) read.has_tokens read.has_program
 
 abbrev plan_with : List ℕ → List ℕ → Plan
 plan_with a b = record { status = Status.Ok; out = a; rep = b }
 
 proved : (may : May) (tables : Schema) (size budget : ℕ) (source : List ℕ) (p r : PlainProgram) (entries : List Entry) (verdicts : List LoopVerdict) (dropped : ℕ) (plan : Plan) →
-    size ≤ 8 → budget ≤ 1000000 → length source ≤ 1048576 → IsProgramOf tables source p →
+    size ≤ 8 → budget ≤ 1000000 → length source ≤ most_source → IsProgramOf tables source p →
     r ≡ rewritten tables size budget p → verdicts ≡ verdicts_of (all_tried tables size budget p) → entries ≡ entries_for tables size budget p →
     ArePruned may.drops may.keeps size (all_tried tables size budget p) dropped →
     IsWellTyped tables (read_by tables) r → Keeps p r tables → StandAsTried (all_tried tables size budget p) r →
@@ -62,7 +63,7 @@ proved may tables size budget source p r entries verdicts dropped plan few_formu
 -- the same for the numbers that options stand for
 pub proved_as : (may : May) (tables : Schema) (size size_in budget budget_in : ℕ) (source : List ℕ) (p r : PlainProgram) (entries : List Entry) (verdicts : List LoopVerdict) (dropped : ℕ) (plan : Plan) →
     size ≡ size_in → budget ≡ budget_in →
-    size ≤ 8 → budget ≤ 1000000 → length source ≤ 1048576 → IsProgramOf tables source p →
+    size ≤ 8 → budget ≤ 1000000 → length source ≤ most_source → IsProgramOf tables source p →
     r ≡ rewritten tables size budget p → verdicts ≡ verdicts_of (all_tried tables size budget p) → entries ≡ bundle_of (all_tried tables size budget p) →
     ArePruned may.drops may.keeps size (all_tried tables size budget p) dropped →
     IsWellTyped tables (read_by tables) r → Keeps p r tables → StandAsTried (all_tried tables size budget p) r →

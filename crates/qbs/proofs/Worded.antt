@@ -1,9 +1,8 @@
 -- What is due for words that are plain, and for others.
-use Rattle.std.proofs.Common.{◌≡◌, ℕ, ◌<◌, ◌≤◌, ◌^◌, List, [], Option, Some, None, Result, Err, sym, subst, inl, codes, arith}
+use Rattle.std.proofs.Common.{◌≡◌, ℕ, ◌<◌, ◌≤◌, ◌^◌, Bool, true, false, List, [], Option, Some, None, Result, Ok, Err, sym, subst, inl, codes, arith}
 use Rattle.qbs_base.specs.declared.status.Status.{Status}
 use Rattle.words.specs.declared.command.Command.{Command}
 use Rattle.words.specs.declared.command.Command.TheVariants as commands
-use Rattle.words.specs.declared.command.Options.{Options}
 use Rattle.words.specs.Plain.{HasWords}
 use Rattle.words.specs.Reading.{plain}
 use Rattle.words.proofs.Exact.{reads_plain_words}
@@ -11,13 +10,11 @@ use Rattle.deliveries.specs.declared.plan.Plan.{Plan}
 use Rattle.deliveries.specs.declared.fetch.Stop.{Stop}
 use Rattle.deliveries.specs.Code.{OrMemory, StopsFor}
 use Rattle.deliveries.specs.Plan.{Given}
-use Rattle.qbs.specs.Commands.{without_store, command, HasNoWords, AreRefused, program}
-use Rattle.qbs.specs.Check.{check}
-use Rattle.qbs.specs.Make.{make}
+use Rattle.deliveries.specs.Reads.{Looks, OnlyReads}
+use Rattle.deliveries.proofs.Reading.{reads_none}
+use Rattle.qbs.specs.Commands.{is_built, built, where_built, command, HasNoWords, AreRefused, program}
 use Rattle.qbs.specs.Pruners.{May}
-use Rattle.qbs.specs.Prove.{prove}
-use Rattle.qbs.specs.Rewrite.{rewrite}
-use Rattle.qbs.specs.Sql.{sql}
+use Rattle.qbs.specs.Top.{ReadsBuilt, ReadsWhere, ReadsInOrder, ReadsAsNamed}
 use Rattle.qbs.specs.Within.{IsWithin}
 use Rattle.qbs.proofs.Going.{goes_on}
 use Rattle.qbs.proofs.Ranged.{within}
@@ -44,24 +41,63 @@ words_due files may words Stop.Memory e due = tt
 pub words_read : {D : Type 0} (old new : D) (words : List (List ℕ)) (c : Command) → Some c ≡ plain words → HasNoWords words → new ≡ old
 words_read old new words c e none = absurd (none c (has_words words c e))
 
-pub rewrite_due : (files : Given) (may : May) (c : Command) (o : Options) (schema source : List ℕ) (result : Result Plan Stop) → c ≡ commands.Rewrite o schema source →
-    OrMemory result (without_store o.store (rewrite files may o schema source)) → OrMemory result (command files may c)
-rewrite_due files may c o schema source result is h = subst (λ (d : Command). OrMemory result (command files may d)) (sym is) h
+-- of a command that is one of a kind
+pub as_due : (files : Given) (may : May) (c d : Command) (result : Result Plan Stop) → c ≡ d → OrMemory result (built files may d) → OrMemory result (built files may c)
+as_due files may c d result is h = subst (λ (x : Command). OrMemory result (built files may x)) (sym is) h
 
-pub sql_due : (files : Given) (may : May) (c : Command) (schema folder query : List ℕ) (result : Result Plan Stop) → c ≡ commands.Sql schema folder query →
-    OrMemory result (sql files schema folder query) → OrMemory result (command files may c)
-sql_due files may c schema folder query result is h = subst (λ (d : Command). OrMemory result (command files may d)) (sym is) h
+pub as_read : {D : Type 0} (l : Looks D) (c d : Command) (old new : D) → c ≡ d → ReadsBuilt l d old new → ReadsBuilt l c old new
+as_read l c d old new is h = subst (λ (x : Command). ReadsBuilt l x old new) (sym is) h
 
-pub prove_due : (files : Given) (may : May) (c : Command) (o : Options) (schema source : List ℕ) (result : Result Plan Stop) → c ≡ commands.Prove o schema source →
-    OrMemory result (without_store o.store (prove files may o schema source)) → OrMemory result (command files may c)
-prove_due files may c o schema source result is h = subst (λ (d : Command). OrMemory result (command files may d)) (sym is) h
+-- of a command that is built, and of one that isn't
+pub built_due : (files : Given) (may : May) (c : Command) (result : Result Plan Stop) → is_built c ≡ true → OrMemory result (built files may c) → OrMemory result (command files may c)
+built_due files may c (Ok plan) is h = subst (λ (b : Bool). where_built b (built files may c) plan) (sym is) h
+built_due files may c (Err (Stop.Due plan)) is h = subst (λ (b : Bool). where_built b (built files may c) plan) (sym is) h
+built_due files may c (Err Stop.Memory) is h = tt
 
-pub check_due : (files : Given) (may : May) (c : Command) (schema source bundle : List ℕ) (result : Result Plan Stop) → c ≡ commands.Check schema source bundle →
-    OrMemory result (check files schema source bundle) → OrMemory result (command files may c)
-check_due files may c schema source bundle result is h = subst (λ (d : Command). OrMemory result (command files may d)) (sym is) h
+pub unbuilt_due : (files : Given) (may : May) (c : Command) (stop : Stop) → is_built c ≡ false → StopsFor Status.NotYet (codes "qbs: not yet") [] stop → OrMemory (Err stop) (command files may c)
+unbuilt_due files may c (Stop.Due plan) is h = subst (λ (b : Bool). where_built b (built files may c) plan) (sym is) h
+unbuilt_due files may c Stop.Memory is h = tt
 
-pub make_due : (files : Given) (may : May) (c : Command) (n : ℕ) (result : Result Plan Stop) → c ≡ commands.Make n → OrMemory result (make n) → OrMemory result (command files may c)
-make_due files may c n result is h = subst (λ (d : Command). OrMemory result (command files may d)) (sym is) h
+pub built_read : {D : Type 0} (l : Looks D) (c : Command) (old new : D) → is_built c ≡ true → ReadsBuilt l c old new → ReadsInOrder l c old new
+built_read l c old new is h = subst (λ (b : Bool). ReadsWhere b l c old new) (sym is) h
+
+pub unbuilt_read : {D : Type 0} (l : Looks D) (c : Command) (files : D) → is_built c ≡ false → ReadsInOrder l c files files
+unbuilt_read l c files is = subst (λ (b : Bool). ReadsWhere b l c files files) (sym is) (reads_none l [] files)
+
+-- what is only read stays as it is told, whatever the command
+only_stays : {D : Type 0} (l : Looks D) (c : Command) (old new : D) → ReadsBuilt l c old new → (l.told new ≡ l.told old) × (l.faults old ≤ l.faults new)
+only_stays l (commands.Rewrite o s t) old new h = (h.held, h.later)
+only_stays l (commands.Prove o s t) old new h = (h.held, h.later)
+only_stays l (commands.Check o s t b) old new h = (h.held, h.later)
+only_stays l (commands.Run o s t d method words) old new h = (h.reads.held, h.reads.later)
+only_stays l (commands.Sql s d q) old new h = (h.reads.held, h.reads.later)
+only_stays l (commands.Make n) old new h = (h.held, h.later)
+only_stays l (commands.Unnest o s t) old new h = (h.held, h.later)
+only_stays l (commands.Narrow o s t) old new h = (h.held, h.later)
+only_stays l (commands.Inline s t) old new h = (h.held, h.later)
+only_stays l (commands.Gather o s t) old new h = (h.held, h.later)
+only_stays l (commands.Schema o d) old new h = (h.held, h.later)
+only_stays l (commands.View m s t) old new h = (h.held, h.later)
+only_stays l (commands.Map es) old new h = (h.held, h.later)
+only_stays l (commands.CheckMap m s) old new h = (h.held, h.later)
+
+where_stays : {D : Type 0} (l : Looks D) (is : Bool) (c : Command) (old new : D) → ReadsWhere is l c old new → (l.told new ≡ l.told old) × (l.faults old ≤ l.faults new)
+where_stays l true c old new h = only_stays l c old new h
+where_stays l false c old new h = (h.held, h.later)
+
+pub stays : {D : Type 0} (l : Looks D) (c : Command) (old new : D) → ReadsInOrder l c old new → (l.told new ≡ l.told old) × (l.faults old ≤ l.faults new)
+stays l c old new h = where_stays l (is_built c) c old new h
+
+-- the words name no other command
+pub words_read_so : {D : Type 0} (l : Looks D) (words : List (List ℕ)) (c : Command) (old new : D) → Some c ≡ plain words → ReadsInOrder l c old new → ReadsAsNamed l words old new
+words_read_so l words c old new e h d has =
+    subst (λ (x : Command). ReadsInOrder l x old new) (one_named (plain words) c d (sym e) ((reads_plain_words words d).1 has)) h
+  where
+    one_named : (o : Option Command) (b d : Command) → o ≡ Some b → o ≡ Some d → b ≡ d
+    one_named o b d x y = cc
+
+pub no_words_read_so : {D : Type 0} (l : Looks D) (words : List (List ℕ)) (files : D) → None ≡ plain words → ReadsAsNamed l words files files
+no_words_read_so l words files e d has = absurd (has_no_words words e d has)
 
 pub make_within : (c : Command) (n : ℕ) → c ≡ commands.Make n → IsWithin c → n < 2 ^ 63
 make_within c n is h = let few : n ≤ 100000 = subst IsWithin is h in omega arith

@@ -11,6 +11,7 @@ use Rattle.deriv_check.specs.Bundles.{Entry}
 use Rattle.rewrite_core.specs.Checking.{Checks, All, Refused, checked_from}
 use Rattle.plans.specs.Opening.{has_schema, has_program, has_bundle}
 use Rattle.verdicts.specs.Lines.{line}
+use Rattle.deliveries.specs.Limits.{most_schema, most_source, most_bundle}
 use Rattle.deliveries.specs.Plan.{Given}
 use Rattle.deliveries.specs.Steps.{Ends, reads}
 
@@ -45,5 +46,5 @@ check_of schema source bundle =
 
 abbrev pub check : Given → List ℕ → List ℕ → List ℕ → Ends
 check files schema source bundle =
-    reads files schema 262144 (codes "schema") (λ s. reads files source 1048576 (codes "source") (λ t.
-    reads files bundle 16777216 (codes "bundle") (λ b. check_of s t b)))
+    reads files schema most_schema (codes "schema") (λ s. reads files source most_source (codes "source") (λ t.
+    reads files bundle most_bundle (codes "bundle") (λ b. check_of s t b)))

@@ -1,9 +1,8 @@
 -- The whole: the plans that the top call may end with, for words and files.
-use Rattle.std.specs.Prelude.{◌≡◌, ◌⊎◌, ℕ, List}
-use Rattle.std.specs.declared.option.Option.{Option}
-use Rattle.std.specs.declared.option.Option.TheVariants.{Some, None}
+use Rattle.std.specs.Prelude.{◌≡◌, ◌⊎◌, ◌&&◌, ℕ, List, Bool, true, false, is_none}
 use Rattle.words.specs.declared.command.Command.{Command}
 use Rattle.words.specs.declared.command.Command.TheVariants as commands
+use Rattle.words.specs.declared.command.Options.{Options}
 use Rattle.words.specs.Plain.{HasWords}
 use Rattle.deliveries.specs.Plan.{Given, no_memory, not_yet, bad_words}
 use Rattle.deliveries.specs.Steps.{Ends, ends, step}
@@ -15,21 +14,37 @@ use Rattle.qbs.specs.Rewrite.{rewrite}
 use Rattle.qbs.specs.Run.{run}
 use Rattle.qbs.specs.Sql.{sql}
 
--- a store isn't built yet
-abbrev pub without_store : Option (List ℕ) → Ends → Ends
-without_store None next plan = next plan
-without_store (Some name) next plan = ends not_yet plan
+-- no option is set that isn't built yet: a store, or a view
+abbrev pub is_plain : Options → Bool
+is_plain o = is_none o.store && is_none o.view
 
--- the other commands aren't built yet
+-- which commands are built, and with which options
+abbrev pub is_built : Command → Bool
+is_built (commands.Rewrite o schema source) = is_plain o
+is_built (commands.Prove o schema source) = is_plain o
+is_built (commands.Check o schema source bundle) = is_plain o
+is_built (commands.Run o schema source folder method words) = true
+is_built (commands.Sql schema folder query) = true
+is_built (commands.Make n) = true
+is_built _ = false
+
+-- what is due for a command that is built
+abbrev pub built : Given → May → Command → Ends
+built files may (commands.Rewrite o schema source) plan = rewrite files may o schema source plan
+built files may (commands.Prove o schema source) plan = prove files may o schema source plan
+built files may (commands.Check o schema source bundle) plan = check files schema source bundle plan
+built files may (commands.Run o schema source folder method words) plan = run files o schema source folder (record { method = method; words = words }) plan
+built files may (commands.Sql schema folder query) plan = sql files schema folder query plan
+built files may (commands.Make n) plan = make n plan
+built files may _ plan = ends not_yet plan
+
+abbrev pub where_built : Bool → Ends → Ends
+where_built true next plan = next plan
+where_built false next plan = ends not_yet plan
+
+-- what is due for a command; the others aren't built yet
 abbrev pub command : Given → May → Command → Ends
-command files may (commands.Rewrite o schema source) plan = without_store o.store (rewrite files may o schema source) plan
-command files may (commands.Prove o schema source) plan = without_store o.store (prove files may o schema source) plan
-command files may (commands.Check schema source bundle) plan = check files schema source bundle plan
-command files may (commands.Run o schema source folder method words) plan =
-    without_store o.store (run files o schema source folder (record { method = method; words = words })) plan
-command files may (commands.Sql schema folder query) plan = sql files schema folder query plan
-command files may (commands.Make n) plan = make n plan
-command files may _ plan = ends not_yet plan
+command files may c plan = where_built (is_built c) (built files may c) plan
 
 -- the words aren't plain
 abbrev pub HasNoWords : List (List ℕ) → Type 0

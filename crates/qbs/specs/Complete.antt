@@ -1,7 +1,7 @@
 -- Which statuses a command ends with where all that it reads is right.
-use Rattle.std.specs.Prelude.{◌≡◌, ◌≤◌, ◌-◌, ◌⊎◌, ℕ, List, [], ◌∷◌, length}
+use Rattle.std.specs.Prelude.{◌≡◌, ◌≤◌, ◌-◌, ◌⊎◌, ℕ, List, [], ◌∷◌, Bool, true, false, length}
 use Rattle.std.specs.declared.option.Option.{Option}
-use Rattle.std.specs.declared.option.Option.TheVariants.{Some, None}
+use Rattle.std.specs.declared.option.Option.TheVariants.{Some}
 use Rattle.qbs_base.specs.declared.columns.Table.{Table}
 use Rattle.qbs_base.specs.declared.status.Status.{Status}
 use Rattle.qbs_base.specs.Values.{Schema, Database}
@@ -14,8 +14,10 @@ use Rattle.words.specs.declared.command.Command.TheVariants as commands
 use Rattle.words.specs.Plain.{HasWords}
 use Rattle.plans.specs.Calls.{Call, Called, Calls}
 use Rattle.plans.specs.Opening.{IsSchemaOf, IsProgramOf}
+use Rattle.deliveries.specs.Limits.{most_schema, most_source, most_bundle, most_tables}
 use Rattle.deliveries.specs.Plan.{Given}
-use Rattle.plans.specs.Tables.{table_file, most_bytes, HasRows}
+use Rattle.plans.specs.Tables.{table_file, HasRows}
+use Rattle.qbs.specs.Commands.{is_built}
 use Rattle.qbs.specs.Sql.{IsAsked}
 
 -- ---- What is right
@@ -35,17 +37,17 @@ HaveTexts told folder (table ∷ tables) left (text ∷ texts) =
 HaveTexts told folder _ left _ = ⊥
 
 abbrev pub HasSchema : (List ℕ → Option (List ℕ)) → List ℕ → (Schema → Type 0) → Type 0
-HasSchema told schema Is = HasFile told schema 262144 (λ bytes. (tables : Schema) × IsSchemaOf bytes tables × Is tables)
+HasSchema told schema Is = HasFile told schema most_schema (λ bytes. (tables : Schema) × IsSchemaOf bytes tables × Is tables)
 
 -- the source is a well-typed program under the schema
 abbrev pub HasSource : (List ℕ → Option (List ℕ)) → List ℕ → Schema → (PlainProgram → Type 0) → Type 0
-HasSource told source tables Is = HasFile told source 1048576 (λ bytes. (p : PlainProgram) × IsProgramOf tables bytes p × Is p)
+HasSource told source tables Is = HasFile told source most_source (λ bytes. (p : PlainProgram) × IsProgramOf tables bytes p × Is p)
 
 -- the tables are rows of the schema
 pub record HasTables (told : List ℕ → Option (List ℕ)) (folder : List ℕ) (tables : Schema) : Type 0 where
   pub texts : List (List ℕ)
   pub db : Database
-  pub have : HaveTexts told folder tables most_bytes texts
+  pub have : HaveTexts told folder tables most_tables texts
   pub rows : HasRows tables texts db
 
 -- the words call a method of the program
@@ -57,8 +59,8 @@ pub record HasCall (p : PlainProgram) (call : Call) : Type 0 where
 abbrev pub IsRight : (List ℕ → Option (List ℕ)) → Command → Type 0
 IsRight told (commands.Rewrite o schema source) = HasSchema told schema (λ tables. HasSource told source tables (λ p. Unit {0}))
 IsRight told (commands.Prove o schema source) = HasSchema told schema (λ tables. HasSource told source tables (λ p. Unit {0}))
-IsRight told (commands.Check schema source bundle) =
-    HasSchema told schema (λ tables. HasSource told source tables (λ p. Unit {0})) × HasFile told bundle 16777216 (λ bytes. (entries : List Entry) × HasBundle bytes entries)
+IsRight told (commands.Check o schema source bundle) =
+    HasSchema told schema (λ tables. HasSource told source tables (λ p. Unit {0})) × HasFile told bundle most_bundle (λ bytes. (entries : List Entry) × HasBundle bytes entries)
 IsRight told (commands.Run o schema source folder method words) =
     HasSchema told schema (λ tables. HasSource told source tables (λ p. HasCall p (record { method = method; words = words })) × HasTables told folder tables)
 IsRight told (commands.Sql schema folder query) =
@@ -67,21 +69,24 @@ IsRight told _ = Unit {0}
 
 -- ---- The statuses
 
-abbrev pub IsNotYet : Option (List ℕ) → Status → (Status → Type 0) → Type 0
-IsNotYet None status Is = Is status
-IsNotYet (Some store) status Is = status ≡ Status.NotYet
+-- what a command that is built ends with then: it is done, or an entry isn't accepted, or a run faults or has too few turns, or a total has not 64 bits
+abbrev pub IsEnd : Command → Status → Type 0
+IsEnd (commands.Rewrite o schema source) status = status ≡ Status.Ok
+IsEnd (commands.Prove o schema source) status = status ≡ Status.Ok
+IsEnd (commands.Check o schema source bundle) status = (status ≡ Status.Ok) ⊎ (status ≡ Status.Refused)
+IsEnd (commands.Run o schema source folder method words) status = (status ≡ Status.Ok) ⊎ (status ≡ Status.Faulted) ⊎ (status ≡ Status.Turns)
+IsEnd (commands.Sql schema folder query) status = (status ≡ Status.Ok) ⊎ (status ≡ Status.Faulted)
+IsEnd (commands.Make n) status = (status ≡ Status.Ok) ⊎ (status ≡ Status.Faulted) ⊎ (status ≡ Status.Turns)
+IsEnd _ status = status ≡ Status.NotYet
 
--- what the command ends with then: it is done, or an entry isn't accepted, or a run faults or has too few turns, or a total has not 64 bits
+abbrev pub IsEndWhere : Bool → Command → Status → Type 0
+IsEndWhere true c status = IsEnd c status
+IsEndWhere false c status = status ≡ Status.NotYet
+
 abbrev pub IsListed : Command → Status → Type 0
-IsListed (commands.Rewrite o schema source) status = IsNotYet o.store status (λ s. s ≡ Status.Ok)
-IsListed (commands.Prove o schema source) status = IsNotYet o.store status (λ s. s ≡ Status.Ok)
-IsListed (commands.Check schema source bundle) status = (status ≡ Status.Ok) ⊎ (status ≡ Status.Refused)
-IsListed (commands.Run o schema source folder method words) status = IsNotYet o.store status (λ s. (s ≡ Status.Ok) ⊎ (s ≡ Status.Faulted) ⊎ (s ≡ Status.Turns))
-IsListed (commands.Sql schema folder query) status = (status ≡ Status.Ok) ⊎ (status ≡ Status.Faulted)
-IsListed (commands.Make n) status = (status ≡ Status.Ok) ⊎ (status ≡ Status.Faulted) ⊎ (status ≡ Status.Turns)
-IsListed _ status = status ≡ Status.NotYet
+IsListed c status = IsEndWhere (is_built c) c status
 
 -- Where words are plain, no read fails, and all that is read is right, the command ends so, or memory ran out or a write failed.
 abbrev pub IsComplete : Given → List (List ℕ) → Status → Type 0
 IsComplete files words result =
-    (c : Command) → HasWords words c → IsRight files.told c → (files.rose → ⊥) → IsListed c result ⊎ (result ≡ Status.NoMemory) ⊎ (result ≡ Status.WriteFault)
+    (c : Command) → HasWords words c → IsRight files.told c → ((name : List ℕ) → files.failed name → ⊥) → IsListed c result ⊎ (result ≡ Status.NoMemory) ⊎ (result ≡ Status.WriteFault)

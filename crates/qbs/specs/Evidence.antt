@@ -13,6 +13,7 @@ use Rattle.rewrite_core.specs.Trying.{all_tried, rewritten}
 use Rattle.words.specs.declared.command.Command.TheVariants as commands
 use Rattle.words.specs.declared.command.Options.{Options}
 use Rattle.words.specs.Plain.{HasWords}
+use Rattle.deliveries.specs.Limits.{most_schema, most_source, most_bundle}
 use Rattle.deliveries.specs.Deliver.{Change}
 use Rattle.plans.specs.Opening.{IsSchemaOf, IsProgramOf}
 use Rattle.deliveries.specs.Plan.{Given}
@@ -45,13 +46,13 @@ pub record IsProved (may : May) (size budget : ℕ) (schema source out rep : Lis
 
 -- both files were read, and both sinks have grown by what is written
 pub record IsProof (files : Given) (may : May) (o : Options) (schema source : List ℕ) (out rep : Change) : Type 0 where
-  pub tables : List ℕ
-  pub class : List ℕ
+  pub schema_read : List ℕ
+  pub source_read : List ℕ
   pub text : List ℕ
   pub lines : List ℕ
-  pub read_tables : IsRead files schema 262144 tables
-  pub read_class : IsRead files source 1048576 class
-  pub is : IsProved may (size_of o) (budget_of o) tables class text lines
+  pub read_schema : IsRead files schema most_schema schema_read
+  pub read_source : IsRead files source most_source source_read
+  pub is : IsProved may (size_of o) (budget_of o) schema_read source_read text lines
   pub wrote_text : Appends out.old out.new text
   pub wrote_lines : Appends rep.old rep.new lines
 
@@ -87,14 +88,14 @@ pub record IsChecked (Says : Schema → List Entry → PlainProgram → List ℕ
 
 -- all three files were read, and the output has grown by a line
 pub record IsCheck (files : Given) (Says : Schema → List Entry → PlainProgram → List ℕ → Type 0) (schema source bundle : List ℕ) (out rep : Change) : Type 0 where
-  pub tables : List ℕ
-  pub class : List ℕ
-  pub evidence : List ℕ
+  pub schema_read : List ℕ
+  pub source_read : List ℕ
+  pub bundle_read : List ℕ
   pub text : List ℕ
-  pub read_tables : IsRead files schema 262144 tables
-  pub read_class : IsRead files source 1048576 class
-  pub read_evidence : IsRead files bundle 16777216 evidence
-  pub is : IsChecked Says tables class evidence text
+  pub read_schema : IsRead files schema most_schema schema_read
+  pub read_source : IsRead files source most_source source_read
+  pub read_bundle : IsRead files bundle most_bundle bundle_read
+  pub is : IsChecked Says schema_read source_read bundle_read text
   pub wrote_text : Appends out.old out.new text
   pub wrote_lines : Appends rep.old rep.new []
 
@@ -105,4 +106,4 @@ pub record SaysRightly (files : Given) (schema source bundle : List ℕ) (out re
 
 abbrev pub HasCheck : Given → List (List ℕ) → Change → Change → Status → Type 0
 HasCheck files words out rep result =
-    (schema source bundle : List ℕ) → HasWords words (commands.Check schema source bundle) → SaysRightly files schema source bundle out rep result
+    (o : Options) (schema source bundle : List ℕ) → HasWords words (commands.Check o schema source bundle) → SaysRightly files schema source bundle out rep result

@@ -4,61 +4,72 @@ use Rattle.std.specs.Io.KnownBytes.{Appends}
 use Rattle.qbs_base.specs.declared.status.Status.{Status}
 use Rattle.qbs_base.specs.Values.{Schema}
 use Rattle.java_ast.specs.Tree.{PlainProgram}
+use Rattle.java_ast.specs.Unplaced.{unplaced_program}
 use Rattle.java_lex.specs.declared.token.Tokens.{Tokens}
 use Rattle.java_lex.specs.Lexing.{lexed}
 use Rattle.java_mean.specs.Keeps.{Keeps}
 use Rattle.java_mean.specs.WellTyped.{IsWellTyped}
-use Rattle.java_grammar.specs.Grammar.{IsReadable}
-use Rattle.java_grammar.specs.ReadBack.{IsReadBack}
+use Rattle.java_grammar.specs.Grammar.{IsProgram}
 use Rattle.java_types.specs.Texts.{read_by}
 use Rattle.rewrite_core.specs.Patches.{patched_text}
 use Rattle.rewrite_core.specs.Pruned.{ArePruned}
 use Rattle.rewrite_core.specs.Rewriting.{StandAsTried}
-use Rattle.rewrite_core.specs.Trying.{all_tried, rewritten}
-use Rattle.schema.specs.Schemas.{schema_of}
+use Rattle.rewrite_core.specs.Trying.{Tried, all_tried, rewritten}
 use Rattle.words.specs.declared.command.Command.TheVariants as commands
 use Rattle.words.specs.declared.command.Options.{Options}
 use Rattle.words.specs.Plain.{HasWords}
 use Rattle.deliveries.specs.Deliver.{Change}
+use Rattle.deliveries.specs.Limits.{most_schema, most_source}
 use Rattle.deliveries.specs.Plan.{Given}
 use Rattle.deliveries.specs.Steps.{IsRead}
+use Rattle.plans.specs.Opening.{IsSchemaOf, IsProgramOf}
 use Rattle.verdicts.specs.Reports.{pruned_line}
 use Rattle.qbs.specs.Reports.{report_text}
 use Rattle.qbs.specs.Pruners.{May}
 use Rattle.qbs.specs.Rewrite.{size_of, budget_of}
 
-pub record IsRewritten (may : May) (size budget : ℕ) (schema source out rep : List ℕ) : Type 0 where
-  -- the schema, and the program that has the source's bytes, which is well typed
-  pub tables : Schema
+-- the text is one of this program: its tokens have it, how deep they stand left aside
+pub record HasText (text : List ℕ) (p : PlainProgram) : Type 0 where
   pub tokens : Tokens
+  pub lexed : lexed text ≡ Ok tokens
+  pub has : IsProgram tokens.list p
+
+-- What `rewrite` read, as `schema` and `source`, and what it wrote, as `out` and `rep`.
+pub record IsRewritten (may : May) (size budget : ℕ) (schema source out rep : List ℕ) : Type 0 where
+  -- the schema's bytes are a schema, and the source's bytes have a well-typed program under it
+  pub tables : Schema
   pub program : PlainProgram
-  pub is_schema : schema_of schema ≡ Ok tables
-  pub has_tokens : lexed source ≡ Ok tokens
-  pub has_program : IsReadable tokens.list program
-  pub typed : IsWellTyped tables (read_by tables) program
-  -- text: what is written is a text of the program after all tries, which is well typed. It is the source with statements in canonical layout in
-  -- place of what gave way: all other bytes stay.
-  pub text : IsReadBack out (rewritten tables size budget program)
-  pub output : out ≡ patched_text source (all_tried tables size budget program)
-  pub well : IsWellTyped tables (read_by tables) (rewritten tables size budget program)
+  pub is_schema : IsSchemaOf schema tables
+  pub is_program : IsProgramOf tables source program
+  -- the loops of the program that were tried, in their order, each on the program as it stood
+  pub tries : List Tried
+  pub are_tries : tries ≡ all_tried tables size budget program
+  -- text: the bytes written have a program, which is well typed; they are the source with statements in place of the loops that gave way and
+  -- their runs, and all other bytes stay
+  pub written : PlainProgram
+  pub is_written : HasText out written
+  pub well : IsWellTyped tables (read_by tables) written
+  pub output : out ≡ patched_text source tries
   -- meaning
-  pub keeps : Keeps program (rewritten tables size budget program) tables
+  pub keeps : Keeps program written tables
   -- report: a line for each loop that was tried, and how many candidates were dropped
   pub pruned : ℕ
-  pub counted : ArePruned may.drops may.keeps size (all_tried tables size budget program) pruned
-  pub report : rep ≡ report_text (all_tried tables size budget program) pruned
-  -- each loop that is left stands as it was tried
-  pub standing : StandAsTried (all_tried tables size budget program) (rewritten tables size budget program)
+  pub counted : ArePruned may.drops may.keeps size tries pruned
+  pub report : rep ≡ report_text tries pruned
+  -- each loop that is left stands as it was tried, in the program written but for its places
+  pub left : PlainProgram
+  pub alike : unplaced_program written ≡ unplaced_program left
+  pub standing : StandAsTried tries left
 
 -- both files were read, and both sinks have grown by what is written
 pub record IsHeadline (files : Given) (may : May) (o : Options) (schema source : List ℕ) (out rep : Change) : Type 0 where
-  pub tables : List ℕ
-  pub class : List ℕ
+  pub schema_read : List ℕ
+  pub source_read : List ℕ
   pub text : List ℕ
   pub lines : List ℕ
-  pub read_tables : IsRead files schema 262144 tables
-  pub read_class : IsRead files source 1048576 class
-  pub is : IsRewritten may (size_of o) (budget_of o) tables class text lines
+  pub read_schema : IsRead files schema most_schema schema_read
+  pub read_source : IsRead files source most_source source_read
+  pub is : IsRewritten may (size_of o) (budget_of o) schema_read source_read text lines
   pub wrote_text : Appends out.old out.new text
   pub wrote_lines : Appends rep.old rep.new lines
 

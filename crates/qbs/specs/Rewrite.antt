@@ -14,6 +14,7 @@ use Rattle.rewrite_core.specs.Pruned.{ArePruned}
 use Rattle.rewrite_core.specs.Rewriting.{StandAsTried}
 use Rattle.rewrite_core.specs.Trying.{all_tried, rewritten}
 use Rattle.words.specs.declared.command.Options.{Options}
+use Rattle.deliveries.specs.Limits.{most_schema, most_source}
 use Rattle.deliveries.specs.declared.plan.Plan.{Plan}
 use Rattle.plans.specs.Opening.{has_schema, has_program}
 use Rattle.deliveries.specs.Plan.{Given}
@@ -64,4 +65,4 @@ rewrite_of may o schema source = has_schema schema (λ tables. has_program table
 
 abbrev pub rewrite : Given → May → Options → List ℕ → List ℕ → Ends
 rewrite files may o schema source =
-    reads files schema 262144 (codes "schema") (λ s. reads files source 1048576 (codes "source") (λ t. rewrite_of may o s t))
+    reads files schema most_schema (codes "schema") (λ s. reads files source most_source (codes "source") (λ t. rewrite_of may o s t))

@@ -10,6 +10,7 @@ use Rattle.words.specs.declared.command.Options.{Options}
 use Rattle.plans.specs.Calls.{Call, Called, has_call}
 use Rattle.plans.specs.Lines.{fault_text}
 use Rattle.plans.specs.Opening.{has_program}
+use Rattle.deliveries.specs.Limits.{most_schema, most_source}
 use Rattle.deliveries.specs.Plan.{Given, refusal}
 use Rattle.plans.specs.Results.{output}
 use Rattle.deliveries.specs.Steps.{Ends, step, reads}
@@ -53,5 +54,5 @@ run_of o tables call source texts = has_program tables source (λ p. chooses o t
 
 abbrev pub run : Given → Options → List ℕ → List ℕ → List ℕ → Call → Ends
 run files o schema source folder call =
-    reads files schema 262144 (codes "schema") (λ s. reads files source 1048576 (codes "source") (λ t.
+    reads files schema most_schema (codes "schema") (λ s. reads files source most_source (codes "source") (λ t.
     over_tables files folder s (λ tables texts. run_of o tables call t texts)))

@@ -13,6 +13,7 @@ use Rattle.sql_ast.specs.Meaning.{Answered, query_answer}
 use Rattle.sql_ast.specs.Texts.{HasQuery}
 use Rattle.sql_ast.specs.Tree.{PlainQuery}
 use Rattle.sql_ast.specs.Valid.{params_in}
+use Rattle.deliveries.specs.Limits.{most_schema}
 use Rattle.deliveries.specs.declared.plan.Plan.{Plan}
 use Rattle.plans.specs.Calls.{word_refusal}
 use Rattle.plans.specs.Lines.{fault_text, nowhere}
@@ -58,4 +59,4 @@ sql_of tables query texts = has_query tables query (λ q. has_rows tables texts 
 
 abbrev pub sql : Given → List ℕ → List ℕ → List ℕ → Ends
 sql files schema folder query =
-    reads files schema 262144 (codes "schema") (λ s. over_tables files folder s (λ tables texts. sql_of tables query texts))
+    reads files schema most_schema (codes "schema") (λ s. over_tables files folder s (λ tables texts. sql_of tables query texts))

@@ -1,17 +1,19 @@
 -- What the top call promises: a plan that is due is written, and there is one.
-use Rattle.std.specs.Prelude.{◌≡◌, ◌≤◌, ◌⊎◌, ℕ, List, [], ◌++◌, IsSome}
+use Rattle.std.specs.Prelude.{◌≡◌, ◌≤◌, ◌⊎◌, ℕ, List, [], ◌∷◌, ◌++◌, IsSome, IfSome, Ok, Bool, true, false}
 use Rattle.std.specs.declared.option.Option.{Option}
 use Rattle.std.specs.Io.KnownBytes.{Appends}
+use Rattle.qbs_base.specs.declared.columns.Table.{Table}
 use Rattle.qbs_base.specs.declared.status.Status.{Status}
-use Rattle.files_sinks.specs.Outside.{AppendsPrefix}
 use Rattle.words.specs.declared.command.Command.{Command}
 use Rattle.words.specs.declared.command.Command.TheVariants as commands
 use Rattle.words.specs.Plain.{HasWords}
 use Rattle.deliveries.specs.declared.plan.Plan.{Plan}
-use Rattle.deliveries.specs.Deliver.{Change, Delivers}
-use Rattle.deliveries.specs.Plan.{Given}
-use Rattle.plans.specs.Tables.{IsTableFile}
-use Rattle.qbs.specs.Commands.{HasNoWords, program, IsDue}
+use Rattle.deliveries.specs.Deliver.{Change, Delivers, IsCut}
+use Rattle.deliveries.specs.Plan.{Given, read_fault}
+use Rattle.deliveries.specs.Reads.{Looks, OnlyReads}
+use Rattle.plans.specs.Tables.{IsTableFile, table_files}
+use Rattle.schema.specs.Schemas.{schema_of}
+use Rattle.qbs.specs.Commands.{is_built, HasNoWords, program, IsDue}
 use Rattle.verdicts.specs.Reports.{pruned_line}
 use Rattle.qbs.specs.Pruners.{May}
 
@@ -21,13 +23,11 @@ pub record IsDone (files : Given) (may : May) (words : List (List ℕ)) (out rep
   pub due : IsDue files may words plan
   pub delivered : Delivers plan out rep result
 
--- A write failed: on `out`, which has grown by a prefix of its text, and `rep` not at all, or on
--- `rep`, which has grown by a prefix of its lines, after all of the text.
+-- a write of a plan that is due failed
 pub record CutShort (files : Given) (may : May) (words : List (List ℕ)) (out rep : Change) : Type 0 where
   pub plan : Plan
   pub due : IsDue files may words plan
-  pub cut : (out.rose × AppendsPrefix out.old out.new plan.out × Appends rep.old rep.new [])
-      ⊎ (rep.rose × Appends out.old out.new plan.out × AppendsPrefix rep.old rep.new plan.rep)
+  pub cut : IsCut plan out rep
 
 -- ---- One plan
 
@@ -35,7 +35,7 @@ pub record CutShort (files : Given) (may : May) (words : List (List ℕ)) (out r
 abbrev pub MayRead : (List ℕ → Option (List ℕ)) → Command → List ℕ → Type 0
 MayRead told (commands.Rewrite o schema source) name = (name ≡ schema) ⊎ (name ≡ source)
 MayRead told (commands.Prove o schema source) name = (name ≡ schema) ⊎ (name ≡ source)
-MayRead told (commands.Check schema source bundle) name = (name ≡ schema) ⊎ (name ≡ source) ⊎ (name ≡ bundle)
+MayRead told (commands.Check o schema source bundle) name = (name ≡ schema) ⊎ (name ≡ source) ⊎ (name ≡ bundle)
 MayRead told (commands.Run o schema source folder method words) name = (name ≡ schema) ⊎ (name ≡ source) ⊎ IsTableFile told schema folder name
 MayRead told (commands.Sql schema folder query) name = (name ≡ schema) ⊎ IsTableFile told schema folder name
 MayRead told _ name = ⊥
@@ -43,7 +43,7 @@ MayRead told _ name = ⊥
 -- they are told, and none of the reads failed
 pub record AreTold (files : Given) (words : List (List ℕ)) : Type 0 where
   pub told : (c : Command) (name : List ℕ) → HasWords words c → MayRead files.told c name → IsSome (files.told name)
-  pub calm : files.rose → ⊥
+  pub calm : (name : List ℕ) → files.failed name → ⊥
 
 -- the same but for the number of dropped candidates
 pub record AreAlike (p q : Plan) : Type 0 where
@@ -69,6 +69,52 @@ pub record Refuses {D : Type 0} (words : List (List ℕ)) (old new : D) (result 
   pub only : result ≡ Status.Words → HasNoWords words
   pub all : HasNoWords words → (result ≡ Status.Words) ⊎ (result ≡ Status.NoMemory) ⊎ (result ≡ Status.WriteFault)
   pub unread : HasNoWords words → new ≡ old
+
+-- ---- What is read
+
+-- the plan is the refusal of a read of one of these names, which failed
+pub record ReadFailed (files : Given) (Names : List ℕ → Type 0) (plan : Plan) : Type 0 where
+  pub name : List ℕ
+  pub named : Names name
+  pub failed : files.failed name
+  pub due : plan ≡ read_fault name
+
+-- status 3 comes only where a read of a file that the words name failed, and the line names it
+abbrev pub HasReadFault : Given → List (List ℕ) → Change → Status → Type 0
+HasReadFault files words rep result =
+    result ≡ Status.ReadFault → (c : Command) × (plan : Plan) × HasWords words c × ReadFailed files (MayRead files.told c) plan × Appends rep.old rep.new plan.rep
+
+-- The tables of the schema in this file, or none where it has no schema, have their files read in order, behind these.
+pub record ReadsTables {D : Type 0} (l : Looks D) (front : List (List ℕ)) (folder schema : List ℕ) (old new : D) : Type 0 where
+  pub tables : List Table
+  pub of_schema : (tables ≡ []) ⊎ ((bytes : List ℕ) × IfSome (l.told old schema) (λ all. bytes ≡ all) × (schema_of bytes ≡ Ok tables))
+  pub reads : OnlyReads l (front ++ table_files folder tables) old new
+
+-- the same of the bytes of a schema
+pub record ReadsTablesOf {D : Type 0} (l : Looks D) (folder bytes : List ℕ) (old new : D) : Type 0 where
+  pub tables : List Table
+  pub of_schema : (tables ≡ []) ⊎ (schema_of bytes ≡ Ok tables)
+  pub reads : OnlyReads l (table_files folder tables) old new
+
+-- the files that a command that is built reads, in this order, each once
+abbrev pub ReadsBuilt : {D : Type 0} → Looks D → Command → D → D → Type 0
+ReadsBuilt l (commands.Rewrite o schema source) old new = OnlyReads l (schema ∷ source ∷ []) old new
+ReadsBuilt l (commands.Prove o schema source) old new = OnlyReads l (schema ∷ source ∷ []) old new
+ReadsBuilt l (commands.Check o schema source bundle) old new = OnlyReads l (schema ∷ source ∷ bundle ∷ []) old new
+ReadsBuilt l (commands.Run o schema source folder method words) old new = ReadsTables l (schema ∷ source ∷ []) folder schema old new
+ReadsBuilt l (commands.Sql schema folder query) old new = ReadsTables l (schema ∷ []) folder schema old new
+ReadsBuilt l _ old new = OnlyReads l [] old new
+
+-- none are read for what isn't built
+abbrev pub ReadsWhere : {D : Type 0} → Bool → Looks D → Command → D → D → Type 0
+ReadsWhere true l c old new = ReadsBuilt l c old new
+ReadsWhere false l c old new = OnlyReads l [] old new
+
+abbrev pub ReadsInOrder : {D : Type 0} → Looks D → Command → D → D → Type 0
+ReadsInOrder l c old new = ReadsWhere (is_built c) l c old new
+
+abbrev pub ReadsAsNamed : {D : Type 0} → Looks D → List (List ℕ) → D → D → Type 0
+ReadsAsNamed l words old new = (c : Command) → HasWords words c → ReadsInOrder l c old new
 
 -- ---- What stays
 

@@ -1,21 +1,21 @@
 // The command `check`.
-ghost use Rattle.std.specs.Prelude.{◌≡◌, ◌≤◌, IfOk, [], string_bytes};
-ghost use Rattle.files_sinks.specs.Outside.{Rose};
+ghost use Rattle.std.specs.Prelude.{◌≡◌, IfOk, [], string_bytes, ◌∷◌};
 ghost use Rattle.java_ast.specs.Reading.{program as plain_program};
 ghost use Rattle.java_mean.specs.WellTyped.{IsWellTyped};
 ghost use Rattle.java_types.specs.Texts.{read_by};
 ghost use Rattle.deriv_check.specs.Bundles.{entries_of};
 ghost use Rattle.deliveries.specs.Code.{OrMemory};
 ghost use Rattle.deliveries.specs.Plan.{given};
+ghost use Rattle.deliveries.specs.Reads.{looks, OnlyReads};
 ghost use Rattle.qbs.specs.Check.{accepted_line, refused_line, checks, check_of, check};
 
 use deliveries::Plan;
-use deliveries::fetch::{Stop, fetch, fetch_schema, fetch_source};
+use deliveries::fetch::{MOST_BUNDLE, Stop, fetch, fetch_schema, fetch_source};
 use deriv_check::Bundle;
+use files_sinks::Files;
 use java_types::Typed;
 use plans::opening::{open_bundle, open_program, open_schema};
 use qbs_base::{Bytes, Status, Text};
-use files_sinks::Files;
 use rewrite_core::{Checked, check_bundle};
 use schema::Schema;
 use std::alloc::{AllocError, Global};
@@ -28,13 +28,12 @@ pub fn plan_check<F: Files>(
     source: &Text,
     bundle: &Text,
 ) -> Result<Plan, Stop>
-    ensures same { F.told files.new ≡ F.told files.old }
-    ensures later { F.faults files.old ≤ F.faults files.new }
-    ensures due { OrMemory result (check (given F.told F.faults files.old files.new) schema.now source.now bundle.now) }
+    ensures reads { OnlyReads (looks F.told F.faults F.may_fail F.by_read) (schema.now ∷ source.now ∷ bundle.now ∷ []) files.old files.new }
+    ensures due { OrMemory result (check (given F.told F.faults F.may_fail files.old files.new) schema.now source.now bundle.now) }
 {
     let schema = fetch_schema(alloc, files, schema)?;
     let source = fetch_source(alloc, files, source)?;
-    let bundle = fetch(alloc, files, bundle, 16777216, "bundle")?;
+    let bundle = fetch(alloc, files, bundle, MOST_BUNDLE, "bundle")?;
     plan_texts(
         alloc,
         schema.as_slice(),

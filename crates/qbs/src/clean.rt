@@ -2,8 +2,8 @@
 ghost use Rattle.std.specs.Prelude.{◌≢◌};
 
 use crate::qbs_main;
-use qbs_base::{Status, Words};
 use files_sinks::{CleanFiles, CleanSink};
+use qbs_base::{Status, Words};
 use query_search::Pruner;
 use std::alloc::Global;
 

@@ -12,6 +12,7 @@ mod sql;
 mod top;
 
 pub use clean::qbs_main_over_clean_ends;
+pub use deliveries::fetch::MOST_SCHEMA;
 pub use deliveries::{Plan, refuse_for_memory};
 pub use top::qbs_main;
 pub use words::schema_word;

@@ -1,13 +1,14 @@
 // The command `prove`.
-ghost use Rattle.std.specs.Prelude.{◌≡◌, ◌≤◌, ◌++◌, IfOk, length};
+ghost use Rattle.std.specs.Prelude.{◌≡◌, ◌≤◌, ◌++◌, IfOk, length, ◌∷◌, []};
 ghost use Rattle.std.specs.List.{flat_map};
-ghost use Rattle.files_sinks.specs.Outside.{Rose};
 ghost use Rattle.java_ast.specs.Reading.{program as plain_program};
 ghost use Rattle.deriv_check.specs.Bundles.{entries_of};
 ghost use Rattle.deriv_check.specs.Texts.{bundle_text};
 ghost use Rattle.deliveries.specs.Code.{OrMemory};
 ghost use Rattle.plans.specs.Opening.{IsProgramOf};
+ghost use Rattle.deliveries.specs.Limits.{most_source};
 ghost use Rattle.deliveries.specs.Plan.{given};
+ghost use Rattle.deliveries.specs.Reads.{looks, OnlyReads};
 ghost use Rattle.verdicts.specs.Reports.{verdict_line, pruned_line};
 ghost use Rattle.qbs.specs.Pruners.{may};
 ghost use Rattle.qbs.specs.Prove.{Proves, prove_of, prove};
@@ -18,11 +19,11 @@ use crate::rewrite::{budget_of, size_of};
 use deliveries::Plan;
 use deliveries::fetch::{Stop, fetch_schema, fetch_source};
 use deriv_check::print_bundle;
+use files_sinks::Files;
 use java_types::Typed;
 use kernel_lang::{Candidate, KFragment, PruneAnswer};
 use plans::opening::{open_program, open_schema};
 use qbs_base::{Bytes, NoMemory, Status, Text};
-use files_sinks::Files;
 use query_search::Pruner;
 use rewrite_core::{Rewritten, rewrite};
 use schema::Schema;
@@ -40,9 +41,8 @@ pub fn plan_prove<F: Files>(
     pruners: &[Pruner],
 ) -> Result<Plan, Stop>
     requires { AreWithin options.now }
-    ensures same { F.told files.new ≡ F.told files.old }
-    ensures later { F.faults files.old ≤ F.faults files.new }
-    ensures due { OrMemory result (prove (given F.told F.faults files.old files.new)
+    ensures reads { OnlyReads (looks F.told F.faults F.may_fail F.by_read) (schema.now ∷ source.now ∷ []) files.old files.new }
+    ensures due { OrMemory result (prove (given F.told F.faults F.may_fail files.old files.new)
         (may (λ p. ⟦<Box<dyn Fn(&KFragment, &Candidate) -> PruneAnswer> as Fn(&KFragment, &Candidate) -> PruneAnswer>⟧.post p.call) pruners.now)
         options.now schema.now source.now) }
 {
@@ -66,7 +66,7 @@ fn plan_texts(
     pruners: &[Pruner],
 ) -> Result<Plan, Stop>
     requires within { AreWithin options.now }
-    requires short { length source.now ≤ 1048576 }
+    requires short { length source.now ≤ most_source }
     ensures { OrMemory result (prove_of
         (may (λ p. ⟦<Box<dyn Fn(&KFragment, &Candidate) -> PruneAnswer> as Fn(&KFragment, &Candidate) -> PruneAnswer>⟧.post p.call) pruners.now)
         options.now schema.now source.now) }
@@ -86,7 +86,7 @@ fn plan_program(
     pruners: &[Pruner],
 ) -> Result<Plan, Stop>
     requires within { AreWithin options.now }
-    requires short { length source.now ≤ 1048576 }
+    requires short { length source.now ≤ most_source }
     requires program { IsProgramOf schema.now source.now (plain_program typed.now.program) }
     ensures { OrMemory result (Proves
         (may (λ p. ⟦<Box<dyn Fn(&KFragment, &Candidate) -> PruneAnswer> as Fn(&KFragment, &Candidate) -> PruneAnswer>⟧.post p.call) pruners.now)

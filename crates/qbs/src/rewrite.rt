@@ -1,11 +1,11 @@
 // The command `rewrite`.
-ghost use Rattle.std.specs.Prelude.{◌≡◌, ◌≤◌, ◌++◌, IfOk};
+ghost use Rattle.std.specs.Prelude.{◌≡◌, ◌≤◌, ◌++◌, IfOk, ◌∷◌, []};
 ghost use Rattle.std.specs.List.{flat_map};
 ghost use Rattle.java_ast.specs.Reading.{program as plain_program};
-ghost use Rattle.files_sinks.specs.Outside.{Rose};
 ghost use Rattle.deliveries.specs.Code.{OrMemory};
 ghost use Rattle.plans.specs.Opening.{IsProgramOf};
 ghost use Rattle.deliveries.specs.Plan.{given};
+ghost use Rattle.deliveries.specs.Reads.{looks, OnlyReads};
 ghost use Rattle.verdicts.specs.Reports.{verdict_line, pruned_line};
 ghost use Rattle.qbs.specs.Pruners.{may};
 ghost use Rattle.qbs.specs.Rewrite.{size_of as size_in, budget_of as budget_in, Rewrites, rewrite_of, rewrite as rewrites};
@@ -13,11 +13,11 @@ ghost use Rattle.qbs.specs.Within.{AreWithin};
 
 use deliveries::Plan;
 use deliveries::fetch::{Stop, fetch_schema, fetch_source};
+use files_sinks::Files;
 use java_types::Typed;
 use kernel_lang::{Candidate, KFragment, PruneAnswer};
 use plans::opening::{open_program, open_schema};
 use qbs_base::{NoMemory, Status, Text};
-use files_sinks::Files;
 use query_search::Pruner;
 use rewrite_core::{Rewritten, rewrite};
 use schema::Schema;
@@ -35,9 +35,8 @@ pub fn plan_rewrite<F: Files>(
     pruners: &[Pruner],
 ) -> Result<Plan, Stop>
     requires { AreWithin options.now }
-    ensures same { F.told files.new ≡ F.told files.old }
-    ensures later { F.faults files.old ≤ F.faults files.new }
-    ensures due { OrMemory result (rewrites (given F.told F.faults files.old files.new)
+    ensures reads { OnlyReads (looks F.told F.faults F.may_fail F.by_read) (schema.now ∷ source.now ∷ []) files.old files.new }
+    ensures due { OrMemory result (rewrites (given F.told F.faults F.may_fail files.old files.new)
         (may (λ p. ⟦<Box<dyn Fn(&KFragment, &Candidate) -> PruneAnswer> as Fn(&KFragment, &Candidate) -> PruneAnswer>⟧.post p.call) pruners.now)
         options.now schema.now source.now) }
 {

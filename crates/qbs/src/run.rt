@@ -1,6 +1,5 @@
 // The command `run`.
-ghost use Rattle.std.specs.Prelude.{◌≡◌, ◌≤◌, IfOk, length};
-ghost use Rattle.files_sinks.specs.Outside.{Rose};
+ghost use Rattle.std.specs.Prelude.{◌≡◌, IfOk, length, ◌∷◌, []};
 ghost use Rattle.java_ast.specs.Reading.{program as plain_program};
 ghost use Rattle.java_interp.specs.Reached.{outcome_in};
 ghost use Rattle.java_mean.specs.WellTyped.{IsWellTyped};
@@ -9,16 +8,19 @@ ghost use Rattle.rewrite_core.specs.Output.{IsSourceOf};
 ghost use Rattle.rewrite_core.specs.Trying.{rewritten as rewritten_in};
 ghost use Rattle.deliveries.specs.Code.{OrMemory, one_run};
 ghost use Rattle.deliveries.specs.Plan.{given};
+ghost use Rattle.deliveries.specs.Reads.{looks};
 ghost use Rattle.plans.specs.Tables.{over_tables};
 ghost use Rattle.qbs.specs.Code.{call_in, run_called};
 ghost use Rattle.qbs.specs.Rewrite.{size_of as size_in, budget_of as budget_in, IsRewriting};
 ghost use Rattle.qbs.specs.Run.{run as runs, run_of, IsChosen, chooses, call_of, turns_of as turns_in, comes_to};
+ghost use Rattle.qbs.specs.Top.{ReadsTables, ReadsTablesOf};
 ghost use Rattle.qbs.specs.Within.{AreWithin};
 
 use crate::rewrite::{budget_of, size_of};
 use deliveries::Plan;
 use deliveries::choice::program_run;
-use deliveries::fetch::{Stop, fetch_schema, fetch_source, refused};
+use deliveries::fetch::{MOST_TABLES, Stop, fetch_schema, fetch_source, refused};
+use files_sinks::Files;
 use java_interp::{Outcome, run_method};
 use java_mean::TypeRule;
 use java_types::Typed;
@@ -28,7 +30,6 @@ use plans::opening::{open_program, open_schema};
 use plans::results::output;
 use plans::tables::{TableTexts, fetch_tables, load_tables};
 use qbs_base::{Bytes, NoMemory, Status, Table, Text, Words};
-use files_sinks::Files;
 use query_search::Pruner;
 use rewrite_core::rewrite;
 use schema::Schema;
@@ -54,9 +55,8 @@ pub fn plan_run<F: Files>(
     pruners: &[Pruner],
 ) -> Result<Plan, Stop>
     requires { AreWithin options.now }
-    ensures same { F.told files.new ≡ F.told files.old }
-    ensures later { F.faults files.old ≤ F.faults files.new }
-    ensures due { OrMemory result (runs (given F.told F.faults files.old files.new) options.now schema.now source.now folder.now (call_in call.now)) }
+    ensures reads { ReadsTables (looks F.told F.faults F.may_fail F.by_read) (schema.now ∷ source.now ∷ []) folder.now schema.now files.old files.new }
+    ensures due { OrMemory result (runs (given F.told F.faults F.may_fail files.old files.new) options.now schema.now source.now folder.now (call_in call.now)) }
 {
     let schema = fetch_schema(alloc, files, schema)?;
     let source = fetch_source(alloc, files, source)?;
@@ -84,15 +84,21 @@ fn plan_tables<F: Files>(
     pruners: &[Pruner],
 ) -> Result<Plan, Stop>
     requires { AreWithin options.now }
-    ensures same { F.told files.new ≡ F.told files.old }
-    ensures later { F.faults files.old ≤ F.faults files.new }
+    ensures reads { ReadsTablesOf (looks F.told F.faults F.may_fail F.by_read) folder.now schema.now files.old files.new }
     ensures due { OrMemory result (
-        over_tables (given F.told F.faults files.old files.new) folder.now schema.now (λ tables texts.
+        over_tables (given F.told F.faults F.may_fail files.old files.new) folder.now schema.now (λ tables texts.
         run_of options.now tables (call_in call.now) source.now texts)) }
 {
     let schema = open_schema(alloc, schema)?;
     let mut texts = TableTexts::new(alloc);
-    fetch_tables(schema.tables(), alloc, files, folder, 33554432, &mut texts)?;
+    fetch_tables(
+        schema.tables(),
+        alloc,
+        files,
+        folder,
+        MOST_TABLES,
+        &mut texts,
+    )?;
     plan_source(
         alloc,
         options,

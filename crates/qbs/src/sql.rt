@@ -1,25 +1,26 @@
 // The command `sql`.
-ghost use Rattle.std.specs.Prelude.{◌≡◌, ◌≤◌, Some, length};
-ghost use Rattle.files_sinks.specs.Outside.{Rose};
+ghost use Rattle.std.specs.Prelude.{◌≡◌, Some, length, ◌∷◌, []};
 ghost use Rattle.java_mean.specs.Rules.{has_order as query_has_order};
 ghost use Rattle.java_types.specs.Texts.{read_by};
 ghost use Rattle.sql_ast.specs.Reading.{query as query_of};
 ghost use Rattle.sql_exec.specs.Answered.{answered as meaning_of, IsAnswerable};
 ghost use Rattle.deliveries.specs.Code.{OrMemory};
 ghost use Rattle.deliveries.specs.Plan.{given};
+ghost use Rattle.deliveries.specs.Reads.{looks};
 ghost use Rattle.plans.specs.Tables.{over_tables};
 ghost use Rattle.qbs.specs.Code.{answer_of, answer_ordered};
 ghost use Rattle.qbs.specs.Sql.{sql as sqls, sql_of, answer_plan};
+ghost use Rattle.qbs.specs.Top.{ReadsTables, ReadsTablesOf};
 
 use deliveries::Plan;
-use deliveries::fetch::{Stop, fetch_schema};
+use deliveries::fetch::{MOST_TABLES, Stop, fetch_schema};
+use files_sinks::Files;
 use java_mean::{RunFault, TypeRule};
 use plans::lines::{fault_refused, nowhere, word_refused};
 use plans::opening::{open_query, open_schema};
 use plans::results::output;
 use plans::tables::{TableTexts, fetch_tables, load_tables};
 use qbs_base::{Scalars, Table, Text, Ty, Value};
-use files_sinks::Files;
 use schema::Schema;
 use sql_ast::{Query, order_complete};
 use sql_exec::{Answer, answer_indexed};
@@ -33,9 +34,8 @@ pub fn plan_sql<F: Files>(
     folder: &Text,
     query: &Text,
 ) -> Result<Plan, Stop>
-    ensures same { F.told files.new ≡ F.told files.old }
-    ensures later { F.faults files.old ≤ F.faults files.new }
-    ensures due { OrMemory result (sqls (given F.told F.faults files.old files.new) schema.now folder.now query.now) }
+    ensures reads { ReadsTables (looks F.told F.faults F.may_fail F.by_read) (schema.now ∷ []) folder.now schema.now files.old files.new }
+    ensures due { OrMemory result (sqls (given F.told F.faults F.may_fail files.old files.new) schema.now folder.now query.now) }
 {
     let schema = fetch_schema(alloc, files, schema)?;
     plan_tables(alloc, files, schema.as_slice(), folder, query)
@@ -49,14 +49,20 @@ fn plan_tables<F: Files>(
     folder: &Text,
     query: &Text,
 ) -> Result<Plan, Stop>
-    ensures same { F.told files.new ≡ F.told files.old }
-    ensures later { F.faults files.old ≤ F.faults files.new }
+    ensures reads { ReadsTablesOf (looks F.told F.faults F.may_fail F.by_read) folder.now schema.now files.old files.new }
     ensures due { OrMemory result (
-        over_tables (given F.told F.faults files.old files.new) folder.now schema.now (λ tables texts. sql_of tables query.now texts)) }
+        over_tables (given F.told F.faults F.may_fail files.old files.new) folder.now schema.now (λ tables texts. sql_of tables query.now texts)) }
 {
     let schema = open_schema(alloc, schema)?;
     let mut texts = TableTexts::new(alloc);
-    fetch_tables(schema.tables(), alloc, files, folder, 33554432, &mut texts)?;
+    fetch_tables(
+        schema.tables(),
+        alloc,
+        files,
+        folder,
+        MOST_TABLES,
+        &mut texts,
+    )?;
     plan_query(alloc, &schema, &texts, query)
 }
 

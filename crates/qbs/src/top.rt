@@ -1,22 +1,18 @@
 // The top call.
 ghost use Rattle.std.specs.Prelude.{◌≡◌, ◌≤◌, []};
 ghost use Rattle.std.specs.Io.KnownBytes.{Appends};
-ghost use Rattle.files_sinks.specs.Outside.{Rose};
 ghost use Rattle.qbs_base.specs.Status.{KeepsOutput};
 ghost use Rattle.deliveries.specs.Code.{OrMemory};
 ghost use Rattle.deliveries.specs.Deliver.{change};
 ghost use Rattle.deliveries.specs.Plan.{given};
-ghost use Rattle.qbs.specs.Code.{call_in};
-ghost use Rattle.qbs.specs.Commands.{HasNoWords, program, command as command_ends, without_store};
+ghost use Rattle.deliveries.specs.Reads.{looks};
+ghost use Rattle.qbs.specs.Commands.{HasNoWords, program, command as command_ends, built, is_built as built_with, is_plain as plain_options};
 ghost use Rattle.qbs.specs.Complete.{IsComplete};
 ghost use Rattle.qbs.specs.Evidence.{HasProof, HasCheck};
 ghost use Rattle.qbs.specs.Headline.{HasHeadline, DropsNone};
 ghost use Rattle.qbs.specs.Pruners.{may};
-ghost use Rattle.qbs.specs.Prove.{prove};
-ghost use Rattle.qbs.specs.Rewrite.{rewrite};
-ghost use Rattle.qbs.specs.Run.{run};
-ghost use Rattle.qbs.specs.Top.{IsDone, CutShort, HasOnePlan, Refuses, IsSame};
-ghost use Rattle.qbs.specs.Within.{AreWithin, IsWithin};
+ghost use Rattle.qbs.specs.Top.{IsDone, CutShort, HasOnePlan, HasReadFault, ReadsAsNamed, ReadsBuilt, ReadsInOrder, Refuses, IsSame};
+ghost use Rattle.qbs.specs.Within.{IsWithin};
 
 use crate::check::plan_check;
 use crate::make::plan_make;
@@ -27,9 +23,9 @@ use crate::sql::plan_sql;
 use deliveries::Plan;
 use deliveries::deliver::{deliver, deliver_plan};
 use deliveries::fetch::{Stop, refused};
+use files_sinks::{Files, Sink};
 use kernel_lang::{Candidate, KFragment, PruneAnswer};
 use qbs_base::{Status, Text, Words};
-use files_sinks::{Files, Sink};
 use query_search::Pruner;
 use std::alloc::Global;
 use words::{Command, Options, read_words};
@@ -46,45 +42,47 @@ pub fn qbs_main<F: Files, O: Sink, E: Sink>(
     pruners: &[Pruner],
 ) -> Status
     // It ends with a plan that is due, and writes it, first to `out` and then to `rep`.
-    ensures done { IsDone (given F.told F.faults files.old files.new)
+    ensures done { IsDone (given F.told F.faults F.may_fail files.old files.new)
         (may (λ p. ⟦<Box<dyn Fn(&KFragment, &Candidate) -> PruneAnswer> as Fn(&KFragment, &Candidate) -> PruneAnswer>⟧.post p.call) pruners.now)
-        words.now (change O.told O.faults out.old out.new) (change E.told E.faults rep.old rep.new) result }
+        words.now (change O.told O.faults O.by_write out.old out.new) (change E.told E.faults E.by_write rep.old rep.new) result }
 
     // Where all that is read is told, the plan that is due is one but for the number of dropped candidates.
-    ensures one_plan { HasOnePlan (given F.told F.faults files.old files.new)
+    ensures one_plan { HasOnePlan (given F.told F.faults F.may_fail files.old files.new)
         (may (λ p. ⟦<Box<dyn Fn(&KFragment, &Candidate) -> PruneAnswer> as Fn(&KFragment, &Candidate) -> PruneAnswer>⟧.post p.call) pruners.now)
         words.now }
 
     // Where `rewrite` ends well, what is written does what the program read does, and each loop left stands as it was tried. All bytes of the
     // source outside of what gave way stay, if that is a text of the program that is left.
-    ensures headline { HasHeadline (given F.told F.faults files.old files.new)
+    ensures headline { HasHeadline (given F.told F.faults F.may_fail files.old files.new)
         (may (λ p. ⟦<Box<dyn Fn(&KFragment, &Candidate) -> PruneAnswer> as Fn(&KFragment, &Candidate) -> PruneAnswer>⟧.post p.call) pruners.now)
-        words.now (change O.told O.faults out.old out.new) (change E.told E.faults rep.old rep.new) result }
+        words.now (change O.told O.faults O.by_write out.old out.new) (change E.told E.faults E.by_write rep.old rep.new) result }
 
     // Where `prove` ends well, what is written is the bundle of the loops that gave way, and `check` accepts it.
-    ensures proved { HasProof (given F.told F.faults files.old files.new)
+    ensures proved { HasProof (given F.told F.faults F.may_fail files.old files.new)
         (may (λ p. ⟦<Box<dyn Fn(&KFragment, &Candidate) -> PruneAnswer> as Fn(&KFragment, &Candidate) -> PruneAnswer>⟧.post p.call) pruners.now)
-        words.now (change O.told O.faults out.old out.new) (change E.told E.faults rep.old rep.new) result }
+        words.now (change O.told O.faults O.by_write out.old out.new) (change E.told E.faults E.by_write rep.old rep.new) result }
 
     // Where `check` ends well, all entries of the bundle read are accepted, and the program that they make does what the program read does.
     // Where it refuses, the line names the first entry that isn't accepted.
-    ensures checked { HasCheck (given F.told F.faults files.old files.new) words.now (change O.told O.faults out.old out.new) (change E.told E.faults rep.old rep.new) result }
+    ensures checked { HasCheck (given F.told F.faults F.may_fail files.old files.new) words.now (change O.told O.faults O.by_write out.old out.new) (change E.told E.faults E.by_write rep.old rep.new) result }
 
     // Where words are plain and all that is read is right, it ends as the command may end then.
-    ensures complete { IsComplete (given F.told F.faults files.old files.new) words.now result }
+    ensures complete { IsComplete (given F.told F.faults F.may_fail files.old files.new) words.now result }
 
     // With no pruners no candidate is dropped.
-    ensures unpruned { pruners.now ≡ [] → DropsNone words.now (change E.told E.faults rep.old rep.new) result }
+    ensures unpruned { pruners.now ≡ [] → DropsNone words.now (change E.told E.faults E.by_write rep.old rep.new) result }
 
     // Words that aren't plain are refused, and nothing is read.
     ensures words { Refuses words.now files.old files.new result }
-    // Status 3 comes only where the count of the files' faults rose.
-    ensures read { result ≡ Status.ReadFault → Rose (F.faults files.old) (F.faults files.new) }
+    // Status 3 comes only where a read of a file that the words name failed, and the line names it.
+    ensures read { HasReadFault (given F.told F.faults F.may_fail files.old files.new) words.now (change E.told E.faults E.by_write rep.old rep.new) result }
+    // Of files those alone are read that the command names, in its order, each once, and none for what isn't built.
+    ensures reads { ReadsAsNamed (looks F.told F.faults F.may_fail F.by_read) words.now files.old files.new }
     ensures unchanged { KeepsOutput result → Appends (O.told out.old) (O.told out.new) [] }
     ensures cut_short { result ≡ Status.WriteFault
-        → CutShort (given F.told F.faults files.old files.new)
+        → CutShort (given F.told F.faults F.may_fail files.old files.new)
         (may (λ p. ⟦<Box<dyn Fn(&KFragment, &Candidate) -> PruneAnswer> as Fn(&KFragment, &Candidate) -> PruneAnswer>⟧.post p.call) pruners.now)
-        words.now (change O.told O.faults out.old out.new) (change E.told E.faults rep.old rep.new) }
+        words.now (change O.told O.faults O.by_write out.old out.new) (change E.told E.faults E.by_write rep.old rep.new) }
     ensures same { IsSame F.told F.faults files.old files.new }
 {
     carry_out(alloc, words, files, out, rep, pruners)
@@ -98,10 +96,11 @@ fn carry_out<F: Files, O: Sink, E: Sink>(
     rep: &mut E,
     pruners: &[Pruner],
 ) -> Status
-    ensures done { IsDone (given F.told F.faults files.old files.new)
+    ensures done { IsDone (given F.told F.faults F.may_fail files.old files.new)
         (may (λ p. ⟦<Box<dyn Fn(&KFragment, &Candidate) -> PruneAnswer> as Fn(&KFragment, &Candidate) -> PruneAnswer>⟧.post p.call) pruners.now)
-        words.now (change O.told O.faults out.old out.new) (change E.told E.faults rep.old rep.new) result }
+        words.now (change O.told O.faults O.by_write out.old out.new) (change E.told E.faults E.by_write rep.old rep.new) result }
     ensures unread { HasNoWords words.now → files.new ≡ files.old }
+    ensures reads { ReadsAsNamed (looks F.told F.faults F.may_fail F.by_read) words.now files.old files.new }
     ensures held { F.told files.new ≡ F.told files.old }
     ensures later { F.faults files.old ≤ F.faults files.new }
 {
@@ -113,17 +112,18 @@ fn carry_out<F: Files, O: Sink, E: Sink>(
 }
 
 // What is due for the words.
-#[tactic(auto, using(crate::proofs::Worded::in_range, crate::proofs::Worded::command_due, crate::proofs::Worded::words_due, crate::proofs::Worded::words_read))]
+#[tactic(auto, using(crate::proofs::Worded::in_range, crate::proofs::Worded::command_due, crate::proofs::Worded::words_due))]
 fn plan_of<F: Files>(
     alloc: Global,
     words: &Words,
     files: &mut F,
     pruners: &[Pruner],
 ) -> Result<Plan, Stop>
-    ensures due { OrMemory result (program (given F.told F.faults files.old files.new)
+    ensures due { OrMemory result (program (given F.told F.faults F.may_fail files.old files.new)
         (may (λ p. ⟦<Box<dyn Fn(&KFragment, &Candidate) -> PruneAnswer> as Fn(&KFragment, &Candidate) -> PruneAnswer>⟧.post p.call) pruners.now)
         words.now) }
     ensures unread { HasNoWords words.now → files.new ≡ files.old }
+    ensures reads { ReadsAsNamed (looks F.told F.faults F.may_fail F.by_read) words.now files.old files.new }
     ensures held { F.told files.new ≡ F.told files.old }
     ensures later { F.faults files.old ≤ F.faults files.new }
 {
@@ -133,75 +133,29 @@ fn plan_of<F: Files>(
     }
 }
 
-// What is due for `rewrite`.
-fn plan_rewrite_if_built<F: Files>(
-    alloc: Global,
-    files: &mut F,
-    options: &Options,
-    schema: &Text,
-    source: &Text,
-    pruners: &[Pruner],
-) -> Result<Plan, Stop>
-    requires { AreWithin options.now }
-    ensures due { OrMemory result (without_store options.now.store (rewrite (given F.told F.faults files.old files.new)
-        (may (λ p. ⟦<Box<dyn Fn(&KFragment, &Candidate) -> PruneAnswer> as Fn(&KFragment, &Candidate) -> PruneAnswer>⟧.post p.call) pruners.now)
-        options.now schema.now source.now)) }
-    ensures held { F.told files.new ≡ F.told files.old }
-    ensures later { F.faults files.old ≤ F.faults files.new }
+// Whether a command is built, with its options.
+fn is_built(command: &Command) -> bool
+    ensures { result ≡ built_with command.now }
 {
-    match &options.store {
-        Some(_) => Err(refused(alloc, Status::NotYet, "qbs: not yet", "")),
-        None => plan_rewrite(alloc, files, options, schema, source, pruners),
+    match command {
+        Command::Rewrite { options, .. } => is_plain(options),
+        Command::Prove { options, .. } => is_plain(options),
+        Command::Check { options, .. } => is_plain(options),
+        Command::Run { .. } => true,
+        Command::Sql { .. } => true,
+        Command::Make { .. } => true,
+        _ => false,
     }
 }
 
-// What is due for `prove`.
-fn plan_prove_if_built<F: Files>(
-    alloc: Global,
-    files: &mut F,
-    options: &Options,
-    schema: &Text,
-    source: &Text,
-    pruners: &[Pruner],
-) -> Result<Plan, Stop>
-    requires { AreWithin options.now }
-    ensures due { OrMemory result (without_store options.now.store (prove (given F.told F.faults files.old files.new)
-        (may (λ p. ⟦<Box<dyn Fn(&KFragment, &Candidate) -> PruneAnswer> as Fn(&KFragment, &Candidate) -> PruneAnswer>⟧.post p.call) pruners.now)
-        options.now schema.now source.now)) }
-    ensures held { F.told files.new ≡ F.told files.old }
-    ensures later { F.faults files.old ≤ F.faults files.new }
+fn is_plain(options: &Options) -> bool
+    ensures { result ≡ plain_options options.now }
 {
-    match &options.store {
-        Some(_) => Err(refused(alloc, Status::NotYet, "qbs: not yet", "")),
-        None => plan_prove(alloc, files, options, schema, source, pruners),
-    }
-}
-
-// What is due for `run`.
-fn plan_run_if_built<F: Files>(
-    alloc: Global,
-    files: &mut F,
-    options: &Options,
-    schema: &Text,
-    source: &Text,
-    folder: &Text,
-    call: &Asked,
-    pruners: &[Pruner],
-) -> Result<Plan, Stop>
-    requires { AreWithin options.now }
-    ensures due { OrMemory result (without_store options.now.store (run (given F.told F.faults files.old files.new)
-        options.now schema.now source.now folder.now (call_in call.now))) }
-    ensures held { F.told files.new ≡ F.told files.old }
-    ensures later { F.faults files.old ≤ F.faults files.new }
-{
-    match &options.store {
-        Some(_) => Err(refused(alloc, Status::NotYet, "qbs: not yet", "")),
-        None => plan_run(alloc, files, options, schema, source, folder, call, pruners),
-    }
+    options.store.is_none() && options.view.is_none()
 }
 
 // What is due for a command.
-#[tactic(auto, using(crate::proofs::Worded::sql_due, crate::proofs::Worded::make_due, crate::proofs::Worded::make_within))]
+#[tactic(auto, using(crate::proofs::Worded::built_due, crate::proofs::Worded::unbuilt_due, crate::proofs::Worded::built_read, crate::proofs::Worded::unbuilt_read))]
 fn plan_command<F: Files>(
     alloc: Global,
     files: &mut F,
@@ -209,27 +163,47 @@ fn plan_command<F: Files>(
     pruners: &[Pruner],
 ) -> Result<Plan, Stop>
     requires { IsWithin command.now }
-    ensures due { OrMemory result (command_ends (given F.told F.faults files.old files.new)
+    ensures due { OrMemory result (command_ends (given F.told F.faults F.may_fail files.old files.new)
         (may (λ p. ⟦<Box<dyn Fn(&KFragment, &Candidate) -> PruneAnswer> as Fn(&KFragment, &Candidate) -> PruneAnswer>⟧.post p.call) pruners.now)
         command.now) }
-    ensures held { F.told files.new ≡ F.told files.old }
-    ensures later { F.faults files.old ≤ F.faults files.new }
+    ensures reads { ReadsInOrder (looks F.told F.faults F.may_fail F.by_read) command.now files.old files.new }
+{
+    if !is_built(command) {
+        return Err(refused(alloc, Status::NotYet, "qbs: not yet", ""));
+    }
+    plan_built(alloc, files, command, pruners)
+}
+
+// What is due for a command that is built.
+#[tactic(auto, using(crate::proofs::Worded::make_within))]
+fn plan_built<F: Files>(
+    alloc: Global,
+    files: &mut F,
+    command: &Command,
+    pruners: &[Pruner],
+) -> Result<Plan, Stop>
+    requires { IsWithin command.now }
+    ensures due { OrMemory result (built (given F.told F.faults F.may_fail files.old files.new)
+        (may (λ p. ⟦<Box<dyn Fn(&KFragment, &Candidate) -> PruneAnswer> as Fn(&KFragment, &Candidate) -> PruneAnswer>⟧.post p.call) pruners.now)
+        command.now) }
+    ensures reads { ReadsBuilt (looks F.told F.faults F.may_fail F.by_read) command.now files.old files.new }
 {
     match command {
         Command::Rewrite {
             options,
             schema,
             source,
-        } => plan_rewrite_if_built(alloc, files, options, schema, source, pruners),
+        } => plan_rewrite(alloc, files, options, schema, source, pruners),
         Command::Prove {
             options,
             schema,
             source,
-        } => plan_prove_if_built(alloc, files, options, schema, source, pruners),
+        } => plan_prove(alloc, files, options, schema, source, pruners),
         Command::Check {
             schema,
             source,
             bundle,
+            ..
         } => plan_check(alloc, files, schema, source, bundle),
         Command::Make { count } => plan_make(alloc, *count),
         Command::Sql {
@@ -249,7 +223,7 @@ fn plan_command<F: Files>(
                 method,
                 words: arguments,
             };
-            plan_run_if_built(
+            plan_run(
                 alloc, files, options, schema, source, folder, &call, pruners,
             )
         }

@@ -9,10 +9,10 @@ ghost use Rattle.kernel_lang.specs.Whole.{fragment_of};
 
 mod read_once;
 
-use kernel_lang::{Candidate, KFragment, PruneAnswer};
-use qbs::{qbs_main, refuse_for_memory, schema_word};
-use qbs_base::{Status, Text, Words};
 use files_sinks::{Files, ReadAnswer, RealFiles, RealSink, Sink};
+use kernel_lang::{Candidate, KFragment, PruneAnswer};
+use qbs::{MOST_SCHEMA, qbs_main, refuse_for_memory, schema_word};
+use qbs_base::{Status, Text, Words};
 use query_search::{Call, Pruner};
 use read_once::ReadOnce;
 use schema::Schema;
@@ -81,13 +81,14 @@ fn main(rt: HostRuntime) -> ExitCode {
     };
     let mut files = RealFiles::new(&rt);
     let mut out = RealSink::new(rt.stdout());
-    let status = match schema_word(&words) {
-        None => qbs_main(alloc, &words, &mut files, &mut out, &mut rep, &[]),
-        Some(name) => {
+    let status = match schema_word(alloc, &words) {
+        Err(_) => refuse_for_memory(&mut rep),
+        Ok(None) => qbs_main(alloc, &words, &mut files, &mut out, &mut rep, &[]),
+        Ok(Some(name)) => {
             // (the schema may come through a pipe, and is read once)
-            let answer = files.read_all(alloc, name, 262144);
+            let answer = files.read_all(alloc, &name, MOST_SCHEMA);
             let schema = schema_of(alloc, &answer);
-            let mut files = ReadOnce::new(files, name, answer);
+            let mut files = ReadOnce::new(files, &name, answer);
             match schema {
                 Some(schema) => pruned(alloc, &words, schema, &mut files, &mut out, &mut rep),
                 None => qbs_main(alloc, &words, &mut files, &mut out, &mut rep, &[]),

@@ -1,10 +1,10 @@
 // Files of which one was read already, and isn't read again: what comes through a pipe comes once.
-ghost use Rattle.std.specs.Prelude.{◌≢◌};
+ghost use Rattle.std.specs.Prelude.{◌≡◌, ◌≢◌, ◌⊎◌};
 ghost use Rattle.std.specs.declared.option.Option.TheVariants.{None};
 ghost use Rattle.files_sinks.specs.Outside.{Reads};
 
-use qbs_base::{Bytes, Text};
 use files_sinks::{Files, ReadAnswer};
+use qbs_base::{Bytes, Text};
 use std::alloc::Global;
 
 // What was read of a file, but for a failure.
@@ -58,6 +58,10 @@ impl<F: Files> Files for ReadOnce<'_, F> {
     ghost told = { λ s name. None };
 
     ghost faults = { λ s. F.faults s.files };
+
+    ghost may_fail = { λ s name. F.may_fail s.files name };
+
+    ghost by_read = { λ s name t. (t.files ≡ s.files) ⊎ F.by_read s.files name t.files };
 
     fn read_all(&mut self, alloc: Global, name: &Text, limit: u64) -> ReadAnswer {
         if *name == *self.name {

@@ -2,8 +2,8 @@
 use crate::escapes::put_line;
 use crate::places::{field, text_of};
 use crate::repeats::count_of;
-use qbs_base::{Bytes, NoMemory, Text};
 use files_sinks::{CleanFiles, Files, MemFiles, MemSink, ReadAnswer, Sink, WriteAnswer};
+use qbs_base::{Bytes, NoMemory, Text};
 use std::alloc::Global;
 
 fn put_bytes(out: &mut String, alloc: Global, bytes: &[u8]) -> Result<(), NoMemory> {

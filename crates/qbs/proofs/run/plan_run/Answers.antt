@@ -1,12 +1,13 @@
-use Rattle.std.proofs.Common.{List, ℕ, subst, ◌∙◌}
+use Rattle.std.proofs.Common.{List, ℕ, subst, ◌∙◌, [], ◌∷◌}
 use Rattle.std.proofs.lemmas.Result.{err_from_is_err_and}
-use Rattle.files_sinks.specs.Outside.{Rose}
 use Rattle.deliveries.specs.Code.{OrMemory}
-use Rattle.deliveries.specs.Plan.{given}
+use Rattle.deliveries.specs.Plan.{Failed, given}
 use Rattle.plans.specs.Tables.{over_tables}
-use Rattle.plans.proofs.Fetched.{rose_later, told_later}
+use Rattle.deliveries.specs.Reads.{looks}
+use Rattle.plans.proofs.Fetched.{failed_later, told_later}
 use Rattle.qbs.specs.Code.{call_in}
 use Rattle.qbs.specs.Run.{run_of}
+use Rattle.qbs.proofs.Ordered.{one_read, two_read, two_then_tables}
 use Rattle.qbs.proofs.Planned.{first_unread, second_unread, both_read, over_there}
 use Rattle.qbs.proofs.run.plan_run.Goals as goal
 
@@ -14,28 +15,46 @@ pub returns-in_err-schema-clause-due : goal.returns-in_err-schema-clause-due
 returns-in_err-schema-clause-due g c =
     let p = err_from_is_err_and c.from_residual.result c.from_residual.ensures.1 in
     rw (p.1, p.2)
-    (first_unread (given g.F.Files.told g.F.Files.faults c.args.files.now c.fetch_schema.new.files) c.args.schema.now c.args.source.now
-    (λ s t. over_tables (given g.F.Files.told g.F.Files.faults c.args.files.now c.fetch_schema.new.files) c.args.folder.now s (λ tables texts. run_of c.args.options.now tables (call_in c.args.call.now) t texts)) c.in_err-schema.field-0.0 c.in_err-schema.ensures.read)
+    (first_unread (given g.F.Files.told g.F.Files.faults g.F.Files.may_fail c.args.files.now c.fetch_schema.new.files) c.args.schema.now c.args.source.now
+    (λ s t. over_tables (given g.F.Files.told g.F.Files.faults g.F.Files.may_fail c.args.files.now c.fetch_schema.new.files) c.args.folder.now s (λ tables texts. run_of c.args.options.now tables (call_in c.args.call.now) t texts)) c.in_err-schema.field-0.0 c.in_err-schema.ensures.read)
 
 pub returns-in_err-source-clause-due : goal.returns-in_err-source-clause-due
 returns-in_err-source-clause-due g c =
     let p = err_from_is_err_and c.from_residual-in_err-source.result c.from_residual-in_err-source.ensures.1 in
     rw (p.1, p.2)
-    (second_unread (g.F.Files.told c.args.files.now) (g.F.Files.told c.fetch_schema.new.files) (Rose (g.F.Files.faults c.args.files.now) (g.F.Files.faults c.fetch_source.new.files)) (Rose (g.F.Files.faults c.fetch_schema.new.files) (g.F.Files.faults c.fetch_source.new.files))
+    (second_unread (g.F.Files.told c.args.files.now) (g.F.Files.told c.fetch_schema.new.files) (Failed g.F.Files.faults g.F.Files.may_fail c.args.files.now c.fetch_source.new.files) (Failed g.F.Files.faults g.F.Files.may_fail c.fetch_schema.new.files c.fetch_source.new.files)
     c.args.schema.now c.args.source.now
-    (λ s t. over_tables (given g.F.Files.told g.F.Files.faults c.args.files.now c.fetch_source.new.files) c.args.folder.now s (λ tables texts. run_of c.args.options.now tables (call_in c.args.call.now) t texts)) c.in_ok-schema.schema c.in_err-source.field-0.0
-    c.fetch_schema.ensures.same (rose_later (g.F.Files.faults c.args.files.now) (g.F.Files.faults c.fetch_schema.new.files) (g.F.Files.faults c.fetch_source.new.files) c.fetch_schema.ensures.later)
+    (λ s t. over_tables (given g.F.Files.told g.F.Files.faults g.F.Files.may_fail c.args.files.now c.fetch_source.new.files) c.args.folder.now s (λ tables texts. run_of c.args.options.now tables (call_in c.args.call.now) t texts)) c.in_ok-schema.schema c.in_err-source.field-0.0
+    c.fetch_schema.ensures.same (failed_later g.F.Files.faults g.F.Files.may_fail c.args.files.now c.fetch_schema.new.files c.fetch_source.new.files c.fetch_schema.ensures.later c.fetch_schema.ensures.fewer)
     c.in_ok-schema.ensures.read c.in_err-source.ensures.read)
 
 pub returns-clause-due : goal.returns-clause-due
 returns-clause-due g c =
-    let later = rose_later (g.F.Files.faults c.args.files.now) (g.F.Files.faults c.fetch_source.new.files) (g.F.Files.faults c.plan_tables.new.files) (told_later (g.F.Files.faults c.args.files.now) (g.F.Files.faults c.fetch_schema.new.files) (g.F.Files.faults c.fetch_source.new.files) c.fetch_schema.ensures.later c.fetch_source.ensures.later) in
-    both_read (g.F.Files.told c.args.files.now) (g.F.Files.told c.fetch_schema.new.files) (Rose (g.F.Files.faults c.args.files.now) (g.F.Files.faults c.plan_tables.new.files)) (Rose (g.F.Files.faults c.fetch_schema.new.files) (g.F.Files.faults c.plan_tables.new.files))
+    let later = failed_later g.F.Files.faults g.F.Files.may_fail c.args.files.now c.fetch_source.new.files c.plan_tables.new.files (told_later (g.F.Files.faults c.args.files.now) (g.F.Files.faults c.fetch_schema.new.files) (g.F.Files.faults c.fetch_source.new.files) c.fetch_schema.ensures.later c.fetch_source.ensures.later) (λ name h. c.fetch_schema.ensures.fewer name (c.fetch_source.ensures.fewer name h)) in
+    both_read (g.F.Files.told c.args.files.now) (g.F.Files.told c.fetch_schema.new.files) (Failed g.F.Files.faults g.F.Files.may_fail c.args.files.now c.plan_tables.new.files) (Failed g.F.Files.faults g.F.Files.may_fail c.fetch_schema.new.files c.plan_tables.new.files)
     c.args.schema.now c.args.source.now
-    (λ s t. over_tables (given g.F.Files.told g.F.Files.faults c.args.files.now c.plan_tables.new.files) c.args.folder.now s (λ tables texts. run_of c.args.options.now tables (call_in c.args.call.now) t texts)) c.in_ok-schema.schema c.in_ok-source.source c.plan_tables.result
+    (λ s t. over_tables (given g.F.Files.told g.F.Files.faults g.F.Files.may_fail c.args.files.now c.plan_tables.new.files) c.args.folder.now s (λ tables texts. run_of c.args.options.now tables (call_in c.args.call.now) t texts)) c.in_ok-schema.schema c.in_ok-source.source c.plan_tables.result
     c.fetch_schema.ensures.same c.in_ok-schema.ensures.read c.in_ok-source.ensures.read
-    (over_there (g.F.Files.told c.args.files.now) (g.F.Files.told c.fetch_source.new.files) (Rose (g.F.Files.faults c.args.files.now) (g.F.Files.faults c.plan_tables.new.files)) (Rose (g.F.Files.faults c.fetch_source.new.files) (g.F.Files.faults c.plan_tables.new.files))
+    (over_there (g.F.Files.told c.args.files.now) (g.F.Files.told c.fetch_source.new.files) (Failed g.F.Files.faults g.F.Files.may_fail c.args.files.now c.plan_tables.new.files) (Failed g.F.Files.faults g.F.Files.may_fail c.fetch_source.new.files c.plan_tables.new.files)
     c.args.folder.now c.in_ok-schema.schema (λ tables texts. run_of c.args.options.now tables (call_in c.args.call.now) c.in_ok-source.source texts) c.plan_tables.result
     (c.fetch_source.ensures.same ∙ c.fetch_schema.ensures.same) later
-    (subst (λ (t : List ℕ). OrMemory c.plan_tables.result (over_tables (given g.F.Files.told g.F.Files.faults c.fetch_source.new.files c.plan_tables.new.files) c.args.folder.now c.in_ok-schema.schema (λ tables texts. run_of c.args.options.now tables (call_in c.args.call.now) t texts))) c.as_slice-2.ensures
-    (subst (λ (s : List ℕ). OrMemory c.plan_tables.result (over_tables (given g.F.Files.told g.F.Files.faults c.fetch_source.new.files c.plan_tables.new.files) c.args.folder.now s (λ tables texts. run_of c.args.options.now tables (call_in c.args.call.now) c.as_slice-2.result.now texts))) c.as_slice.ensures c.plan_tables.ensures.due)))
+    (subst (λ (t : List ℕ). OrMemory c.plan_tables.result (over_tables (given g.F.Files.told g.F.Files.faults g.F.Files.may_fail c.fetch_source.new.files c.plan_tables.new.files) c.args.folder.now c.in_ok-schema.schema (λ tables texts. run_of c.args.options.now tables (call_in c.args.call.now) t texts))) c.as_slice-2.ensures
+    (subst (λ (s : List ℕ). OrMemory c.plan_tables.result (over_tables (given g.F.Files.told g.F.Files.faults g.F.Files.may_fail c.fetch_source.new.files c.plan_tables.new.files) c.args.folder.now s (λ tables texts. run_of c.args.options.now tables (call_in c.args.call.now) c.as_slice-2.result.now texts))) c.as_slice.ensures c.plan_tables.ensures.due)))
+
+pub returns-in_err-schema-clause-reads : goal.returns-in_err-schema-clause-reads
+returns-in_err-schema-clause-reads g c =
+    one_read (looks g.F.Files.told g.F.Files.faults g.F.Files.may_fail g.F.Files.by_read) c.args.schema.now (c.args.source.now ∷ []) c.args.folder.now c.args.schema.now c.args.files.now c.fetch_schema.new.files
+    c.fetch_schema.ensures.once c.fetch_schema.ensures.same c.fetch_schema.ensures.later c.fetch_schema.ensures.fewer
+
+pub returns-in_err-source-clause-reads : goal.returns-in_err-source-clause-reads
+returns-in_err-source-clause-reads g c =
+    two_read (looks g.F.Files.told g.F.Files.faults g.F.Files.may_fail g.F.Files.by_read) c.args.schema.now c.args.source.now c.args.folder.now c.args.schema.now c.args.files.now c.fetch_schema.new.files c.fetch_source.new.files
+    c.fetch_schema.ensures.once c.fetch_schema.ensures.same c.fetch_schema.ensures.later c.fetch_schema.ensures.fewer
+    c.fetch_source.ensures.once c.fetch_source.ensures.same c.fetch_source.ensures.later c.fetch_source.ensures.fewer
+
+pub returns-clause-reads : goal.returns-clause-reads
+returns-clause-reads g c =
+    two_then_tables (looks g.F.Files.told g.F.Files.faults g.F.Files.may_fail g.F.Files.by_read) c.args.schema.now c.args.source.now c.args.folder.now c.args.schema.now c.in_ok-schema.schema c.as_slice.result.now c.args.files.now c.fetch_schema.new.files c.fetch_source.new.files c.plan_tables.new.files
+    c.fetch_schema.ensures.once c.fetch_schema.ensures.same c.fetch_schema.ensures.later c.fetch_schema.ensures.fewer
+    c.fetch_source.ensures.once c.fetch_source.ensures.same c.fetch_source.ensures.later c.fetch_source.ensures.fewer
+    c.as_slice.ensures c.in_ok-schema.ensures.read.1 c.plan_tables.ensures.reads

@@ -1,6 +1,18 @@
 use Rattle.std.proofs.Common.{sym, ◌∙◌}
-use Rattle.qbs.proofs.Worded.{words_read}
+use Rattle.qbs.proofs.Worded.{words_read, words_read_so, no_words_read_so, stays}
 use Rattle.qbs.proofs.top.plan_of.Goals as goal
 
 pub returns-in-Some-clause-unread : goal.returns-in-Some-clause-unread
 returns-in-Some-clause-unread g c = words_read _ _ c.args.words.now c.in-Some.command (sym c.in-Some.is ∙ c.in_ok-command.ensures.read)
+
+pub returns-in-Some-clause-reads : goal.returns-in-Some-clause-reads
+returns-in-Some-clause-reads g c = words_read_so _ c.args.words.now c.in-Some.command _ _ (sym c.in-Some.is ∙ c.in_ok-command.ensures.read) c.plan_command.ensures.reads
+
+pub returns-in-Some-clause-held : goal.returns-in-Some-clause-held
+returns-in-Some-clause-held g c = (stays _ c.in-Some.command _ _ c.plan_command.ensures.reads).0
+
+pub returns-in-Some-clause-later : goal.returns-in-Some-clause-later
+returns-in-Some-clause-later g c = (stays _ c.in-Some.command _ _ c.plan_command.ensures.reads).1
+
+pub returns-in-None-clause-reads : goal.returns-in-None-clause-reads
+returns-in-None-clause-reads g c = no_words_read_so _ c.args.words.now _ (sym c.in-None.is ∙ c.in_ok-command.ensures.read)

@@ -38,5 +38,8 @@ returns-clause-unpruned g c empty = drops_none _ _ _ _ _ _ c.carry_out.ensures.d
 pub returns-clause-read : goal.returns-clause-read
 returns-clause-read g c = (promised _ _ _ _ _ _ c.carry_out.ensures.done).read
 
+pub returns-clause-reads : goal.returns-clause-reads
+returns-clause-reads g c = c.carry_out.ensures.reads
+
 pub returns-clause-complete : goal.returns-clause-complete
 returns-clause-complete g c = complete _ _ _ _ _ _ c.carry_out.ensures.done

@@ -1,0 +1,35 @@
+use Rattle.qbs.proofs.Worded.{as_due, as_read}
+use Rattle.qbs.proofs.top.plan_built.Goals as goal
+
+pub returns-in-Rewrite-clause-due : goal.returns-in-Rewrite-clause-due
+returns-in-Rewrite-clause-due g c = as_due _ _ c.args.command.now _ c.plan_rewrite.result c.in-Rewrite.is c.plan_rewrite.ensures.due
+
+pub returns-in-Rewrite-clause-reads : goal.returns-in-Rewrite-clause-reads
+returns-in-Rewrite-clause-reads g c = as_read _ c.args.command.now _ _ _ c.in-Rewrite.is c.plan_rewrite.ensures.reads
+
+pub returns-in-Prove-clause-due : goal.returns-in-Prove-clause-due
+returns-in-Prove-clause-due g c = as_due _ _ c.args.command.now _ c.plan_prove.result c.in-Prove.is c.plan_prove.ensures.due
+
+pub returns-in-Prove-clause-reads : goal.returns-in-Prove-clause-reads
+returns-in-Prove-clause-reads g c = as_read _ c.args.command.now _ _ _ c.in-Prove.is c.plan_prove.ensures.reads
+
+pub returns-in-Check-clause-due : goal.returns-in-Check-clause-due
+returns-in-Check-clause-due g c = as_due _ _ c.args.command.now _ c.plan_check.result c.in-Check.is c.plan_check.ensures.due
+
+pub returns-in-Check-clause-reads : goal.returns-in-Check-clause-reads
+returns-in-Check-clause-reads g c = as_read _ c.args.command.now _ _ _ c.in-Check.is c.plan_check.ensures.reads
+
+pub returns-in-Sql-clause-due : goal.returns-in-Sql-clause-due
+returns-in-Sql-clause-due g c = as_due _ _ c.args.command.now _ c.plan_sql.result c.in-Sql.is c.plan_sql.ensures.due
+
+pub returns-in-Sql-clause-reads : goal.returns-in-Sql-clause-reads
+returns-in-Sql-clause-reads g c = as_read _ c.args.command.now _ _ _ c.in-Sql.is c.plan_sql.ensures.reads
+
+pub returns-in-Run-clause-due : goal.returns-in-Run-clause-due
+returns-in-Run-clause-due g c = as_due _ _ c.args.command.now _ c.plan_run.result c.in-Run.is c.plan_run.ensures.due
+
+pub returns-in-Run-clause-reads : goal.returns-in-Run-clause-reads
+returns-in-Run-clause-reads g c = as_read _ c.args.command.now _ _ _ c.in-Run.is c.plan_run.ensures.reads
+
+pub returns-in-Make-clause-due : goal.returns-in-Make-clause-due
+returns-in-Make-clause-due g c = as_due _ _ c.args.command.now _ c.plan_make.result c.in-Make.is c.plan_make.ensures
