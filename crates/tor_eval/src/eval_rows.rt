@@ -1,5 +1,6 @@
 // Rows and columns at a tuple.
-ghost use Rattle.std.specs.Prelude.{◌≡◌, IfOk, unwrap_or, option_copied, slice_get, None};
+ghost use Rattle.std.specs.Prelude.{◌≡◌, ◌||◌, ℕ, IfOk, unwrap_or, option_copied, slice_get, None, is_some, map, length, nat_lt};
+ghost use Rattle.qbs_base.specs.declared.scalar.Row.{Row as PlainRow};
 ghost use Rattle.tor_terms.specs.Truth as truths;
 ghost use Rattle.tor_terms.specs.Value as spec;
 ghost use Rattle.tor_terms.specs.Worlds.{world_of};
@@ -13,7 +14,8 @@ use tor_terms::{Elem, Env, plain_row};
 
 /// The row of a loop: the tuple's own, and else the current one, where there is one.
 pub fn row_at<'a>(env: &'a Env, tuple: &'a [(u32, Row)], j: u32) -> Option<&'a Row>
-    ensures { unwrap_or (option_copied result) (spec.plain_row None) ≡ truths.row_at (world_of env.now).current tuple.now j }
+    ensures row { unwrap_or (option_copied result) (spec.plain_row None) ≡ truths.row_at (world_of env.now).current tuple.now j }
+    ensures there { is_some result ≡ (truths.has_loop (map (λ (own : ℕ × PlainRow). own.0) tuple.now) j || nat_lt j (length env.now.cur)) }
 {
     for own in tuple {
         if own.0 == j {
