@@ -8,7 +8,7 @@ use Rattle.readers.proofs.Again.{Any}
 use Rattle.tor_axioms.specs.Accepts.{Proof, Steps, Split, Absurd}
 use Rattle.text_readers.specs.Offsets.{Each}
 use Rattle.deriv_check.specs.Texts.{derivation_text, loop_text, entry_text, bundle_text}
-use Rattle.deriv_accept.specs.Limits.{most_splits}
+use Rattle.deriv_parts.specs.Limits.{most_splits}
 use Rattle.deriv_check.specs.Grammar.{IsSmall, IsWritable, IsWritableEntry}
 use Rattle.deriv_check.specs.Reading.{ends_proofs, proofs_at, Head, head_from, head_at, entry_from, entry_at, is_end, entries_at, bundle_at}
 use Rattle.text_readers.proofs.Exact.{Exact, exact_byte, exact_both, exact_made, exact_many, exact_word}

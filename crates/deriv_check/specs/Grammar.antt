@@ -2,7 +2,7 @@
 use Rattle.std.specs.Prelude.{◌≡◌, ◌<◌, ◌^◌, ℕ, zero, suc, List}
 use Rattle.tor_axioms.specs.declared.derivation.Step.{Step}
 use Rattle.tor_axioms.specs.Accepts.{Proof, Steps, Split, Absurd}
-use Rattle.deriv_accept.specs.Limits.{most_splits}
+use Rattle.deriv_parts.specs.Limits.{most_splits}
 use Rattle.text_readers.specs.Offsets.{Each}
 use Rattle.deriv_check.specs.Bundles.{Entry}
 use Rattle.deriv_check.specs.Texts.{derivation_text, bundle_text}

@@ -6,7 +6,7 @@ use Rattle.text_readers.specs.Bytes.{Reader, byte_at, word_at, is_digit, number_
 use Rattle.tor_axioms.specs.declared.derivation.Step.{Step}
 use Rattle.tor_axioms.specs.Accepts.{Proof, Steps, Split, Absurd}
 use Rattle.deriv_check.specs.Bundles.{Entry}
-use Rattle.deriv_accept.specs.Limits.{most_splits}
+use Rattle.deriv_parts.specs.Limits.{most_splits}
 
 -- ---- numbers below 2 ^ 32
 

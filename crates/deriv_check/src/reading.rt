@@ -2,11 +2,11 @@
 ghost use Rattle.std.specs.Prelude.{◌≡◌, IfOk, IfErr};
 ghost use Rattle.readers.specs.Reading.{Gives, is_over};
 ghost use Rattle.tor_axioms.specs.Accepts.{Split, proof_of};
-ghost use Rattle.deriv_accept.specs.Limits.{most_splits};
+ghost use Rattle.deriv_parts.specs.Limits.{most_splits};
 ghost use Rattle.deriv_check.specs.Reading as spec;
 
 use crate::number::number;
-use deriv_accept::most_splits;
+use deriv_parts::most_splits;
 use qbs_base::Items;
 use readers::ReadError;
 use std::alloc::Global;

@@ -1,14 +1,14 @@
 // What is decided of a derivation.
 ghost use Rattle.std.specs.Prelude.{◌≡◌, ◌++◌, ◌∷◌, [], Some, None, IfOk, if◌then◌else◌};
+ghost use Rattle.deriv_parts.specs.Limits as spec;
 
 use qbs_base::{Items, NoMemory};
 
-/// How many splits may stand inside one another.
 const SPLITS: u32 = 10;
 
-/// How many splits may stand inside one another.
+/// How many splits may stand inside one another, in a search and in a text.
 pub fn most_splits() -> u32
-    ensures { result ≡ 10 }
+    ensures { result ≡ spec.most_splits }
 {
     SPLITS
 }

@@ -3,6 +3,7 @@ use Rattle.std.specs.Prelude.{ℕ, zero, suc, true, false, cond, List, []}
 use Rattle.std.specs.declared.option.Option.{Option}
 use Rattle.std.specs.declared.option.Option.TheVariants.{Some, None}
 use Rattle.tor_terms.specs.declared.term.Atom.{Atom}
+use Rattle.deriv_parts.specs.Limits.{most_splits}
 use Rattle.tor_terms.specs.Plain.{Tree}
 use Rattle.tor_terms.specs.Same.{same_tree}
 use Rattle.tor_axioms.specs.declared.derivation.Step.{Step}
@@ -48,7 +49,7 @@ derived atoms (suc depth) (Some facts) l r =
     split_at k (derived atoms depth (with_fact atoms facts (literal k true)) l r) (derived atoms depth (with_fact atoms facts (literal k false)) l r))
 
 unfoldable pub derivation_of : Claim → Option Proof
-derivation_of c = derived c.atoms 10 (with_facts c.atoms [] c.facts) c.left c.right
+derivation_of c = derived c.atoms most_splits (with_facts c.atoms [] c.facts) c.left c.right
 
 -- the condition with these parts
 abbrev pub claim_made : List Atom → List Literal → Tree → Tree → Claim

@@ -1,5 +1,6 @@
 //! Laws of normal forms and derivations, for the crates above. They do nothing.
 ghost use Rattle.std.specs.Prelude.{◌≡◌, ◌||◌, ℕ, List, true, None, Some};
+ghost use Rattle.deriv_parts.specs.Limits.{most_splits};
 ghost use Rattle.tor_terms.specs.declared.term.Atom.{Atom as PlainAtom};
 ghost use Rattle.tor_terms.specs.Plain.{Form, Tree, One as PlainOne, Sel as PlainSel};
 ghost use Rattle.tor_axioms.specs.declared.facts.Literal.{Literal as PlainLiteral};
@@ -38,7 +39,7 @@ pub fn derivations_are_accepted()
 /// A derivation has at most ten splits inside one another, on atoms of the condition; the rules of its
 /// steps are numbered up to 44, and the children on their paths up to 1.
 pub fn derivations_are_nested_within_ten()
-    ensures { (c : Claim) → IfNested c.atoms 10 (derivation_of c) }
+    ensures { (c : Claim) → IfNested c.atoms most_splits (derivation_of c) }
 {}
 
 /// The derivations of the conditions of a small loop and of others, or that there is none.

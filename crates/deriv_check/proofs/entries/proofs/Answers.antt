@@ -2,7 +2,7 @@ use Rattle.std.proofs.Common.{[], ◌∷◌, length, map, refl, sym, ◌∙◌}
 use Rattle.std.proofs.lemmas.Result.{err_from_is_err_and}
 use Rattle.std.proofs.lemmas.List.{map-append}
 use Rattle.tor_axioms.specs.Accepts.{proof_of}
-use Rattle.deriv_accept.specs.Limits.{most_splits}
+use Rattle.deriv_parts.specs.Limits.{most_splits}
 use Rattle.deriv_check.specs.Reading.{ends_proofs, derivation_at, proofs_at}
 use Rattle.readers.proofs.Loops.{many_begin, many_go_on, many_fail, many_stop, many_run_out}
 use Rattle.deriv_check.proofs.entries.proofs.Goals as goal

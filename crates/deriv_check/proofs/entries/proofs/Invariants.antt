@@ -1,7 +1,7 @@
 use Rattle.std.proofs.Common.{◌≡◌, ◌-◌, length, map}
 use Rattle.readers.specs.Reading.{up_to}
 use Rattle.tor_axioms.specs.Accepts.{proof_of}
-use Rattle.deriv_accept.specs.Limits.{most_splits}
+use Rattle.deriv_parts.specs.Limits.{most_splits}
 use Rattle.deriv_check.specs.Reading.{ends_proofs, derivation_at, proofs_at}
 use Rattle.readers.proofs.Loops.{with_front}
 use Rattle.deriv_check.proofs.entries.proofs.Given as goal

@@ -1,5 +1,5 @@
 use Rattle.tor_axioms.specs.Accepts.{proof_of}
-use Rattle.deriv_accept.specs.Limits.{most_splits}
+use Rattle.deriv_parts.specs.Limits.{most_splits}
 use Rattle.deriv_check.specs.Answers.{offset_in}
 use Rattle.deriv_check.specs.Reading.{read_derivation}
 use Rattle.deriv_check.proofs.Derivations.{exact_derivation}
