@@ -2,6 +2,7 @@ pub mod Bytes
 pub mod Csv
 pub mod Faults
 pub mod Grammar
+pub mod Marks
 pub mod Naming
 pub mod Numbers
 pub mod Reading

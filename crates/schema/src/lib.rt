@@ -1,6 +1,7 @@
 //! Schemas as tables and columns, what is wrong with their texts, and the small decisions that reading them is made of.
 #![tactic(auto)]
 
+pub mod draft;
 mod fault;
 pub mod fields;
 pub mod keywords;
