@@ -1,5 +1,5 @@
 -- The names that the tokens of a schema declare are those of its tables and columns.
-use Rattle.std.proofs.Common.{◌≡◌, ℕ, Bool, true, false, ◌&&◌, cond, List, [], ◌∷◌, ◌++◌, length, Option, Some, None, map, refl, ap, ◌∙◌, append_assoc, arith}
+use Rattle.std.proofs.Common.{◌≡◌, ℕ, Bool, true, false, ◌&&◌, cond, List, [], ◌∷◌, ◌++◌, length, Option, Some, None, map, refl, sym, ap, ◌∙◌, append_assoc, arith}
 use Rattle.std.specs.Prelude.{codes, nat_lt}
 use Rattle.std.proofs.lemmas.Bool.Decides.{nat_tests}
 use Rattle.readers.specs.Reading.{first_passes}
@@ -15,6 +15,8 @@ use Rattle.schema.specs.declared.names.Where.{Where}
 use Rattle.schema.specs.declared.names.Where.TheVariants as at
 use Rattle.schema.specs.declared.names.Role.{Role}
 use Rattle.schema.specs.declared.names.Role.TheVariants as role
+use Rattle.schema.specs.declared.draft.Marks.{Marks}
+use Rattle.schema.specs.Marks.{Rest, keyed}
 use Rattle.schema.specs.Words.{spells}
 use Rattle.schema.specs.Tokens.{kinds_of}
 use Rattle.schema.specs.Grammar.{HasType, long, truth, text, sized, HasMarks, unmarked, not_null, primary, HasRest, typed, HasNames, one, further, HasColumns, none, key, more, HasTable, table, HasSchema, empty, followed}
@@ -86,19 +88,19 @@ type_silent _ _ ks (truth e) = refl
 type_silent _ _ ks (text e) = refl
 type_silent _ _ ks (sized e) = refl
 
-marks_silent : (us ks : List Kind) → HasMarks us → names_in at.Body (us ++ ks) ≡ names_in at.Body ks
+marks_silent : (us : List Kind) (marks : Marks) (ks : List Kind) → HasMarks us marks → names_in at.Body (us ++ ks) ≡ names_in at.Body ks
 unfolding names_in
-marks_silent _ ks unmarked = refl
-marks_silent _ ks (not_null {ts} p q h) = marks_silent ts ks h
-marks_silent _ ks (primary {ts} p q h) = marks_silent ts ks h
+marks_silent _ _ ks unmarked = refl
+marks_silent _ _ ks (not_null {ts} {marks} p q h) = marks_silent ts marks ks h
+marks_silent _ _ ks (primary {ts} {marks} p q h) = marks_silent ts marks ks h
 
-rest_silent : (us : List Kind) (t : Ty) (ks : List Kind) → HasRest us t → names_in at.Body (us ++ ks) ≡ names_in at.Body ks
-rest_silent _ _ ks (typed {us} {vs} {t} p q) = ap (names_in at.Body) (append_assoc us vs ks) ∙ type_silent us t (vs ++ ks) p ∙ marks_silent vs ks q
+rest_silent : (us : List Kind) (x : Rest) (ks : List Kind) → HasRest us x → names_in at.Body (us ++ ks) ≡ names_in at.Body ks
+rest_silent _ _ ks (typed {us} {vs} {t} {marks} p q) = ap (names_in at.Body) (append_assoc us vs ks) ∙ type_silent us t (vs ++ ks) p ∙ marks_silent vs marks ks q
 
-names_silent : (us ks : List Kind) → HasNames us → names_in at.Inner (us ++ ks) ≡ names_in at.Inner ks
+names_silent : (us : List Kind) (names : List (List ℕ)) (ks : List Kind) → HasNames us names → names_in at.Inner (us ++ ks) ≡ names_in at.Inner ks
 unfolding names_in
-names_silent _ ks one = refl
-names_silent _ ks (further {ts} h) = names_silent ts ks h
+names_silent _ _ ks one = refl
+names_silent _ _ ks (further {ts} {names} h) = names_silent ts names ks h
 
 -- ---- columns and tables
 
@@ -113,9 +115,9 @@ abbrev pub tables_names : List Table → List Plain
 tables_names [] = []
 tables_names (t ∷ ts) = (role.Table, t.name) ∷ columns_names t.columns ++ tables_names ts
 
-no_key : (n : List ℕ) (us : List Kind) (t : Ty) (ks : List Kind) → HasRest us t → key_follows n (us ++ ks) ≡ false
-no_key n us t ks h =
-    let (w, vs, parts, unlike) = rest_starts us t h in
+no_key : (n : List ℕ) (us : List Kind) (x : Rest) (ks : List Kind) → HasRest us x → key_follows n (us ++ ks) ≡ false
+no_key n us x ks h =
+    let (w, vs, parts, unlike) = rest_starts us x h in
     rw (parts, unlike) (never_true (spells (codes "PRIMARY") n))
   where
     never_true : (b : Bool) → (b && false) ≡ false
@@ -123,28 +125,33 @@ no_key n us t ks h =
     never_true false = refl
 
 -- a column's name, and what stands behind it
-column_names : (n : List ℕ) (us : List Kind) (t : Ty) (ks : List Kind) → HasRest us t → names_in at.ColumnName (Word n ∷ us ++ ks) ≡ (role.Column, n) ∷ names_in at.Body ks
+column_names : (n : List ℕ) (us : List Kind) (x : Rest) (ks : List Kind) → HasRest us x → names_in at.ColumnName (Word n ∷ us ++ ks) ≡ (role.Column, n) ∷ names_in at.Body ks
 unfolding names_in
-column_names n us t ks h = rw (no_key n us t ks h) (ap (λ (zs : List Plain). (role.Column, n) ∷ zs) (rest_silent us t ks h))
+column_names n us x ks h = rw (no_key n us x ks h) (ap (λ (zs : List Plain). (role.Column, n) ∷ zs) (rest_silent us x ks h))
 
-columns_declare : (us : List Kind) (columns : List Column) (ks : List Kind) → HasColumns us columns → names_in at.Body (us ++ ks) ≡ columns_names columns ++ names_in at.Body ks
+columns_declare : (us : List Kind) (columns : List Column) (names : List (List ℕ)) (ks : List Kind) → HasColumns us columns names → names_in at.Body (us ++ ks) ≡ columns_names columns ++ names_in at.Body ks
 unfolding names_in
-columns_declare _ _ ks none = refl
-columns_declare _ _ ks (key {v} {w} {ts} p q h) =
-    rw (p, q) (ap (names_in at.Inner) (append_assoc ts (Sign Close ∷ []) ks) ∙ names_silent ts (Sign Close ∷ ks) h)
-columns_declare _ _ ks (more {n} {t} {us} {vs} {columns} p h) =
-    ap (λ (zs : List Kind). names_in at.ColumnName (Word n ∷ zs)) (append_assoc us vs ks) ∙ column_names n us t (vs ++ ks) p ∙ ap (λ (zs : List Plain). (role.Column, n) ∷ zs) (columns_declare vs columns ks h)
+columns_declare _ _ _ ks none = refl
+columns_declare _ _ _ ks (key {v} {w} {ts} {names} p q h) =
+    rw (p, q) (ap (names_in at.Inner) (append_assoc ts (Sign Close ∷ []) ks) ∙ names_silent ts names (Sign Close ∷ ks) h)
+columns_declare _ _ _ ks (more {n} {rest} {us} {vs} {columns} {names} p h) =
+    ap (λ (zs : List Kind). names_in at.ColumnName (Word n ∷ zs)) (append_assoc us vs ks) ∙ column_names n us rest (vs ++ ks) p ∙ ap (λ (zs : List Plain). (role.Column, n) ∷ zs) (columns_declare vs columns names ks h)
+
+-- a key clause changes no name
+keyed_names : (names : List (List ℕ)) (columns : List Column) → columns_names (map (keyed names) columns) ≡ columns_names columns
+keyed_names names [] = refl
+keyed_names names (c ∷ columns) = ap (λ (zs : List Plain). column_name c ∷ zs) (keyed_names names columns)
 
 table_declares : (us : List Kind) (t : Table) (ks : List Kind) → HasTable us t → names_in at.Create (us ++ ks) ≡ (role.Table, t.name) ∷ columns_names t.columns ++ names_in at.Create ks
 unfolding names_in
-table_declares _ _ ks (table {v} {w} {n} {m} {us} {vs} {t} {columns} p q h k) =
-    let tail : List Kind = Sign Close ∷ Sign Semicolon ∷ [] in
+table_declares _ _ ks (table {v} {w} {n} {m} {us} {vs} {rest} {columns} {names} p q h k) =
     let parts : (us ++ (vs ++ Sign Close ∷ Sign Semicolon ∷ [])) ++ ks ≡ us ++ (vs ++ (Sign Close ∷ Sign Semicolon ∷ ks)) =
     append_assoc us (vs ++ Sign Close ∷ Sign Semicolon ∷ []) ks ∙ ap (λ (zs : List Kind). us ++ zs) (append_assoc vs (Sign Close ∷ Sign Semicolon ∷ []) ks) in
     ap (λ (zs : List Plain). (role.Table, n) ∷ zs)
     (ap (λ (zs : List Kind). names_in at.ColumnName (Word m ∷ zs)) parts
-    ∙ column_names m us t (vs ++ (Sign Close ∷ Sign Semicolon ∷ ks)) h
-    ∙ ap (λ (zs : List Plain). (role.Column, m) ∷ zs) (columns_declare vs columns (Sign Close ∷ Sign Semicolon ∷ ks) k))
+    ∙ column_names m us rest (vs ++ (Sign Close ∷ Sign Semicolon ∷ ks)) h
+    ∙ ap (λ (zs : List Plain). (role.Column, m) ∷ zs) (columns_declare vs columns names (Sign Close ∷ Sign Semicolon ∷ ks) k)
+    ∙ ap (λ (zs : List Plain). (role.Column, m) ∷ zs ++ names_in at.Create ks) (sym (keyed_names names columns)))
 
 schema_declares : (ks : List Kind) (tables : List Table) → HasSchema ks tables → names_in at.Create ks ≡ tables_names tables
 unfolding names_in

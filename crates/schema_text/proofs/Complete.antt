@@ -1,5 +1,5 @@
 -- What has tokens by the grammar is read from them.
-use Rattle.std.proofs.Common.{◌≡◌, ℕ, Bool, true, false, ◌||◌, List, [], ◌∷◌, ◌++◌, Option, Some, None, Ok, refl, sym, ap, subst, ◌∙◌, append_assoc, inl, inr, ◌⊎◌}
+use Rattle.std.proofs.Common.{◌≡◌, ℕ, Bool, true, false, ◌||◌, List, [], ◌∷◌, ◌++◌, map, Some, Ok, refl, sym, ap, subst, ◌∙◌, append_assoc, inl, inr, ◌⊎◌}
 use Rattle.std.specs.Prelude.{codes}
 use Rattle.std.specs.Str.{bytes_eq, str_to_ascii_lowercase}
 use Rattle.std.proofs.lemmas.Slice.Eq.{bytes_eq-Decides}
@@ -12,13 +12,20 @@ use Rattle.qbs_base.specs.declared.columns.Table.{Table}
 use Rattle.schema.specs.declared.token.Kind.{Kind}
 use Rattle.schema.specs.declared.token.Kind.TheVariants.{Word, Digits, Sign}
 use Rattle.schema.specs.declared.token.Sign.TheVariants.{Open, Close, Comma, Semicolon}
+use Rattle.schema.specs.declared.draft.Mark.{Mark}
+use Rattle.schema.specs.declared.draft.Mark.TheVariants.{NotNull, PrimaryKey}
+use Rattle.schema.specs.declared.draft.Marks.{Marks}
+use Rattle.schema.specs.declared.draft.Item.{Item}
+use Rattle.schema.specs.declared.draft.Item.TheVariants as items
+use Rattle.schema.specs.declared.draft.Draft.{Draft}
+use Rattle.schema.specs.Marks.{no_marks, with_mark, Rest, column_of, table_of}
 use Rattle.schema.specs.Words.{spells}
 use Rattle.schema.specs.Series.{HasSeries}
 use Rattle.schema.specs.Grammar.{HasType, long, truth, text, sized, HasMarks, unmarked, not_null, primary, HasRest, typed, HasNames, one, further, HasColumns, none, key, more, HasTable, table, HasSchema, empty, followed}
-use Rattle.schema.specs.Reading.{is_word, name_at, word_at, sign_at, is_long, type_of, sized_at, type_at, is_no_mark, mark_at, marks_at, rest_at, is_no_comma, next_name_at, next_names_at, key_at, typed_at, named, column_of, column_at, primary_in, primary_at, item_at, next_item_at, columns_at, head_at, body_at, tail_at, table_from, table_at, never, tables_at}
+use Rattle.schema.specs.Reading.{is_word, name_at, word_at, sign_at, is_long, type_of, sized_at, type_at, is_no_mark, mark_at, marked, marks_at, rest_at, is_no_comma, next_name_at, next_names_at, names_at, Behind, key_clause, column_rest, key_at, typed_at, named, column_at, primary_in, primary_at, item_at, next_item_at, Columns, columns_at, head_at, body_at, tail_at, draft_from, draft_at, never, drafts_at, tables_at}
 use Rattle.schema_text.proofs.Serial.{series_again}
 use Rattle.schema_text.proofs.Single.{IsName, IsKeyword, IsSign, name_again, word_again, sign_again}
-use Rattle.schema_text.proofs.Grammatical.{Two, IsMark, two_words, Marks, NextName, next_name_is, NextNames, Key, Behind, IsColumn, IsItem, IsPrimary, IsNextItem, IsHead, IsBody, IsTail, InTable}
+use Rattle.schema_text.proofs.Grammatical.{Two, IsMark, marked_first, NextName, NextNames, Key, IsBehind, InKey, rest_of, IsColumn, IsItem, IsPrimary, IsNextItem, Others, IsHead, IsBody, IsTail, InTable}
 
 -- ---- keywords differ
 
@@ -84,20 +91,14 @@ type_again _ _ rest (sized {w} e) any = inl (sized_again w rest e)
 
 mark_again : Again IsMark Any mark_at
 unfolding mark_at
-mark_again us x rest (inl h) any =
-    let (v, w, is, first, second) = two_words (codes "NOT") (codes "NULL") us x h in
-    inl (rw (is, first, second) refl)
-mark_again us x rest (inr h) any =
-    let (v, w, is, first, second) = two_words (codes "PRIMARY") (codes "KEY") us x h in
+mark_again us NotNull rest (v, w, is, first, second) any = inl (rw (is, first, second) refl)
+mark_again us PrimaryKey rest (v, w, is, first, second) any =
     let other = differs (codes "PRIMARY") (codes "NOT") v refl first in
     inl (rw (is, other, first, second) refl)
 
-mark_starts : (us : List Kind) (x : Unit {0} × Unit {0}) → IsMark us x → (t : Kind) × (vs : List Kind) × (us ≡ t ∷ vs) × (is_no_mark t ≡ false)
-mark_starts us x (inl h) =
-    let (v, w, is, first, second) = two_words (codes "NOT") (codes "NULL") us x h in
-    (Word v, Word w ∷ [], is, rw first refl)
-mark_starts us x (inr h) =
-    let (v, w, is, first, second) = two_words (codes "PRIMARY") (codes "KEY") us x h in
+mark_starts : (us : List Kind) (m : Mark) → IsMark us m → (t : Kind) × (vs : List Kind) × (us ≡ t ∷ vs) × (is_no_mark t ≡ false)
+mark_starts us NotNull (v, w, is, first, second) = (Word v, Word w ∷ [], is, rw first refl)
+mark_starts us PrimaryKey (v, w, is, first, second) =
     let other = differs (codes "PRIMARY") (codes "NOT") v refl first in
     (Word v, Word w ∷ [], is, rw (other, first) refl)
 
@@ -108,90 +109,80 @@ NoMark rest = is_over is_no_mark rest ≡ true
 abbrev pub NoComma : List Kind → Type 0
 NoComma rest = is_over is_no_comma rest ≡ true
 
-one_mark : (k l v w : List ℕ) → spells k v ≡ true → spells l w ≡ true → Two (IsKeyword k) (IsKeyword l) (Word v ∷ Word w ∷ []) (tt, tt)
-one_mark k l v w p q = record { us = Word v ∷ []; vs = Word w ∷ []; parts = refl; first = (v, refl, p); second = (w, refl, q) }
+marks_many : (ts : List Kind) (marks : Marks) → HasMarks ts marks → (ms : List Mark) × (marked no_marks ms ≡ marks) × HasMany IsMark ts ms
+marks_many _ _ unmarked = ([], refl, refl)
+marks_many _ _ (not_null {v} {w} {ts} {marks} p q h) =
+    let (ms, are, many_marks) = marks_many ts marks h in
+    (NotNull ∷ ms, marked_first no_marks NotNull ms ∙ ap (λ (x : Marks). with_mark x NotNull) are, (Word v ∷ Word w ∷ [], ts, refl, (v, w, refl, p, q), many_marks))
+marks_many _ _ (primary {v} {w} {ts} {marks} p q h) =
+    let (ms, are, many_marks) = marks_many ts marks h in
+    (PrimaryKey ∷ ms, marked_first no_marks PrimaryKey ms ∙ ap (λ (x : Marks). with_mark x PrimaryKey) are, (Word v ∷ Word w ∷ [], ts, refl, (v, w, refl, p, q), many_marks))
 
-marks_many : (ts : List Kind) → HasMarks ts → (xs : List (Unit {0} × Unit {0})) × HasMany IsMark ts xs
-marks_many _ unmarked = ([], refl)
-marks_many _ (not_null {v} {w} {ts} p q h) = let others = marks_many ts h in ((tt, tt) ∷ others.0, (Word v ∷ Word w ∷ [], ts, refl, inl (one_mark (codes "NOT") (codes "NULL") v w p q), others.1))
-marks_many _ (primary {v} {w} {ts} p q h) = let others = marks_many ts h in ((tt, tt) ∷ others.0, (Word v ∷ Word w ∷ [], ts, refl, inr (one_mark (codes "PRIMARY") (codes "KEY") v w p q), others.1))
-
-marks_again : Again Marks NoMark marks_at
+marks_again : Again HasMarks NoMark marks_at
 unfolding marks_at
-marks_again us u rest h nomark =
-    let many_marks = marks_many us h in
-    made_again (HasMany IsMark) NoMark (λ _. tt) (many is_no_mark mark_at) (many_again is_no_mark IsMark Any mark_at mark_again mark_starts (λ r e. tt) (λ vs x r k. tt)) us many_marks.0 rest many_marks.1 nomark
+marks_again us marks rest h nomark =
+    let (ms, are, many_marks) = marks_many us marks h in
+    let go = made_again (HasMany IsMark) NoMark (marked no_marks) (many is_no_mark mark_at) (many_again is_no_mark IsMark Any mark_at mark_again mark_starts (λ r e. tt) (λ vs x r k. tt)) us ms rest many_marks nomark in
+    subst (λ (x : Marks). Leads (made (marked no_marks) (many is_no_mark mark_at) (us ++ rest)) (Ok (x, rest))) are go
 
 rest_again : Again HasRest NoMark rest_at
 unfolding rest_at
-rest_again _ _ rest (typed {us} {vs} {t} p q) nomark =
-    made_again (Two HasType Marks) NoMark (λ x. x.0) (both type_at marks_at)
-    (both_again HasType Marks Any NoMark type_at marks_at type_again marks_again (λ ws y r h k. tt)) (us ++ vs) (t, tt) rest (record { us = us; vs = vs; parts = refl; first = p; second = q }) nomark
+rest_again _ _ rest (typed {us} {vs} {t} {marks} p q) nomark =
+    both_again HasType HasMarks Any NoMark type_at marks_at type_again marks_again (λ ws y r h k. tt) (us ++ vs) (t, marks) rest (record { us = us; vs = vs; parts = refl; first = p; second = q }) nomark
 
 -- ---- names and the key clause
 
 next_name_again : Again NextName Any next_name_at
 unfolding next_name_at
-next_name_again us x rest h any = both_again (IsSign Comma) IsName Any Any (sign_at Comma) name_at (sign_again Comma) name_again (λ ws y r k l. tt) us x rest h any
+next_name_again us n rest h any = inl (rw h refl)
 
-next_name_starts : (us : List Kind) (x : Unit {0} × List ℕ) → NextName us x → (t : Kind) × (vs : List Kind) × (us ≡ t ∷ vs) × (is_no_comma t ≡ false)
-next_name_starts us x h = (Sign Comma, Word x.1 ∷ [], next_name_is us x h, refl)
+next_name_starts : (us : List Kind) (n : List ℕ) → NextName us n → (t : Kind) × (vs : List Kind) × (us ≡ t ∷ vs) × (is_no_comma t ≡ false)
+next_name_starts us n h = (Sign Comma, Word n ∷ [], h, refl)
 
 next_names_again : Again NextNames NoComma next_names_at
 unfolding next_names_at
-next_names_again us u rest h stop =
-    made_again (HasMany NextName) NoComma (λ _. tt) (many is_no_comma next_name_at) (many_again is_no_comma NextName Any next_name_at next_name_again next_name_starts (λ r e. tt) (λ vs x r k. tt)) us h.0 rest h.1 stop
+next_names_again = many_again is_no_comma NextName Any next_name_at next_name_again next_name_starts (λ r e. tt) (λ vs x r k. tt)
 
-one_next : (n : List ℕ) → NextName (Sign Comma ∷ Word n ∷ []) (tt, n)
-one_next n = record { us = Sign Comma ∷ []; vs = Word n ∷ []; parts = refl; first = refl; second = refl }
+names_parts : (ts : List Kind) (names : List (List ℕ)) → HasNames ts names → (n : List ℕ) × (ns : List (List ℕ)) × (us : List Kind) × (ts ≡ Word n ∷ us) × (n ∷ ns ≡ names) × NextNames us ns
+names_parts _ _ (one {n}) = (n, [], [], refl, refl, refl)
+names_parts _ _ (further {n} {ts} {names} h) =
+    let (m, ns, us, parts, are, others) = names_parts ts names h in
+    (n, m ∷ ns, Sign Comma ∷ ts, refl, ap (λ (xs : List (List ℕ)). n ∷ xs) are, (Sign Comma ∷ Word m ∷ [], us, ap (λ (zs : List Kind). Sign Comma ∷ zs) parts, refl, others))
 
-names_parts : (ts : List Kind) → HasNames ts → (n : List ℕ) × Two IsName NextNames ts (n, tt)
-names_parts _ (one {n}) = (n, record { us = Word n ∷ []; vs = []; parts = refl; first = refl; second = ([], refl) })
-names_parts _ (further {n} {ts} h) =
-    let (m, others) = names_parts ts h in
-    (n, record { us = Word n ∷ []; vs = Sign Comma ∷ ts; parts = refl; first = refl; second = ((tt, m) ∷ others.second.0, (Sign Comma ∷ Word m ∷ [], others.vs, ap (λ (us : List Kind). Sign Comma ∷ us) (others.parts ∙ ap (λ (us : List Kind). us ++ others.vs) others.first), one_next m, others.second.1)) })
+names_again : Again HasNames NoComma names_at
+unfolding names_at
+names_again ts names rest h stop =
+    let (n, ns, us, parts, are, others) = names_parts ts names h in
+    let go = made_again (Two IsName NextNames) NoComma (λ x. x.0 ∷ x.1) (both name_at next_names_at) (both_again IsName NextNames Any NoComma name_at next_names_at name_again next_names_again (λ ws y r k l. tt)) ts (n, ns) rest (record { us = Word n ∷ []; vs = us; parts = parts; first = refl; second = others }) stop in
+    subst (λ (x : List (List ℕ)). Leads (made (λ x. x.0 ∷ x.1) (both name_at next_names_at) (ts ++ rest)) (Ok (x, rest))) are go
 
-abbrev AllNames : List Kind → List ℕ × Unit {0} → Type 0
-AllNames = Two IsName NextNames
+closed_names_again : Again (Two HasNames (IsSign Close)) Any (both names_at (sign_at Close))
+closed_names_again = both_again HasNames (IsSign Close) NoComma Any names_at (sign_at Close) names_again (sign_again Close) (λ vs y rest is any. subst (λ (ws : List Kind). NoComma (ws ++ rest)) (sym is) refl)
 
-abbrev InKey : List Kind → Unit {0} × (Unit {0} × ((List ℕ × Unit {0}) × Unit {0})) → Type 0
-InKey = Two (IsKeyword (codes "KEY")) (Two (IsSign Open) (Two AllNames (IsSign Close)))
-
-closed_names_again : Again (Two AllNames (IsSign Close)) Any (both (both name_at next_names_at) (sign_at Close))
-closed_names_again =
-    both_again AllNames (IsSign Close) NoComma Any (both name_at next_names_at) (sign_at Close) (both_again IsName NextNames Any NoComma name_at next_names_at name_again next_names_again (λ ws y r k l. tt)) (sign_again Close)
-    (λ vs y rest is any. subst (λ (ws : List Kind). NoComma (ws ++ rest)) (sym is) refl)
-
-in_key_again : Again InKey Any (both (word_at (codes "KEY")) (both (sign_at Open) (both (both name_at next_names_at) (sign_at Close))))
+in_key_again : Again InKey Any (both (word_at (codes "KEY")) (both (sign_at Open) (both names_at (sign_at Close))))
 in_key_again =
-    both_again (IsKeyword (codes "KEY")) (Two (IsSign Open) (Two AllNames (IsSign Close))) Any Any (word_at (codes "KEY")) (both (sign_at Open) (both (both name_at next_names_at) (sign_at Close))) (word_again (codes "KEY"))
-    (both_again (IsSign Open) (Two AllNames (IsSign Close)) Any Any (sign_at Open) (both (both name_at next_names_at) (sign_at Close)) (sign_again Open) closed_names_again (λ vs y r k l. tt)) (λ vs y r k l. tt)
+    both_again (IsKeyword (codes "KEY")) (Two (IsSign Open) (Two HasNames (IsSign Close))) Any Any (word_at (codes "KEY")) (both (sign_at Open) (both names_at (sign_at Close))) (word_again (codes "KEY"))
+    (both_again (IsSign Open) (Two HasNames (IsSign Close)) Any Any (sign_at Open) (both names_at (sign_at Close)) (sign_again Open) closed_names_again (λ vs y r k l. tt)) (λ vs y r k l. tt)
 
-key_parts : (ts : List Kind) → Key ts → (n : List ℕ) × InKey ts (tt, (tt, ((n, tt), tt)))
-key_parts ts (w, us, parts, spelt, names) =
-    let (n, all) = names_parts us names in (
-      n,
-      record {
-        us = Word w ∷ [];
-        vs = Sign Open ∷ us ++ Sign Close ∷ [];
-        parts = parts;
-        first = (w, refl, spelt);
-        second = record { us = Sign Open ∷ []; vs = us ++ Sign Close ∷ []; parts = refl; first = refl; second = record { us = us; vs = Sign Close ∷ []; parts = refl; first = all; second = refl } };
-      },
-    )
+key_parts : (ts : List Kind) (names : List (List ℕ)) → Key ts names → InKey ts (tt, (tt, (names, tt)))
+key_parts ts names (w, us, parts, spelt, has) = record {
+  us = Word w ∷ [];
+  vs = Sign Open ∷ us ++ Sign Close ∷ [];
+  parts = parts;
+  first = (w, refl, spelt);
+  second = record { us = Sign Open ∷ []; vs = us ++ Sign Close ∷ []; parts = refl; first = refl; second = record { us = us; vs = Sign Close ∷ []; parts = refl; first = has; second = refl } };
+}
 
-key_again : (ts rest : List Kind) → Key ts → Leads (key_at (ts ++ rest)) (Ok (None, rest))
+key_again : (ts rest : List Kind) (names : List (List ℕ)) → Key ts names → Leads (key_at (ts ++ rest)) (Ok (key_clause names, rest))
 unfolding key_at
-key_again ts rest h =
-    let parts = key_parts ts h in
-    made_again InKey Any (λ _. None) (both (word_at (codes "KEY")) (both (sign_at Open) (both (both name_at next_names_at) (sign_at Close)))) in_key_again ts (tt, (tt, ((parts.0, tt), tt))) rest parts.1 tt
+key_again ts rest names h = made_again InKey Any (λ x. key_clause x.1.1.0) (both (word_at (codes "KEY")) (both (sign_at Open) (both names_at (sign_at Close)))) in_key_again ts (tt, (tt, (names, tt))) rest (key_parts ts names h) tt
 
 -- ---- columns
 
 column_again : Again IsColumn NoMark column_at
 unfolding column_at
 column_again ts c rest (us, parts, h) nomark =
-    made_again (Two IsName HasRest) NoMark column_of (both name_at rest_at) (both_again IsName HasRest Any NoMark name_at rest_at name_again rest_again (λ ws y r k l. tt)) ts (c.name, c.ty) rest
+    made_again (Two IsName HasRest) NoMark column_of (both name_at rest_at) (both_again IsName HasRest Any NoMark name_at rest_at name_again rest_again (λ ws y r k l. tt)) ts (c.name, rest_of c) rest
     (record { us = Word c.name ∷ []; vs = us; parts = parts; first = refl; second = h }) nomark
 
 -- a type is no KEY
@@ -201,43 +192,43 @@ type_starts _ _ (truth {w} e) = (w, [], refl, differs (codes "BOOLEAN") (codes "
 type_starts _ _ (text {w} e) = (w, [], refl, differs (codes "TEXT") (codes "KEY") w refl e)
 type_starts _ _ (sized {w} e) = (w, Sign Open ∷ Digits ∷ Sign Close ∷ [], refl, differs (codes "VARCHAR") (codes "KEY") w refl e)
 
-pub rest_starts : (us : List Kind) (t : Ty) → HasRest us t → (w : List ℕ) × (vs : List Kind) × (us ≡ Word w ∷ vs) × (spells (codes "KEY") w ≡ false)
+pub rest_starts : (us : List Kind) (x : Rest) → HasRest us x → (w : List ℕ) × (vs : List Kind) × (us ≡ Word w ∷ vs) × (spells (codes "KEY") w ≡ false)
 rest_starts _ _ (typed {us} {vs} {t} p q) =
     let (w, ws, parts, unlike) = type_starts us t p in
     (w, ws ++ vs, ap (λ (zs : List Kind). zs ++ vs) parts, unlike)
 
-typed_again : (us rest : List Kind) (t : Ty) → HasRest us t → NoMark rest → Leads (typed_at (us ++ rest)) (Ok (Some t, rest))
+typed_again : (us rest : List Kind) (x : Rest) → HasRest us x → NoMark rest → Leads (typed_at (us ++ rest)) (Ok (column_rest x, rest))
 unfolding typed_at
-typed_again us rest t h nomark = made_again HasRest NoMark (λ u. Some u) rest_at rest_again us t rest h nomark
+typed_again us rest x h nomark = made_again HasRest NoMark column_rest rest_at rest_again us x rest h nomark
 
 -- behind PRIMARY
-behind_again : Again Behind NoMark (either (is_word (codes "KEY")) key_at typed_at)
-behind_again ts None rest h nomark =
-    let go = key_again ts rest h in
-    let (w, us, parts, spelt, names) = h in
+behind_again : Again IsBehind NoMark (either (is_word (codes "KEY")) key_at typed_at)
+behind_again ts (key_clause names) rest h nomark =
+    let go = key_again ts rest names h in
+    let (w, us, parts, spelt, has) = h in
     let here : either (is_word (codes "KEY")) key_at typed_at (ts ++ rest) ≡ key_at (ts ++ rest) = rw (parts, spelt) refl in
-    subst (λ (read : Read Kind (Option Ty)). Leads read (Ok (None, rest))) (sym here) go
-behind_again ts (Some t) rest h nomark =
-    let go = typed_again ts rest t h nomark in
-    let (w, us, parts, unlike) = rest_starts ts t h in
+    subst (λ (read : Read Kind Behind). Leads read (Ok (key_clause names, rest))) (sym here) go
+behind_again ts (column_rest x) rest h nomark =
+    let go = typed_again ts rest x h nomark in
+    let (w, us, parts, unlike) = rest_starts ts x h in
     let here : either (is_word (codes "KEY")) key_at typed_at (ts ++ rest) ≡ typed_at (ts ++ rest) = rw (parts, unlike) refl in
-    subst (λ (read : Read Kind (Option Ty)). Leads read (Ok (Some t, rest))) (sym here) go
+    subst (λ (read : Read Kind Behind). Leads read (Ok (column_rest x, rest))) (sym here) go
 
 primary_word_again : Again IsPrimary Any (token_at primary_in)
 primary_word_again us n rest h any = inl (rw (h.0, h.1) refl)
 
-primary_again : (ts : List Kind) (x : List ℕ × Option Ty) (rest : List Kind) → Two IsPrimary Behind ts x → NoMark rest → Leads (primary_at (ts ++ rest)) (Ok (named x, rest))
+primary_again : (ts : List Kind) (x : List ℕ × Behind) (rest : List Kind) → Two IsPrimary IsBehind ts x → NoMark rest → Leads (primary_at (ts ++ rest)) (Ok (named x, rest))
 unfolding primary_at
 primary_again ts x rest h nomark =
-    made_again (Two IsPrimary Behind) NoMark named (both (token_at primary_in) (either (is_word (codes "KEY")) key_at typed_at))
-    (both_again IsPrimary Behind Any NoMark (token_at primary_in) (either (is_word (codes "KEY")) key_at typed_at) primary_word_again behind_again (λ ws y r k l. tt)) ts x rest h nomark
+    made_again (Two IsPrimary IsBehind) NoMark named (both (token_at primary_in) (either (is_word (codes "KEY")) key_at typed_at))
+    (both_again IsPrimary IsBehind Any NoMark (token_at primary_in) (either (is_word (codes "KEY")) key_at typed_at) primary_word_again behind_again (λ ws y r k l. tt)) ts x rest h nomark
 
 -- a word at an item's place, by whether it is PRIMARY
 item_is_primary : (w : List ℕ) (us : List Kind) → spells (codes "PRIMARY") w ≡ true → item_at (Word w ∷ us) ≡ primary_at (Word w ∷ us)
 unfolding item_at
 item_is_primary w us e = rw e refl
 
-item_is_column : (w : List ℕ) (us : List Kind) → spells (codes "PRIMARY") w ≡ false → item_at (Word w ∷ us) ≡ made (λ c. Some c) column_at (Word w ∷ us)
+item_is_column : (w : List ℕ) (us : List Kind) → spells (codes "PRIMARY") w ≡ false → item_at (Word w ∷ us) ≡ made (λ c. items.Column c) column_at (Word w ∷ us)
 unfolding item_at
 item_is_column w us e = rw e refl
 
@@ -249,20 +240,20 @@ by_word w = by_test (spells (codes "PRIMARY") w) refl
     by_test false e = inr e
 
 item_again : Again IsItem NoMark item_at
-item_again ts None rest (v, us, parts, spelt, h) nomark =
-    let go = primary_again ts (v, None) rest (record { us = Word v ∷ []; vs = us; parts = parts; first = (refl, spelt); second = h }) nomark in
+item_again ts (items.Key names) rest (v, us, parts, spelt, h) nomark =
+    let go = primary_again ts (v, key_clause names) rest (record { us = Word v ∷ []; vs = us; parts = parts; first = (refl, spelt); second = h }) nomark in
     let here : item_at (ts ++ rest) ≡ primary_at (ts ++ rest) = rw parts (item_is_primary v (us ++ rest) spelt) in
-    subst (λ (read : Read Kind (Option Column)). Leads read (Ok (None, rest))) (sym here) go
-item_again ts (Some c) rest (us, parts, h) nomark =
+    subst (λ (read : Read Kind Item). Leads read (Ok (items.Key names, rest))) (sym here) go
+item_again ts (items.Column c) rest (us, parts, h) nomark =
     elim (by_word c.name) [
       | inl spelt ↦
-          let go = primary_again ts (c.name, Some c.ty) rest (record { us = Word c.name ∷ []; vs = us; parts = parts; first = (refl, spelt); second = h }) nomark in
+          let go = primary_again ts (c.name, column_rest (rest_of c)) rest (record { us = Word c.name ∷ []; vs = us; parts = parts; first = (refl, spelt); second = h }) nomark in
           let here : item_at (ts ++ rest) ≡ primary_at (ts ++ rest) = rw parts (item_is_primary c.name (us ++ rest) spelt) in
-          subst (λ (read : Read Kind (Option Column)). Leads read (Ok (Some c, rest))) (sym here) go
+          subst (λ (read : Read Kind Item). Leads read (Ok (items.Column c, rest))) (sym here) go
       | inr unlike ↦
-          let go = made_again IsColumn NoMark (λ d. Some d) column_at column_again ts c rest (us, parts, h) nomark in
-          let here : item_at (ts ++ rest) ≡ made (λ d. Some d) column_at (ts ++ rest) = rw parts (item_is_column c.name (us ++ rest) unlike) in
-          subst (λ (read : Read Kind (Option Column)). Leads read (Ok (Some c, rest))) (sym here) go
+          let go = made_again IsColumn NoMark (λ d. items.Column d) column_at column_again ts c rest (us, parts, h) nomark in
+          let here : item_at (ts ++ rest) ≡ made (λ d. items.Column d) column_at (ts ++ rest) = rw parts (item_is_column c.name (us ++ rest) unlike) in
+          subst (λ (read : Read Kind Item). Leads read (Ok (items.Column c, rest))) (sym here) go
     ]
 
 next_item_again : Again IsNextItem NoMark next_item_at
@@ -271,18 +262,18 @@ next_item_again ts o rest (us, parts, h) nomark =
     made_again (Two (IsSign Comma) IsItem) NoMark (λ x. x.1) (both (sign_at Comma) item_at) (both_again (IsSign Comma) IsItem Any NoMark (sign_at Comma) item_at (sign_again Comma) item_again (λ ws y r k l. tt)) ts (tt, o) rest
     (record { us = Sign Comma ∷ []; vs = us; parts = parts; first = refl; second = h }) nomark
 
-next_item_starts : (us : List Kind) (o : Option Column) → IsNextItem us o → (t : Kind) × (vs : List Kind) × (us ≡ t ∷ vs) × (is_no_comma t ≡ false)
+next_item_starts : (us : List Kind) (o : Item) → IsNextItem us o → (t : Kind) × (vs : List Kind) × (us ≡ t ∷ vs) × (is_no_comma t ≡ false)
 next_item_starts us o h = (Sign Comma, h.0, h.1, refl)
 
-columns_series : (ts : List Kind) (columns : List Column) → HasColumns ts columns → HasSeries IsNextItem ts columns
-columns_series _ _ none = inl refl
-columns_series _ _ (key {v} {w} {ts} p q h) = inr (Word v ∷ Word w ∷ Sign Open ∷ ts ++ Sign Close ∷ [], refl, (v, Word w ∷ Sign Open ∷ ts ++ Sign Close ∷ [], refl, p, (w, ts, refl, q, h)))
-columns_series _ _ (more {n} {t} {us} {vs} {columns} p h) = (Sign Comma ∷ Word n ∷ us, vs, refl, (Word n ∷ us, refl, (us, refl, p)), columns_series vs columns h)
+columns_series : (ts : List Kind) (columns : List Column) (names : List (List ℕ)) → HasColumns ts columns names → HasSeries IsNextItem ts columns names
+columns_series _ _ _ none = inl (refl, refl)
+columns_series _ _ _ (key {v} {w} {ts} {names} p q h) = inr (Word v ∷ Word w ∷ Sign Open ∷ ts ++ Sign Close ∷ [], refl, (v, Word w ∷ Sign Open ∷ ts ++ Sign Close ∷ [], refl, p, (w, ts, refl, q, h)))
+columns_series _ _ _ (more {n} {rest} {us} {vs} {columns} {names} p h) = (Sign Comma ∷ Word n ∷ us, vs, refl, (Word n ∷ us, refl, (us, refl, p)), columns_series vs columns names h)
 
-columns_again : Again HasColumns (λ rest. NoComma rest × NoMark rest) columns_at
+columns_again : Again Others (λ rest. NoComma rest × NoMark rest) columns_at
 unfolding columns_at
-columns_again us columns rest h follows =
-    series_again is_no_comma IsNextItem next_item_at NoMark NoMark next_item_again next_item_starts (λ r e g. g) (λ vs o r k. subst (λ (ws : List Kind). NoMark (ws ++ r)) (sym k.1) refl) us columns rest (columns_series us columns h) follows
+columns_again us x rest h follows =
+    series_again is_no_comma IsNextItem next_item_at NoMark NoMark next_item_again next_item_starts (λ r e g. g) (λ vs o r k. subst (λ (ws : List Kind). NoMark (ws ++ r)) (sym k.1) refl) us x rest (columns_series us x.0 x.1 h) follows
 
 -- ---- tables
 
@@ -291,53 +282,76 @@ unfolding head_at
 head_again us n rest (v, w, is, p, q) any = inl (rw (is, p, q) refl)
 
 -- no mark stands behind a first column
-unmarked_columns : (vs rest : List Kind) (columns : List Column) → HasColumns vs columns → NoMark rest → NoMark (vs ++ rest)
-unmarked_columns _ rest _ none g = g
-unmarked_columns _ rest _ (key p q h) g = refl
-unmarked_columns _ rest _ (more p h) g = refl
+unmarked_columns : (vs rest : List Kind) (columns : List Column) (names : List (List ℕ)) → HasColumns vs columns names → NoMark rest → NoMark (vs ++ rest)
+unmarked_columns _ rest _ _ none g = g
+unmarked_columns _ rest _ _ (key p q h) g = refl
+unmarked_columns _ rest _ _ (more p h) g = refl
 
 body_again : Again IsBody (λ rest. NoComma rest × NoMark rest) body_at
 unfolding body_at
-body_again ts [] rest h follows = absurd h
-body_again ts (c ∷ columns) rest (us, vs, parts, column, others) follows =
-    made_again (Two IsColumn HasColumns) (λ r. NoComma r × NoMark r) (λ x. x.0 ∷ x.1) (both column_at columns_at)
-    (both_again IsColumn HasColumns NoMark (λ r. NoComma r × NoMark r) column_at columns_at column_again columns_again (λ ws y r k l. unmarked_columns ws r y k l.1)) ts (c, columns) rest
-    (record { us = us; vs = vs; parts = parts; first = column; second = others }) follows
+body_again ts ([], names) rest h follows = absurd h
+body_again ts (c ∷ columns, names) rest (us, vs, parts, first, others) follows =
+    made_again (Two IsColumn Others) (λ r. NoComma r × NoMark r) (λ x. (x.0 ∷ x.1.0, x.1.1)) (both column_at columns_at)
+    (both_again IsColumn Others NoMark (λ r. NoComma r × NoMark r) column_at columns_at column_again columns_again (λ ws y r k l. unmarked_columns ws r y.0 y.1 k l.1)) ts (c, (columns, names)) rest
+    (record { us = us; vs = vs; parts = parts; first = first; second = others }) follows
 
 tail_again : Again IsTail Any tail_at
 unfolding tail_at
 tail_again us x rest is any = inl (rw is refl)
 
-table_parts : (ts : List Kind) (t : Table) → HasTable ts t → InTable ts (t.name, (t.columns, (tt, tt)))
-table_parts _ _ (table {v} {w} {n} {m} {us} {vs} {t} {columns} p q h k) = record {
-  us = Word v ∷ Word w ∷ Word n ∷ Sign Open ∷ [];
-  vs = Word m ∷ us ++ (vs ++ Sign Close ∷ Sign Semicolon ∷ []);
-  parts = refl;
-  first = (v, w, refl, p, q);
-  second = record {
-    us = Word m ∷ us ++ vs;
-    vs = Sign Close ∷ Sign Semicolon ∷ [];
-    parts = sym (append_assoc (Word m ∷ us) vs (Sign Close ∷ Sign Semicolon ∷ []));
-    first = (Word m ∷ us, vs, refl, (us, refl, h), k);
-    second = refl;
-  };
-}
+-- the parts of a draft
+abbrev parts_of : Draft → List ℕ × (Columns × (Unit {0} × Unit {0}))
+parts_of d = (d.table.name, ((d.table.columns, d.key), (tt, tt)))
 
-table_again : Again HasTable Any table_at
-unfolding table_at
-table_again ts t rest h any =
-    made_again InTable Any table_from (both head_at (both body_at tail_at))
+abbrev IsDraft : List Kind → Draft → Type 0
+IsDraft ts d = InTable ts (parts_of d)
+
+table_parts : (ts : List Kind) (t : Table) → HasTable ts t → (d : Draft) × (table_of d ≡ t) × IsDraft ts d
+table_parts _ _ (table {v} {w} {n} {m} {us} {vs} {rest} {columns} {names} p q h k) = (
+  record { table = record { name = n; columns = column_of (m, rest) ∷ columns }; key = names },
+  refl,
+  record {
+    us = Word v ∷ Word w ∷ Word n ∷ Sign Open ∷ [];
+    vs = Word m ∷ us ++ (vs ++ Sign Close ∷ Sign Semicolon ∷ []);
+    parts = refl;
+    first = (v, w, refl, p, q);
+    second = record {
+      us = Word m ∷ us ++ vs;
+      vs = Sign Close ∷ Sign Semicolon ∷ [];
+      parts = sym (append_assoc (Word m ∷ us) vs (Sign Close ∷ Sign Semicolon ∷ []));
+      first = (Word m ∷ us, vs, refl, (us, refl, h), k);
+      second = refl;
+    };
+  },
+)
+
+draft_again : Again IsDraft Any draft_at
+unfolding draft_at
+draft_again ts d rest h any =
+    made_again InTable Any draft_from (both head_at (both body_at tail_at))
     (both_again IsHead (Two IsBody IsTail) Any Any head_at (both body_at tail_at) head_again
     (both_again IsBody IsTail (λ r. NoComma r × NoMark r) Any body_at tail_at body_again tail_again (λ vs y r is l. subst (λ (ws : List Kind). NoComma (ws ++ r) × NoMark (ws ++ r)) (sym is) (refl, refl))) (λ ws y r k l. tt))
-    ts (t.name, (t.columns, (tt, tt))) rest (table_parts ts t h) tt
+    ts (parts_of d) rest h tt
 
-table_starts : (us : List Kind) (t : Table) → HasTable us t → (k : Kind) × (vs : List Kind) × (us ≡ k ∷ vs) × (never k ≡ false)
-table_starts _ _ (table {v} {w} {n} {m} {us} {vs} p q h k) = (Word v, Word w ∷ Word n ∷ Sign Open ∷ Word m ∷ us ++ (vs ++ Sign Close ∷ Sign Semicolon ∷ []), refl, refl)
+draft_starts : (us : List Kind) (d : Draft) → IsDraft us d → (k : Kind) × (vs : List Kind) × (us ≡ k ∷ vs) × (never k ≡ false)
+draft_starts us d h =
+    let (v, w, is, create, table_word) = h.first in
+    (Word v, Word w ∷ Word d.table.name ∷ Sign Open ∷ h.vs, h.parts ∙ ap (λ (zs : List Kind). zs ++ h.vs) is, refl)
 
-tables_many : (ts : List Kind) (tables : List Table) → HasSchema ts tables → HasMany HasTable ts tables
-tables_many _ _ empty = refl
-tables_many _ _ (followed {us} {vs} {t} {tables} p h) = (us, vs, refl, p, tables_many vs tables h)
+tables_many : (ts : List Kind) (tables : List Table) → HasSchema ts tables → (ds : List Draft) × (map table_of ds ≡ tables) × HasMany IsDraft ts ds
+tables_many _ _ empty = ([], refl, refl)
+tables_many _ _ (followed {us} {vs} {t} {tables} p h) =
+    let (d, is, has) = table_parts us t p in
+    let (ds, are, others) = tables_many vs tables h in
+    (d ∷ ds, ap (λ (u : Table). u ∷ map table_of ds) is ∙ ap (λ (ts : List Table). t ∷ ts) are, (us, vs, refl, has, others))
+
+drafts_again : Again (HasMany IsDraft) (λ rest. is_over never rest ≡ true) drafts_at
+unfolding drafts_at
+drafts_again = many_again never IsDraft Any draft_at draft_again draft_starts (λ r k. tt) (λ vs x r k. tt)
 
 pub tables_again : Again HasSchema (λ rest. is_over never rest ≡ true) tables_at
 unfolding tables_at
-tables_again us tables rest h e = many_again never HasTable Any table_at table_again table_starts (λ r k. tt) (λ vs x r k. tt) us tables rest (tables_many us tables h) e
+tables_again us tables rest h e =
+    let (ds, are, has) = tables_many us tables h in
+    let go = made_again (HasMany IsDraft) (λ r. is_over never r ≡ true) (map table_of) drafts_at drafts_again us ds rest has e in
+    subst (λ (ts : List Table). Leads (made (map table_of) drafts_at (us ++ rest)) (Ok (ts, rest))) are go

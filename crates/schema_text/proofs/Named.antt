@@ -1,5 +1,5 @@
 -- The tables that a text declares have names: a word of a text is one.
-use Rattle.std.proofs.Common.{◌≡◌, ℕ, zero, suc, pred, ◌+◌, Bool, true, false, ◌&&◌, ◌||◌, ◌==◌, cond, List, [], ◌∷◌, ◌++◌, take, Option, Some, None, refl, sym, ap, ap₂, ◌∙◌, subst, arith}
+use Rattle.std.proofs.Common.{◌≡◌, ℕ, zero, suc, pred, ◌+◌, Bool, true, false, ◌&&◌, ◌||◌, ◌==◌, cond, List, [], ◌∷◌, ◌++◌, take, map, Option, Some, None, refl, sym, ap, ap₂, ◌∙◌, subst, arith}
 use Rattle.std.specs.List.{AllByRecursion, list_all, prefix_len}
 use Rattle.qbs_base.specs.declared.span.Span.{Span}
 use Rattle.qbs_base.specs.declared.columns.Column.{Column}
@@ -14,6 +14,7 @@ use Rattle.qbs_base.specs.Bytes.{is_white, is_digit, is_name_start, is_name_part
 use Rattle.qbs_base.specs.Places.{first_place, next_place, place_after, between}
 use Rattle.schema.specs.Tokens.{Piece, sign_of, piece_of, placed, tokens_from, tokens_of, kinds_of}
 use Rattle.schema.specs.Grammar.{HasColumns, none, key, more, HasTable, table, HasSchema, empty, followed}
+use Rattle.schema.specs.Marks.{keyed}
 use Rattle.schema.specs.Rules.{AreNamed}
 
 -- a word is a name
@@ -103,19 +104,24 @@ rest_of (u ∷ us) vs h = rest_of us vs h.1
 abbrev IsNamed : Column → Type 0
 IsNamed c = is_name c.name ≡ true
 
-columns_named : (ts : List Kind) (columns : List Column) → HasColumns ts columns → AllByRecursion Named ts → AllByRecursion IsNamed columns
-columns_named _ _ none h = tt
-columns_named _ _ (key p q names) h = tt
-columns_named _ _ (more {n} {t} {us} {vs} {columns} p others) h = (h.1.0, columns_named vs columns others (rest_of us vs h.1.1))
+columns_named : (ts : List Kind) (columns : List Column) (names : List (List ℕ)) → HasColumns ts columns names → AllByRecursion Named ts → AllByRecursion IsNamed columns
+columns_named _ _ _ none h = tt
+columns_named _ _ _ (key p q names) h = tt
+columns_named _ _ _ (more {n} {rest} {us} {vs} {columns} {names} p others) h = (h.1.0, columns_named vs columns names others (rest_of us vs h.1.1))
+
+-- a key clause changes no name
+keyed_named : (names : List (List ℕ)) (columns : List Column) → AllByRecursion IsNamed columns → AllByRecursion IsNamed (map (keyed names) columns)
+keyed_named names [] h = tt
+keyed_named names (c ∷ columns) h = (h.0, keyed_named names columns h.1)
 
 abbrev IsTableNamed : Table → Type 0
 IsTableNamed t = (is_name t.name ≡ true) × AllByRecursion IsNamed t.columns
 
 table_named : (ts : List Kind) (t : Table) → HasTable ts t → AllByRecursion Named ts → IsTableNamed t
-table_named _ _ (table {v} {w} {n} {m} {us} {vs} {t} {columns} p q first others) h =
+table_named _ _ (table {v} {w} {n} {m} {us} {vs} {rest} {columns} {names} p q first others) h =
     let body = h.1.1.1.1 in
-    let rest = rest_of us (vs ++ Sign Close ∷ Sign Semicolon ∷ []) body.1 in
-    (h.1.1.0, (body.0, columns_named vs columns others (front_of vs (Sign Close ∷ Sign Semicolon ∷ []) rest)))
+    let behind = rest_of us (vs ++ Sign Close ∷ Sign Semicolon ∷ []) body.1 in
+    (h.1.1.0, (body.0, keyed_named names columns (columns_named vs columns names others (front_of vs (Sign Close ∷ Sign Semicolon ∷ []) behind))))
 
 schema_named : (ts : List Kind) (tables : List Table) → HasSchema ts tables → AllByRecursion Named ts → AllByRecursion IsTableNamed tables
 schema_named _ _ empty h = tt

@@ -1,5 +1,5 @@
 -- All tokens of a text: what is read has them by the grammar, and where reading stops is the first fault.
-use Rattle.std.proofs.Common.{◌≡◌, ℕ, suc, ◌≤◌, length, arith, List, [], ◌∷◌, ◌++◌, Some, None, Ok, Err, refl, sym, subst, inl, inr}
+use Rattle.std.proofs.Common.{◌≡◌, ℕ, suc, ◌≤◌, length, arith, List, [], ◌∷◌, ◌++◌, map, Ok, Err, refl, sym, subst, inl, inr}
 use Rattle.std.proofs.lemmas.List.{append-nil}
 use Rattle.readers.specs.declared.fault.Fault.{Fault}
 use Rattle.readers.specs.declared.fault.Fault.TheVariants.{Unexpected, TooDeep}
@@ -13,9 +13,12 @@ use Rattle.schema.specs.declared.token.Kind.{Kind}
 use Rattle.schema.specs.declared.token.Sign.TheVariants.{Open, Close, Comma, Semicolon}
 use Rattle.std.specs.Prelude.{codes}
 use Rattle.qbs_base.specs.declared.scalar.Ty.TheVariants as ty
+use Rattle.schema.specs.declared.draft.Item.TheVariants as items
+use Rattle.schema.specs.declared.draft.Mark.TheVariants.{NotNull, PrimaryKey}
+use Rattle.schema.specs.Marks.{no_marks, column_of, table_of}
 use Rattle.schema.specs.Grammar.{HasSchema}
 use Rattle.schema.specs.Schemas.{left_of}
-use Rattle.schema.specs.Reading.{is_word, is_sign, is_digits, passing, word_in, name_at, word_at, sign_at, digits_at, type_in, sized_at, type_at, is_no_mark, mark_at, marks_at, rest_at, is_no_comma, next_name_at, next_names_at, key_at, typed_at, named, column_of, column_at, primary_in, primary_at, item_at, next_item_at, columns_at, head_at, body_at, tail_at, table_from, table_at, never, tables_at, read_of}
+use Rattle.schema.specs.Reading.{is_word, is_sign, is_digits, passing, word_in, name_at, word_at, sign_at, digits_at, type_in, sized_at, type_at, is_no_mark, mark_at, marked, marks_at, rest_at, is_no_comma, next_name_at, next_names_at, names_at, key_clause, column_rest, key_at, typed_at, named, column_at, primary_in, primary_at, item_at, next_item_at, columns_at, head_at, body_at, tail_at, draft_from, draft_at, never, drafts_at, tables_at, read_of}
 use Rattle.readers.proofs.Shallow.{Shallow, token_shallow, both_shallow, made_shallow, either_shallow, many_shallow, whole_shallow}
 use Rattle.schema_text.proofs.Shallow.{series_shallow}
 use Rattle.schema_text.proofs.Grammatical.{tables_lawful}
@@ -41,29 +44,36 @@ type_shallow =
     (both_shallow (sign_at Open) (both digits_at (sign_at Close)) (token_shallow (passing (is_sign Open))) (both_shallow digits_at (sign_at Close) digits_shallow (token_shallow (passing (is_sign Close)))))))
     (token_shallow type_in)
 
+mark_shallow : Shallow mark_at
+unfolding mark_at
+mark_shallow =
+    either_shallow (is_word (codes "NOT")) (made (λ _. NotNull) (both (word_at (codes "NOT")) (word_at (codes "NULL")))) (made (λ _. PrimaryKey) (both (word_at (codes "PRIMARY")) (word_at (codes "KEY"))))
+    (made_shallow (λ _. NotNull) (both (word_at (codes "NOT")) (word_at (codes "NULL"))) (both_shallow (word_at (codes "NOT")) (word_at (codes "NULL")) (word_shallow (codes "NOT")) (word_shallow (codes "NULL"))))
+    (made_shallow (λ _. PrimaryKey) (both (word_at (codes "PRIMARY")) (word_at (codes "KEY"))) (both_shallow (word_at (codes "PRIMARY")) (word_at (codes "KEY")) (word_shallow (codes "PRIMARY")) (word_shallow (codes "KEY"))))
+
 marks_shallow : Shallow marks_at
-unfolding marks_at mark_at
-marks_shallow =
-    made_shallow (λ _. tt) (many is_no_mark mark_at) (many_shallow is_no_mark mark_at
-    (either_shallow (is_word (codes "NOT")) (both (word_at (codes "NOT")) (word_at (codes "NULL"))) (both (word_at (codes "PRIMARY")) (word_at (codes "KEY")))
-    (both_shallow (word_at (codes "NOT")) (word_at (codes "NULL")) (word_shallow (codes "NOT")) (word_shallow (codes "NULL")))
-    (both_shallow (word_at (codes "PRIMARY")) (word_at (codes "KEY")) (word_shallow (codes "PRIMARY")) (word_shallow (codes "KEY")))))
+unfolding marks_at
+marks_shallow = made_shallow (marked no_marks) (many is_no_mark mark_at) (many_shallow is_no_mark mark_at mark_shallow)
 
 rest_shallow : Shallow rest_at
 unfolding rest_at
-rest_shallow = made_shallow (λ x. x.0) (both type_at marks_at) (both_shallow type_at marks_at type_shallow marks_shallow)
+rest_shallow = both_shallow type_at marks_at type_shallow marks_shallow
 
-next_names_shallow : Shallow next_names_at
-unfolding next_names_at next_name_at
-next_names_shallow = made_shallow (λ _. tt) (many is_no_comma next_name_at) (many_shallow is_no_comma next_name_at (both_shallow (sign_at Comma) name_at (token_shallow (passing (is_sign Comma))) name_shallow))
+next_name_shallow : Shallow next_name_at
+unfolding next_name_at
+next_name_shallow = made_shallow (λ x. x.1) (both (sign_at Comma) name_at) (both_shallow (sign_at Comma) name_at (token_shallow (passing (is_sign Comma))) name_shallow)
+
+names_shallow : Shallow names_at
+unfolding names_at next_names_at
+names_shallow = made_shallow (λ x. x.0 ∷ x.1) (both name_at next_names_at) (both_shallow name_at next_names_at name_shallow (many_shallow is_no_comma next_name_at next_name_shallow))
 
 key_shallow : Shallow key_at
 unfolding key_at
 key_shallow =
-    made_shallow (λ _. None) (both (word_at (codes "KEY")) (both (sign_at Open) (both (both name_at next_names_at) (sign_at Close))))
-    (both_shallow (word_at (codes "KEY")) (both (sign_at Open) (both (both name_at next_names_at) (sign_at Close))) (word_shallow (codes "KEY"))
-    (both_shallow (sign_at Open) (both (both name_at next_names_at) (sign_at Close)) (token_shallow (passing (is_sign Open)))
-    (both_shallow (both name_at next_names_at) (sign_at Close) (both_shallow name_at next_names_at name_shallow next_names_shallow) (token_shallow (passing (is_sign Close))))))
+    made_shallow (λ x. key_clause x.1.1.0) (both (word_at (codes "KEY")) (both (sign_at Open) (both names_at (sign_at Close))))
+    (both_shallow (word_at (codes "KEY")) (both (sign_at Open) (both names_at (sign_at Close))) (word_shallow (codes "KEY"))
+    (both_shallow (sign_at Open) (both names_at (sign_at Close)) (token_shallow (passing (is_sign Open)))
+    (both_shallow names_at (sign_at Close) names_shallow (token_shallow (passing (is_sign Close))))))
 
 column_shallow : Shallow column_at
 unfolding column_at
@@ -72,11 +82,11 @@ column_shallow = made_shallow column_of (both name_at rest_at) (both_shallow nam
 item_shallow : Shallow item_at
 unfolding item_at primary_at typed_at
 item_shallow =
-    either_shallow (is_word (codes "PRIMARY")) primary_at (made (λ c. Some c) column_at)
+    either_shallow (is_word (codes "PRIMARY")) primary_at (made (λ c. items.Column c) column_at)
     (made_shallow named (both (token_at primary_in) (either (is_word (codes "KEY")) key_at typed_at))
     (both_shallow (token_at primary_in) (either (is_word (codes "KEY")) key_at typed_at) (token_shallow primary_in)
-    (either_shallow (is_word (codes "KEY")) key_at typed_at key_shallow (made_shallow (λ t. Some t) rest_at rest_shallow))))
-    (made_shallow (λ c. Some c) column_at column_shallow)
+    (either_shallow (is_word (codes "KEY")) key_at typed_at key_shallow (made_shallow column_rest rest_at rest_shallow))))
+    (made_shallow (λ c. items.Column c) column_at column_shallow)
 
 columns_shallow : Shallow columns_at
 unfolding columns_at next_item_at
@@ -84,21 +94,21 @@ columns_shallow =
     series_shallow is_no_comma next_item_at
     (made_shallow (λ x. x.1) (both (sign_at Comma) item_at) (both_shallow (sign_at Comma) item_at (token_shallow (passing (is_sign Comma))) item_shallow))
 
-table_shallow : Shallow table_at
-unfolding table_at head_at body_at tail_at
-table_shallow =
-    made_shallow table_from (both head_at (both body_at tail_at))
+draft_shallow : Shallow draft_at
+unfolding draft_at head_at body_at tail_at
+draft_shallow =
+    made_shallow draft_from (both head_at (both body_at tail_at))
     (both_shallow head_at (both body_at tail_at)
     (made_shallow (λ x. x.1.1.0) (both (word_at (codes "CREATE")) (both (word_at (codes "TABLE")) (both name_at (sign_at Open))))
     (both_shallow (word_at (codes "CREATE")) (both (word_at (codes "TABLE")) (both name_at (sign_at Open))) (word_shallow (codes "CREATE"))
     (both_shallow (word_at (codes "TABLE")) (both name_at (sign_at Open)) (word_shallow (codes "TABLE")) (both_shallow name_at (sign_at Open) name_shallow (token_shallow (passing (is_sign Open)))))))
     (both_shallow body_at tail_at
-    (made_shallow (λ x. x.0 ∷ x.1) (both column_at columns_at) (both_shallow column_at columns_at column_shallow columns_shallow))
+    (made_shallow (λ x. (x.0 ∷ x.1.0, x.1.1)) (both column_at columns_at) (both_shallow column_at columns_at column_shallow columns_shallow))
     (both_shallow (sign_at Close) (sign_at Semicolon) (token_shallow (passing (is_sign Close))) (token_shallow (passing (is_sign Semicolon))))))
 
 tables_shallow : Shallow tables_at
-unfolding tables_at
-tables_shallow = many_shallow never table_at table_shallow
+unfolding tables_at drafts_at
+tables_shallow = made_shallow (map table_of) drafts_at (many_shallow never draft_at draft_shallow)
 
 -- ---- all of the tokens
 

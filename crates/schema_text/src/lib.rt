@@ -6,6 +6,7 @@ mod keywords;
 pub mod laws;
 mod lexing;
 mod loading;
+mod marking;
 mod names;
 mod parsing;
 mod records;

@@ -18,7 +18,7 @@ ghost use Rattle.schema.specs.Naming.{Declared, next_where, begins_key as begins
 ghost use Rattle.schema.specs.declared.names.Where.TheVariants.{Create};
 
 /// Whether a name is one of these.
-fn holds(names: &[Name], name: &Name) -> bool
+pub fn holds(names: &[Name], name: &Name) -> bool
     ensures { result ≡ is_among bytes_eq names.now name.now }
 {
     for other in names {

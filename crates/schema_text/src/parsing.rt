@@ -1,11 +1,13 @@
 // Tokens to tables, from left to right.
-ghost use Rattle.std.specs.Prelude.{◌≡◌, ◌∷◌, length, map, Ok, Some, None, option_map, codes, not};
+ghost use Rattle.std.specs.Prelude.{◌≡◌, length, map};
 ghost use Rattle.readers.specs.Reading.{Gives, first_passes, is_over, token_at};
 ghost use Rattle.schema.specs.Tokens.{kinds_of};
-ghost use Rattle.schema.specs.Reading.{is_word, is_no_mark, is_no_comma, type_in, primary_in, name_at, word_at, sign_at, digits_at, sized_at, type_at, mark_at, marks_at, rest_at, next_name_at, next_names_at, key_at, column_at, item_at, next_item_at, columns_behind, head_at, body_at, tail_at, table_at, tables_at, read_of};
+ghost use Rattle.schema.specs.Marks.{table_of};
+ghost use Rattle.schema.specs.Reading.{is_word, is_no_mark, is_no_comma, type_in, primary_in, name_at, word_at, sign_at, digits_at, sized_at, type_at, mark_at, marks_at, rest_at, next_name_at, names_behind, names_at, key_clause, key_at, column_at, item_at, next_item_at, columns_behind, head_at, body_at, tail_at, draft_at, drafts_at, read_of};
 
-use qbs_base::{Column, Columns, Name, Table, Ty};
+use qbs_base::{Column, Columns, Name, Names, Table, Ty};
 use readers::{Fault, ReadError};
+use schema::draft::{Draft, Item, Mark, Marks, column_of};
 use schema::keywords::spells;
 use schema::token::{Sign, Token};
 use std::alloc::Global;
@@ -29,6 +31,15 @@ fn name(tokens: &[Token]) -> Result<(&Name, &[Token]), ReadError>
             None => Err(unexpected(tokens)),
         },
     }
+}
+
+/// A copy of a name.
+fn copied_name(tokens: &[Token]) -> Result<(Name, &[Token]), ReadError>
+    ensures { Gives (λ x. (x.0, kinds_of x.1.now)) result (name_at (kinds_of tokens.now)) }
+{
+    let (name, rest) = name(tokens)?;
+    let name = name.clone()?;
+    Ok((name, rest))
 }
 
 fn word<'a>(keyword: &str, tokens: &'a [Token]) -> Result<&'a [Token], ReadError>
@@ -106,13 +117,15 @@ fn ty(tokens: &[Token]) -> Result<(Ty, &[Token]), ReadError>
 
 /// NOT NULL or PRIMARY KEY.
 #[tactic(auto, unfolding(schema::specs::Reading::mark_at))]
-fn mark(tokens: &[Token]) -> Result<&[Token], ReadError>
-    ensures { Gives (λ x. ((tt, tt), kinds_of x.now)) result (mark_at (kinds_of tokens.now)) }
+fn mark(tokens: &[Token]) -> Result<(Mark, &[Token]), ReadError>
+    ensures { Gives (λ x. (x.0, kinds_of x.1.now)) result (mark_at (kinds_of tokens.now)) }
 {
     if is_next("NOT", tokens) {
-        word("NULL", word("NOT", tokens)?)
+        let rest = word("NULL", word("NOT", tokens)?)?;
+        Ok((Mark::NotNull, rest))
     } else {
-        word("KEY", word("PRIMARY", tokens)?)
+        let rest = word("KEY", word("PRIMARY", tokens)?)?;
+        Ok((Mark::PrimaryKey, rest))
     }
 }
 
@@ -124,27 +137,34 @@ fn is_unmarked(tokens: &[Token]) -> bool
 }
 
 /// NOT NULL and PRIMARY KEY, any number of them.
-fn marks(tokens: &[Token]) -> Result<&[Token], ReadError>
-    ensures { Gives (λ x. (tt, kinds_of x.now)) result (marks_at (kinds_of tokens.now)) }
+fn marks(tokens: &[Token]) -> Result<(Marks, &[Token]), ReadError>
+    ensures { Gives (λ x. (x.0, kinds_of x.1.now)) result (marks_at (kinds_of tokens.now)) }
 {
+    let mut marks = Marks {
+        not_null: false,
+        primary: false,
+    };
     let mut rest = tokens;
     // Each has a token at least.
     for _ in 0..tokens.len() {
         if is_unmarked(rest) {
             break;
         }
-        rest = mark(rest)?;
+        let (mark, after) = mark(rest)?;
+        marks = marks.with(mark);
+        rest = after;
     }
-    Ok(rest)
+    Ok((marks, rest))
 }
 
 /// What stands behind the name of a column.
 #[tactic(auto, unfolding(schema::specs::Reading::rest_at))]
-fn column_type(tokens: &[Token]) -> Result<(Ty, &[Token]), ReadError>
-    ensures { Gives (λ x. (x.0, kinds_of x.1.now)) result (rest_at (kinds_of tokens.now)) }
+fn column_type(tokens: &[Token]) -> Result<(Ty, Marks, &[Token]), ReadError>
+    ensures { Gives (λ x. ((x.0, x.1), kinds_of x.2.now)) result (rest_at (kinds_of tokens.now)) }
 {
     let (ty, rest) = ty(tokens)?;
-    Ok((ty, marks(rest)?))
+    let (marks, rest) = marks(rest)?;
+    Ok((ty, marks, rest))
 }
 
 // ---- columns and the key clause
@@ -161,16 +181,16 @@ fn is_last(tokens: &[Token]) -> bool
 
 /// A comma and a name.
 #[tactic(auto, unfolding(schema::specs::Reading::next_name_at))]
-fn next_name(tokens: &[Token]) -> Result<(&Name, &[Token]), ReadError>
-    ensures { Gives (λ x. ((tt, x.0.now), kinds_of x.1.now)) result (next_name_at (kinds_of tokens.now)) }
+fn next_name(tokens: &[Token]) -> Result<(Name, &[Token]), ReadError>
+    ensures { Gives (λ x. (x.0, kinds_of x.1.now)) result (next_name_at (kinds_of tokens.now)) }
 {
     let rest = sign(Sign::Comma, tokens)?;
-    name(rest)
+    copied_name(rest)
 }
 
-/// Names with a comma before each.
-fn next_names(tokens: &[Token]) -> Result<&[Token], ReadError>
-    ensures { Gives (λ x. (tt, kinds_of x.now)) result (next_names_at (kinds_of tokens.now)) }
+/// The names that are read already and those that follow, with a comma before each.
+fn next_names(mut names: Vec<Name>, tokens: &[Token]) -> Result<(Vec<Name>, &[Token]), ReadError>
+    ensures { Gives (λ x. (x.0.items, kinds_of x.1.now)) result (names_behind names.items (kinds_of tokens.now)) }
 {
     let mut rest = tokens;
     // Each has a token at least.
@@ -178,22 +198,32 @@ fn next_names(tokens: &[Token]) -> Result<&[Token], ReadError>
         if is_last(rest) {
             break;
         }
-        let (_, after) = next_name(rest)?;
+        let (name, after) = next_name(rest)?;
+        names.push(name)?;
         rest = after;
     }
-    Ok(rest)
+    Ok((names, rest))
 }
 
-/// A key clause behind PRIMARY. Its names are not looked up.
+/// Names with commas between them.
+#[tactic(auto, unfolding(schema::specs::Reading::names_at, schema::specs::Reading::names_behind))]
+fn names(alloc: Global, tokens: &[Token]) -> Result<(Vec<Name>, &[Token]), ReadError>
+    ensures { Gives (λ x. (x.0.items, kinds_of x.1.now)) result (names_at (kinds_of tokens.now)) }
+{
+    let (first, rest) = copied_name(tokens)?;
+    next_names(vec![in alloc; first]?, rest)
+}
+
+/// A key clause behind PRIMARY. Its names are not looked up here.
 #[tactic(auto, unfolding(schema::specs::Reading::key_at))]
-fn key(tokens: &[Token]) -> Result<&[Token], ReadError>
-    ensures { Gives (λ x. (None, kinds_of x.now)) result (key_at (kinds_of tokens.now)) }
+fn key(alloc: Global, tokens: &[Token]) -> Result<(Names, &[Token]), ReadError>
+    ensures { Gives (λ x. (key_clause x.0, kinds_of x.1.now)) result (key_at (kinds_of tokens.now)) }
 {
     let rest = word("KEY", tokens)?;
     let rest = sign(Sign::Open, rest)?;
-    let (_, rest) = name(rest)?;
-    let rest = next_names(rest)?;
-    sign(Sign::Close, rest)
+    let (names, rest) = names(alloc, rest)?;
+    let rest = sign(Sign::Close, rest)?;
+    Ok((Names::from_vec(names), rest))
 }
 
 #[tactic(auto, unfolding(schema::specs::Reading::column_at))]
@@ -201,9 +231,9 @@ fn column(tokens: &[Token]) -> Result<(Column, &[Token]), ReadError>
     ensures { Gives (λ x. (x.0, kinds_of x.1.now)) result (column_at (kinds_of tokens.now)) }
 {
     let (name, rest) = name(tokens)?;
-    let (ty, rest) = column_type(rest)?;
+    let (ty, marks, rest) = column_type(rest)?;
     let name = name.clone()?;
-    Ok((Column { name, ty }, rest))
+    Ok((column_of(name, ty, marks), rest))
 }
 
 /// The word PRIMARY, as the name that it may be.
@@ -219,37 +249,43 @@ fn primary(tokens: &[Token]) -> Result<(&Name, &[Token]), ReadError>
     }
 }
 
-/// What stands behind a comma: a key clause, which is None, or a column. PRIMARY begins a key
-/// clause exactly where KEY follows.
+/// What stands behind a comma: a key clause or a column. PRIMARY begins a key clause exactly where
+/// KEY follows.
 #[tactic(auto, unfolding(schema::specs::Reading::item_at, schema::specs::Reading::primary_at, schema::specs::Reading::typed_at))]
-fn item(tokens: &[Token]) -> Result<(Option<Column>, &[Token]), ReadError>
+fn item(alloc: Global, tokens: &[Token]) -> Result<(Item, &[Token]), ReadError>
     ensures { Gives (λ x. (x.0, kinds_of x.1.now)) result (item_at (kinds_of tokens.now)) }
 {
     if !is_next("PRIMARY", tokens) {
         let (column, rest) = column(tokens)?;
-        return Ok((Some(column), rest));
+        return Ok((Item::Column(column), rest));
     }
     let (name, rest) = primary(tokens)?;
     if is_next("KEY", rest) {
-        return Ok((None, key(rest)?));
+        let (names, rest) = key(alloc, rest)?;
+        return Ok((Item::Key(names), rest));
     }
-    let (ty, rest) = column_type(rest)?;
+    let (ty, marks, rest) = column_type(rest)?;
     let name = name.clone()?;
-    Ok((Some(Column { name, ty }), rest))
+    Ok((Item::Column(column_of(name, ty, marks)), rest))
 }
 
 /// A comma and what stands behind it.
 #[tactic(auto, unfolding(schema::specs::Reading::next_item_at))]
-fn next_item(tokens: &[Token]) -> Result<(Option<Column>, &[Token]), ReadError>
+fn next_item(alloc: Global, tokens: &[Token]) -> Result<(Item, &[Token]), ReadError>
     ensures { Gives (λ x. (x.0, kinds_of x.1.now)) result (next_item_at (kinds_of tokens.now)) }
 {
     let rest = sign(Sign::Comma, tokens)?;
-    item(rest)
+    item(alloc, rest)
 }
 
-/// The columns that are read already and those that follow, and the key clause, if there is one.
-fn further(mut columns: Vec<Column>, tokens: &[Token]) -> Result<(Vec<Column>, &[Token]), ReadError>
-    ensures { Gives (λ x. (x.0.items, kinds_of x.1.now)) result (columns_behind columns.items (kinds_of tokens.now)) }
+/// The columns that are read already and those that follow, and the names of the key clause, none
+/// where there is no such clause.
+fn further(
+    alloc: Global,
+    mut columns: Vec<Column>,
+    tokens: &[Token],
+) -> Result<(Vec<Column>, Names, &[Token]), ReadError>
+    ensures { Gives (λ x. ((x.0.items, x.1), kinds_of x.2.now)) result (columns_behind columns.items (kinds_of tokens.now)) }
 {
     let mut rest = tokens;
     // Each has a token at least.
@@ -257,23 +293,23 @@ fn further(mut columns: Vec<Column>, tokens: &[Token]) -> Result<(Vec<Column>, &
         if is_last(rest) {
             break;
         }
-        let (column, after) = next_item(rest)?;
-        match column {
-            Some(column) => columns.push(column)?,
-            None => return Ok((columns, after)),
+        let (item, after) = next_item(alloc, rest)?;
+        match item {
+            Item::Column(column) => columns.push(column)?,
+            Item::Key(names) => return Ok((columns, names, after)),
         }
         rest = after;
     }
-    Ok((columns, rest))
+    Ok((columns, Names::new(alloc), rest))
 }
 
-/// All columns of a table, and its key clause, if there is one.
+/// All columns of a table, and the names of its key clause.
 #[tactic(auto, unfolding(schema::specs::Reading::body_at, schema::specs::Reading::columns_behind))]
-fn body(alloc: Global, tokens: &[Token]) -> Result<(Vec<Column>, &[Token]), ReadError>
-    ensures { Gives (λ x. (x.0.items, kinds_of x.1.now)) result (body_at (kinds_of tokens.now)) }
+fn body(alloc: Global, tokens: &[Token]) -> Result<(Vec<Column>, Names, &[Token]), ReadError>
+    ensures { Gives (λ x. ((x.0.items, x.1), kinds_of x.2.now)) result (body_at (kinds_of tokens.now)) }
 {
     let (first, rest) = column(tokens)?;
-    further(vec![in alloc; first]?, rest)
+    further(alloc, vec![in alloc; first]?, rest)
 }
 
 // ---- tables
@@ -299,44 +335,46 @@ fn tail(tokens: &[Token]) -> Result<&[Token], ReadError>
     sign(Sign::Semicolon, rest)
 }
 
-#[tactic(auto, unfolding(schema::specs::Reading::table_at))]
-fn table(alloc: Global, tokens: &[Token]) -> Result<(Table, &[Token]), ReadError>
-    ensures { Gives (λ x. (x.0, kinds_of x.1.now)) result (table_at (kinds_of tokens.now)) }
+/// A table as it is written.
+#[tactic(auto, unfolding(schema::specs::Reading::draft_at))]
+fn draft(alloc: Global, tokens: &[Token]) -> Result<(Draft, &[Token]), ReadError>
+    ensures { Gives (λ x. (x.0, kinds_of x.1.now)) result (draft_at (kinds_of tokens.now)) }
 {
     let (name, rest) = head(tokens)?;
-    let (columns, rest) = body(alloc, rest)?;
+    let (columns, key, rest) = body(alloc, rest)?;
     let rest = tail(rest)?;
     let name = name.clone()?;
     let columns = Columns::from_vec(columns);
-    Ok((Table { name, columns }, rest))
+    let table = Table { name, columns };
+    Ok((Draft { table, key }, rest))
 }
 
-/// All tables of a text.
-fn tables(alloc: Global, tokens: &[Token]) -> Result<(Vec<Table>, &[Token]), ReadError>
-    ensures { Gives (λ x. (x.0.items, kinds_of x.1.now)) result (tables_at (kinds_of tokens.now)) }
+/// All tables of a text as they are written.
+fn drafts(alloc: Global, tokens: &[Token]) -> Result<(Vec<Draft>, &[Token]), ReadError>
+    ensures { Gives (λ x. (x.0.items, kinds_of x.1.now)) result (drafts_at (kinds_of tokens.now)) }
 {
-    let mut tables = Vec::new(alloc);
+    let mut drafts = Vec::new(alloc);
     let mut rest = tokens;
     // Each has a token at least.
     for _ in 0..tokens.len() {
         if rest.is_empty() {
             break;
         }
-        let (table, after) = table(alloc, rest)?;
-        tables.push(table)?;
+        let (draft, after) = draft(alloc, rest)?;
+        drafts.push(draft)?;
         rest = after;
     }
-    Ok((tables, rest))
+    Ok((drafts, rest))
 }
 
-/// The tables that all of the tokens are, or where reading stops.
-#[tactic(auto, unfolding(schema::specs::Reading::read_of))]
-pub fn read(alloc: Global, tokens: &[Token]) -> Result<Vec<Table>, ReadError>
-    ensures { Gives (λ v. v.items) result (read_of (kinds_of tokens.now)) }
+/// The tables that all of the tokens are, as they are written, or where reading stops.
+#[tactic(auto, unfolding(schema::specs::Reading::read_of, schema::specs::Reading::tables_at))]
+pub fn read(alloc: Global, tokens: &[Token]) -> Result<Vec<Draft>, ReadError>
+    ensures { Gives (λ v. map table_of v.items) result (read_of (kinds_of tokens.now)) }
 {
-    let (tables, rest) = tables(alloc, tokens)?;
+    let (drafts, rest) = drafts(alloc, tokens)?;
     if !rest.is_empty() {
         return Err(unexpected(rest));
     }
-    Ok(tables)
+    Ok(drafts)
 }

@@ -10,6 +10,7 @@ ghost use Rattle.schema.specs.Schemas.{left_of, schema_from, schema_of};
 ghost use Rattle.schema.specs.Faults.{IsRightFault};
 
 use crate::lexing::{Tokens, lex};
+use crate::marking::tables;
 use crate::names::first_broken;
 use crate::parsing::read;
 use qbs_base::{Fail, Tables};
@@ -34,10 +35,10 @@ fn judge(alloc: Global, tokens: &Tokens) -> Result<Tables, Fail<SchemaFault>>
 {
     let list = tokens.list.as_slice();
     let fault = match read(alloc, list) {
-        Ok(tables) => {
+        Ok(drafts) => {
             return match first_broken(alloc, list, 0)? {
                 Some(fault) => Err(Fail::Fault(fault)),
-                None => Ok(Tables::from_vec(tables)),
+                None => Ok(tables(alloc, drafts.as_slice())?),
             };
         }
         Err(ReadError::Memory) => return Err(Fail::NoMemory),

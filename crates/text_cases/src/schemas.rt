@@ -13,7 +13,18 @@ fn put_column(out: &mut String, column: &Column) -> Result<(), AllocError> {
         Ty::Long => " Long",
         Ty::Bool => " Bool",
         Ty::Text => " Text",
-    })
+    })?;
+    put_marks(out, column)
+}
+
+fn put_marks(out: &mut String, column: &Column) -> Result<(), AllocError> {
+    if column.not_null {
+        out.push_str(" NOT NULL")?;
+    }
+    if column.primary {
+        out.push_str(" PRIMARY KEY")?;
+    }
+    Ok(())
 }
 
 fn put_table(out: &mut String, table: &Table) -> Result<(), AllocError> {
