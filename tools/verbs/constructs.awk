@@ -34,7 +34,7 @@ function of_lex(rule, at, byte) {
     if (byte == "[") return "array"
     if (byte == "\\") return "escape"
     if (byte ~ /[&|^~]/) return "bits"
-    if (byte ~ /[\200-\376]/ && word(at)) return "letter"
+    if (byte ~ /[\200-\376]/ && token[at] ~ /^[A-Za-z_$\200-\376]/) return "letter"
     return ""
 }
 function of_types(rule, at,    number) {

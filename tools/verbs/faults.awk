@@ -47,6 +47,7 @@ function tell(number,    line, column, at, end, id, from, to, end_line) {
     at = token_at(line, column)
     end_line = line
     end = at <= total && token_line[at] == line && token_column[at] == column && kind[number] != "lex" ? token_end[at] : column + 1
+    while (substr(source[line], end, 1) ~ /^[\200-\277]$/) end++
     if (end > column + 1 && token_last[at] > line) end = length(source[line]) + 1
     id = construct(kind[number], rule[number], at, line, column)
     # (a part of a long line)

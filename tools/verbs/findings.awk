@@ -25,12 +25,14 @@ END {
     }
     print silenced + 0 >ENVIRON["SILENCED"]
 }
-# The statements of its stretch that give a loop's variables their values, as many as a message holds.
-function answer(self,    number, out, g) {
+# The statements of its stretch that give a loop's variables their values, as many as a message holds; where a later one took what it gave, all that ask.
+function answer(self,    number, out, asking, g) {
     g = stretch_of[self]
-    for (number = 1; number <= answers[g] && length(out) < 1000; number++)
-        if (is_of(g, number, self)) out = out (out == "" ? "" : " ") statement_text[g, number]
-    return out == "" ? "a query does what the loop does" : out
+    for (number = 1; number <= answers[g] && length(out) < 1000 && length(asking) < 1000; number++) {
+        if (is_of(g, number, self)) out = out " " statement_text[g, number]
+        if (index(statement_text[g, number], "db.query")) asking = asking " " statement_text[g, number]
+    }
+    return substr(out == "" ? asking : out, 2)
 }
 function casts_of(self,    number, g, count) {
     g = stretch_of[self]

@@ -143,12 +143,13 @@ function find_silence(    number, text, from, to, on, member, block, place) {
     }
 }
 # Whether the loop of this number in the report is silenced.
-function is_silent(number,    off, at) {
+function is_silent(number,    off, at, self) {
     at = first[loop[number]]
     for (off = 1; off <= offs; off++) {
         if (off_rules[off] != "" && (rule[number] == "" || !index(off_rules[off], rule[number]))) continue
         if (off_last[off] && at >= off_first[off] && at <= off_last[off]) return 1
-        if (off_line[off] && (said_line[number] == off_line[off] || rule[number] != "" && where_line[number] == off_line[off])) return 1
+        if (off_line[off] && rule[number] != "" && where_line[number] == off_line[off]) return 1
+        for (self = loop[number]; self && off_line[off]; self = up[self]) if (kind_of[self] == "loop" && token_line[first[self]] == off_line[off]) return 1
     }
     return 0
 }

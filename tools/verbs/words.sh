@@ -50,6 +50,17 @@ begin() {
     fi
     [ "$#" -gt 0 ] || refuse "FILE.. is wanted"
     for word in "$@"; do add_files "$word"; done
+    # (for the page, which says what it was made with)
+    schema=
+    options=()
+    if [ "${#files[@]}" != 0 ]; then
+        set_for 0 schema ''
+        schema=$value
+        set_for 0 size 8
+        options+=("--size=$value")
+        set_for 0 candidates 1000000
+        options+=("--candidates=$value")
+    fi
     [ "$left_out" = 0 ] || say "$verb: files that qbs.conf leaves out: $left_out"
 }
 is_source() { [ "$1" = - ] || [ -d "$1" ] || [[ $1 == *.java ]]; }
