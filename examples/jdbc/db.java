@@ -8,7 +8,11 @@ import java.util.List;
 
 /**
  * The four calls that qbs reads and writes, over JDBC. It is a class called db, so that a source says db.fetch(..) without a field.
- * Each table of the schema is a class with a public field for each column, and has a column _pos in the database.
+ * Each table of the schema is a class with a public field for each column, and has a column _pos in the database. A field is long, int, boolean
+ * or String: of two Long, == asks whether they are one object, so that a loop would find other rows than its query.
+ *
+ * Into a package: put `package your.app;` on top, and where a source stands in another package `import your.app.db;` there, which qbs reads
+ * past. A class of no package can't be imported, so this one serves only sources of no package as it stands.
  */
 public final class db {
     private static final ThreadLocal<Connection> CONNECTION = new ThreadLocal<>();
@@ -69,7 +73,10 @@ public final class db {
 
     private static <T> T row(ResultSet results, Class<T> table) throws SQLException, ReflectiveOperationException {
         T row = table.getDeclaredConstructor().newInstance();
-        for (Field field : table.getFields()) field.set(row, value(results, results.findColumn(field.getName()), field.getType()));
+        for (Field field : table.getFields()) {
+            if (!field.getType().isPrimitive() && field.getType() != String.class) throw new SQLException(field + " has to be long, int, boolean or String");
+            field.set(row, value(results, results.findColumn(field.getName()), field.getType()));
+        }
         return row;
     }
 

@@ -1,80 +1,66 @@
-# Reads tools/rules.tsv, a report of the program and the diff of source and text; writes one line a loop or fault, parted by tabs:
-# line, column, kind (found, outside, none, budget, error), rule, line and column that it speaks of, message.
-FNR == 1 { file++ }
-file == 1 {
-    split($0, field, "\t")
-    sentence[field[1] " " field[2]] = field[4]
-    next
-}
-# (a report that is empty makes the diff the second file, so files are told by what their lines look like)
-/^loop [0-9]+:[0-9]+ / {
-    loops++
-    split($2, part, ":")
-    line[loops] = part[1]
-    column[loops] = part[2]
-    kind[loops] = $3
-    if ($3 == "outside") {
-        split($6, part, ":")
-        tag[loops] = $4
-        where[loops] = part[1] "\t" part[2]
-        message[loops] = sentence["kernel " substr($4, 2)]
-    } else {
-        where[loops] = line[loops] "\t" column[loops]
-        if ($3 == "none") message[loops] = "none of " $5 " candidates does what the loop does"
-        if ($3 == "budget") message[loops] = $4 " of " $6 " candidates were tried"
-    }
-    next
-}
-/^qbs: (schema|types|source: lex|source: parse): [0-9]+ [A-Za-z0-9]+ at [0-9]+:[0-9]+$/ || /^qbs: source: (lex|parse) [0-9]+ [A-Za-z0-9]+ at [0-9]+:[0-9]+$/ {
-    sub(/^qbs: (source: )?/, "")
-    sub(/^[a-z]+/, "& ")
-    gsub(/:? +/, " ")
-    split($4 == "at" ? $5 : $6, part, ":")
-    print part[1] "\t" part[2] "\terror\t" $1 " " $2 " " $3 "\t" part[1] "\t" part[2] "\t" sentence[$1 " " $2]
-    next
-}
-/^[0-9]+(,[0-9]+)?[acd][0-9]+(,[0-9]+)?$/ {
-    hunks++
-    split($0, part, /[acd]/)
-    split(part[1], ends, ",")
-    first[hunks] = ends[1]
-    last[hunks] = ends[2] ? ends[2] : ends[1]
-    next
-}
-/^> / && /db\.query/ { statements(substr($0, 3)) }
-# The statements of a line that ask.
-function statements(text,    at, begins, character, quoted) {
-    begins = 1
-    for (at = 1; at <= length(text); at++) {
-        character = substr(text, at, 1)
-        if (quoted && character == "\\") at++
-        else if (character == "\"") quoted = !quoted
-        else if (!quoted && character ~ /[;{}]/) {
-            if (character == ";" && index(substr(text, begins, at - begins), "db.query"))
-                made[hunks, ++asks[hunks]] = trimmed(substr(text, begins, at - begins + 1))
-            begins = at + 1
+# A line for each loop of a source that was read, parted by tabs, and the new text in the file TO; with java.awk, places.awk and patches.awk. A line has
+#  1 line, 2 column, 3 kind (found, outside, none, budget; error comes from faults.awk), 4 rule, 5, 6 line and column that it speaks of, 7 message,
+#  8, 9 line and column behind the loop, 10 what it walks (table, list), 11 how many (int) its stretch has, 12 lines of comments that are kept, 13 that go,
+#  14 to 17 the place of all that goes with it, 18 what takes its place, 19 to 21 are for faults, 22 columns as characters (of 2, 9, 15 and 17).
+# A text has byte 251 for a line feed, 252 for a tab and 253 for a carriage return, none of which UTF-8 has. How many loops are silenced goes to the file SILENCED.
+END {
+    find_loops()
+    find_silence()
+    find_stretches()
+    find_answers()
+    next_comment = comment_loop = 1
+    for (g = 1; g <= stretches; g++) write_stretch(g)
+    write_text(ENVIRON["TO"])
+    for (number = 1; number <= loops; number++) {
+        self = loop[number]
+        if (is_silent(number)) {
+            if (over_table(self) && first[self] > silent_to) silenced++
+            if (last[self] > silent_to) silent_to = last[self]
+            continue
         }
+        if (kind[number] == "found") message[number] = answer(self)
+        g = kind[number] == "found" ? stretch_of[self] : 0
+        place = g ? token_line[stretch_first[g]] "\t" token_column[stretch_first[g]] "\t" token_last[stretch_last[g]] "\t" token_end[stretch_last[g]] "\t" packed(stretch_text[g]) : "\t\t\t\t"
+        print said_line[number] "\t" said_column[number] "\t" kind[number] "\t" rule[number] "\t" where_line[number] "\t" where_column[number] "\t" message[number] "\t" token_last[last[self]] "\t" token_end[last[self]] "\t" (over_table(self) || g ? "table" : "list") "\t" (g ? casts_of(self) : "") "\t" substr(comments_kept[self], 2) "\t" substr(comments_gone[self], 2) "\t" place "\t\t\t\t" characters(self, g)
     }
+    print silenced + 0 >ENVIRON["SILENCED"]
 }
-function trimmed(text) { sub(/^[ \t\r]+/, "", text); return text }
-# What is made in a hunk of one of its loops: where there is a statement for each loop, the loop's own; else as many as a message holds.
-function answer(hunk, which,    number, text) {
-    if (asks[hunk] == gone[hunk]) return made[hunk, which]
-    for (number = 1; number <= asks[hunk] && length(text) < 1000; number++) text = text (text ? " " : "") made[hunk, number]
+# The statements of its stretch that give a loop's variables their values, as many as a message holds; where a later one took what it gave, all that ask.
+function answer(self,    number, out, asking, g) {
+    g = stretch_of[self]
+    for (number = 1; number <= answers[g] && length(out) < 1000 && length(asking) < 1000; number++) {
+        if (is_of(g, number, self)) out = out " " statement_text[g, number]
+        if (index(statement_text[g, number], "db.query")) asking = asking " " statement_text[g, number]
+    }
+    return substr(out == "" ? asking : out, 2)
+}
+function casts_of(self,    number, g, count) {
+    g = stretch_of[self]
+    for (number = 1; number <= answers[g]; number++)
+        if (is_of(g, number, self) && as_javac_reads(statement_text[g, number], self) != statement_text[g, number]) count++
+    return count
+}
+function packed(text) {
+    if (text !~ /[\n\t\r]/) return text
+    gsub(/\n/, "\373", text)
+    gsub(/\t/, "\374", text)
+    gsub(/\r/, "\375", text)
     return text
 }
-END {
-    hunk = 1
-    for (number = 1; number <= loops; number++) {
-        while (hunk <= hunks && last[hunk] < line[number]) hunk++
-        within[number] = hunk <= hunks && first[hunk] <= line[number] ? hunk : 0
-        if (kind[number] == "found") which[number] = ++gone[within[number]]
-    }
-    for (number = 1; number <= loops; number++) {
-        if (kind[number] == "found") {
-            if (within[number]) message[number] = answer(within[number], which[number])
-            if (!message[number]) message[number] = "a query does what the loop does"
-        }
-        print line[number] "\t" column[number] "\t" kind[number] "\t" tag[number] "\t" where[number] "\t" message[number]
-    }
+# Columns counted in characters. (where it stands is remembered, so that long lines take no longer than short ones)
+function character_at(line, column,    text, from) {
+    if (!(line in odd_line)) odd_line[line] = source[line] ~ /[\200-\377]/
+    if (!odd_line[line]) return column
+    from = 1
+    if (line == known_line && column >= known_column) from = known_column
+    else known_characters = 1
+    text = substr(source[line], from, column - from)
+    known_line = line
+    known_column = column
+    gsub(/[\200-\277]/, "", text)
+    return known_characters += length(text)
+}
+function characters(self, g) {
+    if (ENVIRON["CHARACTERS"] == "") return ""
+    return character_at(token_line[first[self]], token_column[first[self]]) " " character_at(token_last[last[self]], token_end[last[self]]) (g ? " " character_at(token_line[stretch_first[g]], token_column[stretch_first[g]]) " " character_at(token_last[stretch_last[g]], token_end[stretch_last[g]]) : "")
 }

@@ -1,16 +1,19 @@
-# The section of one file: its findings, the diff of source and text, and the source itself, in this order; FILE names it. Each loop
-# has the colour of its verdict; beside it stands what takes its place, or why it stands. With bytes.awk before it.
+# The section of one file, the NUMBER-th: its findings, the diff of source and text, and the source itself, in this order; FILE names it. Whole lines have the
+# colour of the loop that they go with, a run as its loop; beside stands what takes their place, or why they stand. What no loop touches is folded but for three
+# lines before and behind. With bytes.awk before it.
+BEGIN {
+    CONTEXT = 3
+    number = ENVIRON["NUMBER"]
+}
 FILENAME == ARGV[1] {
     split($0, field, "\t")
     loops++
     at_line[loops] = field[1]
-    at_column[loops] = field[2]
     kind[loops] = field[3]
-    if (field[3] != "found") {
-        said = field[3] == "outside" ? field[4] : field[3] == "error" ? field[4] : field[3]
-        said = said " at " field[5] ":" field[6] ": " field[7]
-        note[field[1]] = note[field[1]] "<p class=\"" field[3] "\">" shown(said, "html") "</p>"
-    }
+    # (the lines of the loop, and of all that goes with it, where that is told)
+    first[loops] = field[14] ? field[14] : field[1]
+    last[loops] = field[16] ? field[16] : field[8] ? field[8] : field[1]
+    if (field[3] != "found") note[field[1]] = note[field[1]] verdict(field[3], field[4], field[5] ":" field[6], field[7])
     next
 }
 FILENAME == ARGV[2] {
@@ -18,134 +21,121 @@ FILENAME == ARGV[2] {
         hunks++
         split($0, part, /[acd]/)
         split(part[1], ends, ",")
-        first[hunks] = ends[1]
-        last[hunks] = ends[2] ? ends[2] : ends[1]
+        goes[hunks] = ends[1]
+        until[hunks] = ends[2] ? ends[2] : ends[1]
+        # (what is put in behind a line takes the place of none)
         if ($0 ~ /a/) {
-            first[hunks]++
-            last[hunks] = first[hunks] - 1
+            goes[hunks]++
+            until[hunks] = goes[hunks] - 1
         }
-    } else if (/^> /) made[hunks] = made[hunks] shown(substr($0, 3), "html") "\n"
+    } else if (/^> /) text[hunks, ++texts[hunks]] = substr($0, 3)
     next
 }
-{
-    source[++lines] = $0
-}
+{ source[++lines] = $0 }
 
-# The tokens of the source, each with its line and column and the column behind it. In a source that was read, `/` begins comments alone.
-# (no more than a few bytes of a line are looked at together, so that long lines take no longer than short ones)
-function tokens(    line, rest, at, size, text, comment) {
-    for (line = 1; line <= lines; line++) {
-        rest = source[line]
-        at = 1
-        while (at <= length(rest)) {
-            text = substr(rest, at, 64)
-            if (comment) {
-                size = index(text, "*/")
-                comment = !size
-                at += size ? size + 1 : length(text) > 1 ? length(text) - 1 : 1
-                continue
+# Why a loop stands, with a link to its rule, which rules.awk has at the end of the page.
+function verdict(kind, rule, where, says,    said) {
+    said = rule == "" ? "at " where (kind == "none" ? "" : ": " kind) : "<a href=\"#rule-" anchor(rule) "\">" shown(rule, "html") " at " where "</a>"
+    return "<p class=\"" kind "\">" said ": " shown(says, "html") "</p>"
+}
+function anchor(rule,    part) { return split(rule, part, " ") > 1 ? part[1] "-" part[2] : rule }
+
+# What is put in by a hunk, as far to the left as its lines allow, each query broken at its clauses.
+function made(hunk,    line, margin, out) {
+    margin = -1
+    for (line = 1; line <= texts[hunk]; line++) {
+        match(text[hunk, line], /^[ \t]*/)
+        if (margin < 0 || RLENGTH < margin) margin = RLENGTH
+    }
+    for (line = 1; line <= texts[hunk]; line++) out = out clauses(substr(text[hunk, line], margin + 1)) "\n"
+    return out
+}
+# A line of Java, with line ends in front of its queries and of their FROM, WHERE, GROUP BY and ORDER BY, deeper inside of parentheses. What is in '..' is a text.
+# (pieces, so that a line of a megabyte takes no square of it)
+function clauses(line,    at, from, character, quoted, sql, literal, depth, piece, out) {
+    from = 1
+    for (at = 1; at <= length(line); at++) {
+        character = substr(line, at, 1)
+        if (quoted && character == "\\") at++
+        else if (character == "\"") {
+            quoted = !quoted
+            literal = depth = 0
+            sql = quoted && substr(line, at + 1, 7) == "SELECT "
+            if (sql) {
+                piece = piece trimmed(substr(line, from, at - from)) "\n    "
+                from = at
             }
-            if (text ~ /^\/\//) break
-            if (text ~ /^\/\*/) {
-                comment = 1
-                at += 2
-                continue
+        } else if (sql && quoted) {
+            if (character == "'") literal = !literal
+            else if (literal) continue
+            else if (character == "(") depth++
+            else if (character == ")") depth--
+            else if (character == " " && substr(line, at + 1, 9) ~ /^(FROM |WHERE |GROUP BY |ORDER BY )/) {
+                piece = piece shown(substr(line, from, at - from), "html") "\n" sprintf("%" 4 + 4 * (depth > 0 ? depth : 0) "s", "")
+                from = at + 1
             }
-            if (match(text, /^[ \t\r]+/)) {
-                at += RLENGTH
-                continue
-            }
-            if (text ~ /^"/) {
-                for (size = 2; at + size - 1 <= length(rest) && substr(rest, at + size - 1, 1) != "\""; size++)
-                    if (substr(rest, at + size - 1, 1) == "\\") size++
-            } else if (match(text, /^[A-Za-z0-9_]+/)) {
-                size = RLENGTH
-                while (substr(rest, at + size, 1) ~ /^[A-Za-z0-9_]$/) size++
-            } else size = 1
-            total++
-            token[total] = size < 64 ? substr(text, 1, size) : ""
-            token_line[total] = line
-            token_end[total] = at + size
-            number_at[line ":" at] = total
-            at += size
+        }
+        if (length(piece) > 1000) {
+            out = out piece
+            piece = ""
         }
     }
+    return out piece shown(substr(line, from), "html")
 }
+function trimmed(text) { sub(/ +$/, "", text); return shown(text, "html") }
 
-# The last token of what is opened by the token of this number, and of the statement that begins there.
-function closing(number,    depth) {
-    for (; number <= total; number++) {
-        if (token[number] == "(" || token[number] == "{") depth++
-        if (token[number] == ")" || token[number] == "}") depth--
-        if (!depth) return number
-    }
-    return total
+# The lines from one to another, each with its number.
+function numbered(from, to,    line) {
+    print "<div class=\"code\">"
+    for (line = from; line <= to; line++) printf "<div%s><b>%d</b>%s</div>\n", class[line] ? " class=\"" class[line] "\"" : "", line, shown(source[line], "html")
+    print "</div>"
 }
-function ending(number,    head) {
-    head = token[number]
-    if (head == "for" || head == "while" || head == "if") {
-        number = ending(closing(number + 1) + 1)
-        return head == "if" && token[number + 1] == "else" ? ending(number + 2) : number
-    }
-    if (head == "{") return closing(number)
-    while (number < total && token[number] != ";") number++
-    return number
+# A row: lines, and what stands beside them.
+function row(from, to, beside) {
+    print "<div class=\"row\">"
+    numbered(from, to)
+    print "<div class=\"beside\">" beside "</div></div>"
 }
-
-# The source's line with its loops coloured: `open` holds those that are open, outermost first.
-function coloured(line,    text, at, until, out, next_loop) {
-    text = source[line]
-    at = 1
-    for (;;) {
-        until = length(text) + 1
-        next_loop = ""
-        if (loop <= loops && at_line[loop] == line) {
-            until = at_column[loop]
-            next_loop = "opens"
-        }
-        if (depth && end_line[open[depth]] == line && end_column[open[depth]] <= until) {
-            until = end_column[open[depth]]
-            next_loop = "closes"
-        }
-        if (until > at) out = out (depth ? "<b class=\"" kind[open[depth]] "\">" : "") shown(substr(text, at, until - at), "html") (depth ? "</b>" : "")
-        at = until
-        if (next_loop == "opens") open[++depth] = loop++
-        else if (next_loop == "closes") depth--
-        else return out
+# Lines that no loop touches.
+function untouched(from, to,    begins, ends) {
+    begins = from == 1 ? from : from + CONTEXT
+    ends = to == lines ? to : to - CONTEXT
+    if (ends - begins < 1) {
+        row(from, to, "")
+        return
     }
+    if (begins > from) row(from, begins - 1, "")
+    print "<details><summary>" ends - begins + 1 " lines</summary>"
+    row(begins, ends, "")
+    print "</details>"
+    if (ends < to) row(ends + 1, to, "")
 }
 
 END {
-    tokens()
-    for (number = 1; number <= loops; number++) {
-        # (a fault has its line alone)
-        begins = number_at[at_line[number] ":" at_column[number]]
-        if (kind[number] != "error" && begins) {
-            ends_at = ending(begins)
-            end_line[number] = token_line[ends_at]
-            end_column[number] = token_end[ends_at]
-        } else {
-            if (at_line[number] > lines) source[lines = at_line[number]] = ""
-            end_line[number] = at_line[number]
-            end_column[number] = length(source[at_line[number]]) + 1
-        }
+    for (loop = 1; loop <= loops; loop++) {
+        if (last[loop] > lines) source[lines = last[loop]] = ""
+        for (line = first[loop]; line <= last[loop]; line++) class[line] = kind[loop]
     }
-    print "<section><h2>" shown(ENVIRON["FILE"], "html") "</h2>"
-    print "<table>"
-    loop = 1
-    depth = 0
-    hunk = 1
+    for (hunk = 1; hunk <= hunks; hunk++) {
+        if (until[hunk] < goes[hunk] && goes[hunk] > lines) source[lines = goes[hunk]] = ""
+        for (line = goes[hunk]; line <= until[hunk]; line++) class[line] = "found"
+        beside[goes[hunk]] = beside[goes[hunk]] "<pre class=\"made\">" made(hunk) "</pre>"
+        starts[until[hunk] + 1] = 1
+    }
+    print "<section id=\"file-" number "\"><h2>" shown(ENVIRON["FILE"], "html") "</h2>"
+    if (!loops) print "<p>No loop over a table.</p>"
+    begins = 1
     for (line = 1; line <= lines; line++) {
-        while (hunk <= hunks && last[hunk] < first[hunk] && first[hunk] == line) print "<tr><td></td><td></td><td><pre>" made[hunk++] "</pre></td></tr>"
-        printf "<tr><td>%d</td><td><pre>%s</pre></td>", line, coloured(line)
-        if (hunk <= hunks && first[hunk] == line) {
-            beside = ""
-            for (inside = line; inside <= last[hunk]; inside++) beside = beside note[inside]
-            printf "<td rowspan=\"%d\"><pre class=\"made\">%s</pre>%s</td>", last[hunk] - first[hunk] + 1, made[hunk], beside
-        } else if (!(hunk <= hunks && first[hunk] < line)) printf "<td>%s</td>", note[line]
-        print "</tr>"
-        if (hunk <= hunks && last[hunk] == line) hunk++
+        beside[line] = beside[line] note[line]
+        told = class[line] || beside[line] ? 1 : 0
+        if (line > 1 && (told != before || beside[line] || starts[line])) {
+            if (before) row(begins, line - 1, beside[begins])
+            else untouched(begins, line - 1)
+            begins = line
+        }
+        before = told
     }
-    while (hunk <= hunks) print "<tr><td></td><td></td><td><pre>" made[hunk++] "</pre></td></tr>"
-    print "</table></section>"
+    if (lines && before) row(begins, lines, beside[begins])
+    else if (lines) untouched(begins, lines)
+    print "</section>"
 }

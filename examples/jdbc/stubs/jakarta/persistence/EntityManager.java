@@ -1,0 +1,5 @@
+package jakarta.persistence;
+
+public interface EntityManager {
+    Query createNativeQuery(String text, Class<?> result);
+}

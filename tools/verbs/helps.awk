@@ -1,0 +1,27 @@
+# docs/RULES.md as help: a line for each rule, its name and then its prose without the examples, and for `found` what is found.
+BEGIN {
+    print "found\tA query that is proved to give what the loop gives, in its place."
+    print "none\tNone of the queries that were tried is proved to give what the loop gives."
+    print "budget\tNot all queries were tried."
+}
+function told() {
+    gsub(/[ \t\r]+/, " ", text)
+    gsub(/\[LANGUAGE\]\([^)]*\)/, "docs/LANGUAGE.md", text)
+    gsub(/\[sql\]\([^)]*\)/, "sql", text)
+    if (name != "") print name "\t" text
+    name = text = ""
+}
+/^## / { told() }
+/^### / {
+    told()
+    text = $0
+    sub(/^### /, "", text)
+    name = text
+    sub(/: .*/, "", name)
+    sub(/^[^:]*: /, "", text)
+    text = toupper(substr(text, 1, 1)) substr(text, 2) "."
+    next
+}
+/^ *```/ { inside = !inside; next }
+!inside && name != "" && !/^ *$/ { text = text " " $0 }
+END { told() }

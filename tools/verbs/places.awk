@@ -1,0 +1,155 @@
+# What a report of the program says of the loops of a source, told by the places of its tokens; with java.awk. It reads tools/rules.tsv, the report, the source as
+# the program read it, the text that came, and the source as it stands in its file (each source as take_line() wants it).
+FILENAME == ARGV[1] {
+    split($0, field, "\t")
+    if (field[1] == "kernel") sentence[field[3]] = field[4]
+    next
+}
+FILENAME == ARGV[2] {
+    if ($1 != "loop") next
+    loops++
+    split($2, part, ":")
+    said_line[loops] = part[1]
+    said_column[loops] = part[2]
+    kind[loops] = $3
+    if ($3 == "outside") {
+        rule[loops] = $4
+        split($6, part, ":")
+        message[loops] = sentence[$4]
+    } else if ($3 == "none") message[loops] = "none of " $5 " candidates does what the loop does" further("")
+    else if ($3 == "budget") message[loops] = $4 " of " $6 " candidates were tried" further($6)
+    where_line[loops] = part[1]
+    where_column[loops] = part[2]
+    next
+}
+FILENAME == ARGV[3] { take_line($0); next }
+FILENAME == ARGV[4] {
+    # (what silence.awk put in goes)
+    text[++texts] = ENVIRON["MARK"] == "" ? $0 : unmarked($0)
+    next
+}
+{ original[++originals] = $0 }
+
+# Which option would look further, where `all` is how many candidates there are if not all were tried.
+function further(all) {
+    if (all != "") {
+        if (ENVIRON["CANDIDATES"] + 0 >= 1000000) return "; no option tries more"
+        return "; --candidates " (all + 0 <= 1000000 ? all : 1000000) " tries " (all + 0 <= 1000000 ? "all" : "more")
+    }
+    return ENVIRON["SIZE"] + 0 >= 8 ? "; no option looks further" : "; --size 8 looks further"
+}
+
+# A line without what silence.awk put into it: the statements MARK, with `{/**/` before them, and `}` with the comment END_MARK.
+function unmarked(line) { return without(without(without(line, "{/**/" ENVIRON["MARK"]), ENVIRON["MARK"]), "}" ENVIRON["END_MARK"]) }
+function without(line, part,    at, out) {
+    while (at = index(line, part)) {
+        out = out substr(line, 1, at - 1)
+        line = substr(line, at + length(part))
+    }
+    return out line
+}
+
+# A place of the source that the program read is one of the file: what silence.awk put in before it in its line is taken off.
+function unshifted(line, column,    number, before, part) {
+    for (number = 1; number <= shifts; number++) {
+        split(shift[number], part, " ")
+        if (part[1] != line || part[2] + before > column) continue
+        if (column < part[2] + before + part[3]) return part[2]
+        before += part[3]
+    }
+    return column - before
+}
+function read_shifts(    line) {
+    if (ENVIRON["SHIFTS"] == "") return
+    while ((getline line <ENVIRON["SHIFTS"]) > 0) shift[++shifts] = line
+    for (number = 1; number <= loops; number++) {
+        said_column[number] = unshifted(said_line[number], said_column[number])
+        where_column[number] = unshifted(where_line[number], where_column[number])
+    }
+}
+
+# Which statement each loop of the report is.
+function find_loops(    number) {
+    whole()
+    if (originals) original[originals] = substr(original[originals], 1, length(original[originals]) - 1)
+    if (texts && text[texts] !~ /x$/) exit 2
+    if (texts) text[texts] = substr(text[texts], 1, length(text[texts]) - 1)
+    tokens()
+    statements()
+    read_shifts()
+    for (number = 1; number <= loops; number++) {
+        loop[number] = loop_at[token_at(said_line[number], said_column[number])]
+        if (!loop[number]) exit 2
+    }
+}
+
+# Whether what a loop walks may be a table: it is a fetch, or a variable that is given one somewhere before it in its method.
+function over_table(self,    at) {
+    at = first[self]
+    if (token[at] == "for") {
+        for (at += 2; token[at] != ":"; at++) continue
+        if (token[at + 1] == "db") return token[at + 3] == "fetch"
+        return fetched_before(at + 1, self)
+    }
+    for (; at < last[self]; at++)
+        if (token[at + 1] == "." && (token[at + 2] == "size" || token[at + 2] == "get") && fetched_before(at, self)) return 1
+    return 0
+}
+# Whether the variable that this token names is given a fetch in the method, in front of the statement.
+function fetched_before(number, self,    at, member) {
+    member = member_of[self]
+    if (!(member in looked)) {
+        looked[member] = 1
+        for (at = member_first[member]; at <= member_last[member]; at++)
+            if (token[at] == "=" && token[at + 1] == "db" && token[at + 3] == "fetch" && !((member, token[at - 1]) in fetch_of))
+                fetch_of[member, token[at - 1]] = at
+    }
+    return ((member, token[number]) in fetch_of) && fetch_of[member, token[number]] < first[self]
+}
+
+# Which loops a comment `qbs:off` silences, all or those that break the rules behind it: from the loop or member that it stands above to its end, or those that begin
+# in the line that it ends. Above a loop is above its run too.
+function find_silence(    number, text, from, to, on, member, block, place) {
+    for (number = 1; number <= made; number++) statement_at[first[number]] = number
+    for (number = 1; number <= comments; number++) {
+        text = between(comment_line[number], comment_column[number], comment_last[number], comment_end[number])
+        if (!match(text, /(^|[^A-Za-z0-9_:-])qbs:off([^A-Za-z0-9_-]|$)/)) continue
+        text = substr(text, RSTART + RLENGTH - 1)
+        off_rules[++offs] = match(text, /^([ ,]*K[1-9])+/) ? substr(text, 1, RLENGTH) : ""
+        from = comment_next[number]
+        on = from > 1 && token_last[from - 1] == comment_line[number] ? comment_line[number] : 0
+        off_line[offs] = on
+        # (a member whose head stands in the line, or which the comment stands above)
+        for (member = 1; member <= members; member++) {
+            for (to = member_first[member]; to < member_last[member] && token[to] != "{"; to++) continue
+            if (on ? token_line[member_first[member]] <= on && token_line[to] >= on : member_first[member] == from) {
+                off_first[offs] = member_first[member]
+                off_last[offs] = member_last[member]
+            }
+        }
+        if (on || off_last[offs]) continue
+        if (from < class_open) {
+            off_first[offs] = from
+            off_last[offs] = total
+        } else if (from in statement_at) {
+            block = block_of[statement_at[from]]
+            place = place_of[statement_at[from]]
+            while (kind_of[statement_of[block, place]] == "run") place++
+            if (kind_of[statement_of[block, place]] == "loop") {
+                off_first[offs] = first[statement_of[block, place]]
+                off_last[offs] = last[statement_of[block, place]]
+            }
+        }
+    }
+}
+# Whether the loop of this number in the report is silenced.
+function is_silent(number,    off, at, self) {
+    at = first[loop[number]]
+    for (off = 1; off <= offs; off++) {
+        if (off_rules[off] != "" && (rule[number] == "" || !index(off_rules[off], rule[number]))) continue
+        if (off_last[off] && at >= off_first[off] && at <= off_last[off]) return 1
+        if (off_line[off] && rule[number] != "" && where_line[number] == off_line[off]) return 1
+        for (self = loop[number]; self && off_line[off]; self = up[self]) if (kind_of[self] == "loop" && token_line[first[self]] == off_line[off]) return 1
+    }
+    return 0
+}

@@ -1,0 +1,218 @@
+# How a file is tried: what the program makes of it, and what of that is written.
+# shellcheck shell=bash disable=SC2034,SC2154
+
+# take NAME BYTES TO: a copy of the first bytes of a file. What follows reads copies alone, under plain names.
+take() {
+    [ -r "$1" ] && [ ! -d "$1" ] && head -c "$2" <"$1" >"$3" 2>/dev/null
+}
+
+# outputs AT READ: what the program makes of a source: a text (AT.made), a report (AT.report) and its status (AT.status). Each step that makes a text of a text, or
+# reads it by other rules, has its place here.
+outputs() {
+    "$program" rewrite --size="$size" --candidates="$candidates" -- "$schema_read" "$2" >"$1.made" 2>"$1.report"
+    status=$?
+    echo "$status" >"$1.status"
+}
+
+# whole FILE: its bytes for java.awk, which shows whether a line end stands last. (no byte of a source that is read is 255, and awk wants none that is 0)
+whole() {
+    tr '\000' '\377' <"$1" && echo x
+}
+
+# try NUMBER: takes one file, and leaves its new text (.text), what there is to say of it (.findings), and the diff of both (.diff).
+try() {
+    local at=$room/$1 name=${files[$1]} size candidates keep value schema_read
+    [ "$1" != "${stdin_number:-}" ] || name=$room/stdin
+    if ! take "$name" 1048577 "$at.java"; then
+        echo read >"$at.status"
+        return
+    fi
+    set_for "$1" size 8
+    size=$value
+    set_for "$1" candidates 1000000
+    candidates=$value
+    set_for "$1" keep-comments yes
+    keep=$value
+    schema_of "$1"
+    : >"$at.findings"
+    : >"$at.diff"
+    cp "$at.java" "$at.text"
+    if ! as_read "$at" || ! { outputs "$at" "$at.read" && told "$at"; }; then echo broken >"$at.status"; fi
+}
+# told AT: what there is to say of what came.
+told() {
+    case $status in
+    0) loops "$1" || return ;;
+    5 | 6 | 7) faults "$1" || return ;;
+    esac
+    [ "$status" = 0 ] || return 0
+    diff -a "$1.java" "$1.text" >"$1.diff" || [ $? = 1 ]
+}
+
+# as_read AT: the (int) that stand where apply writes them are blank to the program.
+as_read() {
+    cp "$1.java" "$1.read" || return
+    grep -aqE '\([[:space:]]*int[[:space:]]*\)' "$1.java" || return 0
+    whole "$1.java" | awk -f "$verbs/java.awk" -f "$verbs/casts.awk" | tr '\377' '\000' >"$1.read"
+}
+
+# loops AT: what the report says of the loops, and the text with what stands in their place.
+loops() {
+    local mark=
+    grep -q '^loop ' "$1.report" || return 0
+    silence "$1" || return
+    [ "$(<"$1.status")" = 0 ] || return 0
+    MARK=${mark:+"System.out.println(\"$mark\");"} END_MARK=${mark:+"/*$mark*/"} SHIFTS=${mark:+"$1.shifts"} TO=$1.new SILENCED=$1.silenced KEEP=$keep SIZE=$size CANDIDATES=$candidates \
+        awk -f "$verbs/java.awk" -f "$verbs/places.awk" -f "$verbs/patches.awk" -f "$verbs/findings.awk" "$rules" "$1.report" <(whole "$1.read") <(whole "$1.made") <(whole "$1.java") >"$1.findings" || return
+    tr '\377' '\000' <"$1.new" >"$1.text"
+}
+
+# silence AT: where a loop that gave way is silenced by a comment, the program reads the source once more, so that the loop stands.
+silence() {
+    if ! grep -aqF 'qbs:off' "$1.read" || ! grep -q ' found [0-9]*$' "$1.report"; then return 0; fi
+    mark=qbs-off-$RANDOM$RANDOM
+    while grep -aqF "$mark" "$1.read"; do mark=$mark$RANDOM; done
+    MARK="System.out.println(\"$mark\");" END_MARK="/*$mark*/" SHIFTS=$1.shifts \
+        awk -f "$verbs/java.awk" -f "$verbs/places.awk" -f "$verbs/silence.awk" "$rules" "$1.report" <(whole "$1.read") /dev/null >"$1.held"
+    case $? in
+    0) tr '\377' '\000' <"$1.held" >"$1.marked" && outputs "$1" "$1.marked" ;;
+    1) mark= ;;
+    *) return 1 ;;
+    esac
+}
+
+# faults AT: the fault, and those of other members. Each member with one is made blank, and the program reads what is left, until it finds none.
+faults() {
+    local first=$status left=$1.read turns=0
+    while [ "$status" = 6 ] || [ "$status" = 7 ]; do
+        cat "$1.report" >>"$1.faults"
+        turns=$((turns + 1))
+        [ "$turns" -lt 50 ] || break
+        awk -f "$verbs/java.awk" -f "$verbs/members.awk" "$1.report" <(whole "$left") >"$1.blank"
+        case $? in
+        0) tr '\377' '\000' <"$1.blank" >"$1.left" && left=$1.left ;;
+        1) break ;;
+        *) return 1 ;;
+        esac
+        outputs "$1" "$left"
+    done
+    [ "$first" != 5 ] || cp "$1.report" "$1.faults"
+    echo "$first" >"$1.status"
+    if [ "$first" = 5 ]; then left=$schema_read; else left=$1.java; fi
+    CHARACTERS=yes awk -f "$verbs/java.awk" -f "$verbs/faults.awk" -f "$verbs/constructs.awk" "$rules" "$verbs/../cures.tsv" "$1.faults" <(whole "$left") >"$1.findings"
+}
+
+# schema_of N: the copy of the schema of a file, in `schema_read`.
+schema_of() {
+    schema_read=$room/schema.${conf[$1]}.sql
+    [ -z "${says['0 schema']+x}" ] || schema_read=$room/schema.0.sql
+}
+# take_schemas: a copy of each schema there is.
+take_schemas() {
+    local number schema_read
+    for number in "${!files[@]}"; do
+        schema_of "$number"
+        set_for "$number" schema ''
+        [ -n "$value" ] || refuse "no schema for ${files[$number]}"
+        [ ! -e "$schema_read" ] || continue
+        if ! take "$value" 262145 "$schema_read"; then
+            say "$verb: read $value"
+            exit 2
+        fi
+    done
+}
+
+# try_all: every file, as many side by side as there are processors. On a terminal a line says how far it is.
+try_all() {
+    local number running=0 most
+    take_schemas
+    most=$(nproc 2>/dev/null || echo 2)
+    if [ -t 2 ]; then
+        progress &
+        ticker=$!
+    fi
+    for number in "${!files[@]}"; do
+        if [ "$running" -ge "$most" ]; then
+            wait -n
+            running=$((running - 1))
+        fi
+        try "$number" &
+        running=$((running + 1))
+        tried+=("$!")
+    done
+    wait ${tried[@]+"${tried[@]}"}
+    [ -z "$ticker" ] || stop_progress
+}
+tried=()
+# progress: after a second, and then now and again, how many files are done and how many loops were found; gone at the end.
+progress() {
+    local ended found
+    trap 'printf "\r\033[K" >&2; exit' TERM
+    nap 1
+    while :; do
+        ended=("$room"/*.status)
+        found=$(cat "$room"/*.findings 2>/dev/null | awk -F'\t' '$3 == "found" { count++ } END { print count + 0 }')
+        [ -e "${ended[0]}" ] || ended=()
+        printf '\r\033[Kqbs %s: %d of %d files, loops found: %d' "$verb" "${#ended[@]}" "${#files[@]}" "$found" >&2
+        nap 0.2
+    done
+}
+# (a shell that waits hears a signal at once, one that runs something doesn't)
+nap() {
+    sleep "$1" >/dev/null 2>&1 &
+    wait "$!"
+}
+stop_progress() {
+    kill "$ticker" 2>/dev/null
+    wait "$ticker" 2>/dev/null
+    ticker=
+    printf '\r\033[K' >&2
+}
+
+# judged NUMBER: whether the program said what becomes of the file. Else a line says why not, and `trouble` is 1.
+# A file with a fault is judged; `fault` says whether it has one, and whether it is the schema's.
+judged() {
+    local status at=$room/$1
+    status=$(cat "$at.status" 2>/dev/null)
+    fault=
+    case $status in
+    0) return 0 ;;
+    5) fault=schema ;;
+    6 | 7) fault=source ;;
+    read) say "$verb: read ${files[$1]}" ;;
+    2) refuse "a number out of range, or an option twice" ;;
+    broken) broken 'diff or awk' ;;
+    12) say "$verb: memory, for ${files[$1]}" ;;
+    13)
+        if grep -q schema "$at.report"; then
+            say "$verb: limit: schema"
+            exit 2
+        fi
+        say "$verb: limit: source, more than 1 MiB in ${files[$1]}"
+        ;;
+    *) say "$verb: the program ended with status ${status:-none} for ${files[$1]}" ;;
+    esac
+    [ -n "$fault" ] && return 0
+    trouble=1
+    return 1
+}
+
+# lines NUMBER FORMAT [COLOUR]: the findings of a file as lines. Where the schema has the fault, they are of it.
+lines() {
+    local file=${files[$1]} value
+    if [ "$fault" = schema ]; then
+        set_for "$1" schema ''
+        file=$value
+    fi
+    FILE=$file awk -v format="$2" -v colour="${3:-}" -f "$verbs/bytes.awk" -f "$verbs/format.awk" "$room/$1.findings" || broken awk
+}
+# in_colour FD: whether what is written there may have colours.
+in_colour() { [ -t "$1" ] && [ -z "${NO_COLOR:-}" ] && [ "${TERM:-dumb}" != dumb ]; }
+# say_faults NUMBER: the lines of a file that isn't read, on standard error. A fault of the schema is an end.
+say_faults() {
+    local colour=
+    ! in_colour 2 || colour=yes
+    lines "$1" text "$colour" >&2
+    unread=1
+    [ "$fault" != schema ] || exit 2
+}
