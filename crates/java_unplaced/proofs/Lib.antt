@@ -1,0 +1,5 @@
+pub mod Bare
+pub mod Kept
+pub mod Ruled
+pub mod Seen
+pub mod Typed

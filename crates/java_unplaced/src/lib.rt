@@ -1,0 +1,4 @@
+//! Programs that are equal but for places do the same and are well typed alike. Laws alone: they do nothing.
+#![tactic(auto)]
+
+pub mod laws;
