@@ -17,6 +17,7 @@ begin() {
     trouble=0
     unread=0
     left_out=0
+    fault=
     confs=0
     files=()
     conf=()
@@ -204,6 +205,7 @@ read_conf() {
         schema | size | candidates | fail-on | keep-comments) ;;
         *) wrong_conf "$1/qbs.conf:$at: its names are schema, size, candidates, fail-on, keep-comments and leave-out" ;;
         esac
+        [ "$name" != fail-on ] || value=${value//[$blank]/}
         [ -z "${says["$confs $name"]+x}" ] || wrong_conf "$1/qbs.conf:$at: $name stands twice"
         fits "$name" "$value" || wrong_conf "$1/qbs.conf:$at: ${why#--}"
         [ "$name" != schema ] || case $value in /*) ;; *) value=$1/$value ;; esac
