@@ -1,10 +1,10 @@
 -- What breaks a rule where all places are left aside: as many places as before, all of them none.
-use Rattle.std.specs.Prelude.{ℕ, Bool, true, false, not, ◌&&◌, ◌||◌, List, [], ◌∷◌, ◌++◌, Option, Some, None}
+use Rattle.std.specs.Prelude.{ℕ, Bool, true, false, not, ◌&&◌, List, [], ◌∷◌, ◌++◌, Option, Some, None}
 use Rattle.std.proofs.Common.{◌≡◌, refl, sym, ap, ◌∙◌}
 use Rattle.std.specs.Option.{option_map}
 use Rattle.qbs_base.specs.declared.scalar.Ty.{Ty}
 use Rattle.qbs_base.specs.declared.span.Span.{Span}
-use Rattle.qbs_base.specs.Columns.{table_number, same_ty}
+use Rattle.qbs_base.specs.Columns.{same_ty}
 use Rattle.qbs_base.specs.Values.{Schema}
 use Rattle.sql_ast.specs.Tree.{PlainQuery}
 use Rattle.sql_ast.specs.Valid.{params_in}
@@ -12,11 +12,17 @@ use Rattle.java_ast.specs.declared.tree.Op.{Op}
 use Rattle.java_ast.specs.declared.tree.Op.TheVariants as ops
 use Rattle.java_ast.specs.Tree as plain
 use Rattle.java_ast.specs.Tree.{Spelled, Expression, Expressions, Statement, Statements}
-use Rattle.java_ast.specs.Unplaced.{nowhere, unplaced, unplaced_all, unplaced_statement, unplaced_block, unplaced_method}
-use Rattle.java_mean.specs.Places.{Around, Place, value, step, param, whole}
-use Rattle.java_mean.specs.Rules.{Kindred, type_of, at_of, column_in, set_of, only_if, is_none, may_be, unless, unless_both, unless_single, is_scalar, unless_scalar, is_many, is_many_kindred, is_listed, element_of, scalars_of, unless_passes, unknown_variable, unknown_type, unknown_column, unknown_keys, unknown_result, unknown, is_set_of_rows, set_of_rows, both_operands, scalar_ty, unless_alike, compared, operands, is_row, copied_row, given, arguments, params_of, walked_element, returned, unless_element, set_result, mismatch, taken, double_name, two_texts, text_identity, aliased, list_alias, is_walked, modified_in_loop, lists, is_number, is_truth, bad_query, has_order, unordered_query, returns, returns_in, return_place, same_length, fits_query, arity, break_place, of_long, of_bool, of_text, listed_in, lists_scalars, has_many}
-use Rattle.java_mean.specs.Types.{Single, JavaType, Of, ScalarOf, single_spelled, type_spelled}
-use Rattle.java_mean.specs.Visible.{Visible, is_visible, type_at}
+use Rattle.java_ast.specs.Unplaced.{nowhere, unplaced, unplaced_all, unplaced_statement, unplaced_block}
+use Rattle.java_mean.specs.Places.{Place, value, step, param, whole}
+use Rattle.java_mean.specs.Rules.{type_of, at_of, column_in, only_if, is_none, may_be, unless, unless_both, unless_single, is_scalar, unless_scalar, is_many, is_many_kindred, is_listed, element_of, scalars_of, unless_passes, unknown_column, unknown_keys, unknown_result, unknown, is_set_of_rows, both_operands, scalar_ty, unless_alike, compared, operands, is_row, copied_row, given, arguments, params_of, walked_element, returned, unless_element, set_result, mismatch, double_name, two_texts, text_identity, aliased, list_alias, modified_in_loop, bad_query, unordered_query, returns, returns_in, return_place, same_length, fits_query, arity, break_place, of_long, of_bool, of_text, listed_in, lists_scalars}
+use Rattle.java_mean.specs.declared.types.JavaType.{JavaType}
+use Rattle.java_mean.specs.declared.types.JavaType.TheVariants.{Of}
+use Rattle.java_mean.specs.declared.types.Kindred.{Kindred}
+use Rattle.java_mean.specs.declared.types.Kindred.TheVariants.{Only}
+use Rattle.java_mean.specs.declared.types.Single.{Single}
+use Rattle.java_mean.specs.declared.types.Single.TheVariants.{ScalarOf}
+use Rattle.java_mean.specs.Types.{type_spelled}
+use Rattle.java_mean.specs.Visible.{Visible, type_at}
 use Rattle.java_unplaced.proofs.Seen.{bare_place}
 
 abbrev pub bare_ats : List Span → List Span
@@ -101,7 +107,7 @@ column_bare schema (Some k) f at = only (is_none (column_in schema (Some k) f)) 
 keys_bare : (schema : Schema) (a : Option Single) (keys : List (List ℕ)) (at : Span) → unknown_keys schema a keys nowhere ≡ bare_ats (unknown_keys schema a keys at)
 keys_bare schema None keys at = refl
 keys_bare schema (Some a) [] at = refl
-keys_bare schema (Some a) (key ∷ keys) at = both _ _ _ _ (column_bare schema _ key at) (keys_bare schema (Some a) keys at)
+keys_bare schema (Some a) (key ∷ keys) at = both _ _ _ _ (column_bare schema (Some (Only (Of a))) key at) (keys_bare schema (Some a) keys at)
 
 result_bare : (schema : Schema) (r : Option Spelled) (at : Span) → unknown_result schema r nowhere ≡ bare_ats (unknown_result schema r at)
 result_bare schema None at = refl

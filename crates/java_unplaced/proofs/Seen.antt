@@ -1,5 +1,5 @@
 -- The places of a program where all of them are left aside: the same places of its parts, each with its own places left aside.
-use Rattle.std.specs.Prelude.{ℕ, Bool, true, false, List, [], ◌∷◌, ◌++◌, Option, Some, None}
+use Rattle.std.specs.Prelude.{ℕ, Bool, true, false, List, [], ◌∷◌, ◌++◌, Some, None}
 use Rattle.std.proofs.Common.{◌≡◌, refl, sym, ap, ◌∙◌}
 use Rattle.qbs_base.specs.declared.span.Span.{Span}
 use Rattle.qbs_base.specs.Values.{Schema}
@@ -32,16 +32,16 @@ behind p xs xs' e = ap (λ (ps : List Place). bare_place p ∷ ps) e
 
 mutual
   operands_seen : (vs : Visible) (e : Expression) → in_operands vs (unplaced e) ≡ bare_places (in_operands vs e)
-  operands_seen vs (plain.Field at e f) = seen vs e
-  operands_seen vs (plain.Binary at op a b) = both (in_expression vs a) (in_expression vs b) (in_expression vs (unplaced a)) (in_expression vs (unplaced b)) (seen vs a) (seen vs b)
-  operands_seen vs (plain.Not at e) = seen vs e
-  operands_seen vs (plain.Equals at a b) = both (in_expression vs a) (in_expression vs b) (in_expression vs (unplaced a)) (in_expression vs (unplaced b)) (seen vs a) (seen vs b)
-  operands_seen vs (plain.Get at x e) = seen vs e
-  operands_seen vs (plain.Contains at x e) = seen vs e
+  operands_seen vs (plain.Field at e f) = behind (value vs e) (in_operands vs e) (in_operands vs (unplaced e)) (operands_seen vs e)
+  operands_seen vs (plain.Binary at op a b) = both (in_expression vs a) (in_expression vs b) (in_expression vs (unplaced a)) (in_expression vs (unplaced b)) (behind (value vs a) (in_operands vs a) (in_operands vs (unplaced a)) (operands_seen vs a)) (behind (value vs b) (in_operands vs b) (in_operands vs (unplaced b)) (operands_seen vs b))
+  operands_seen vs (plain.Not at e) = behind (value vs e) (in_operands vs e) (in_operands vs (unplaced e)) (operands_seen vs e)
+  operands_seen vs (plain.Equals at a b) = both (in_expression vs a) (in_expression vs b) (in_expression vs (unplaced a)) (in_expression vs (unplaced b)) (behind (value vs a) (in_operands vs a) (in_operands vs (unplaced a)) (operands_seen vs a)) (behind (value vs b) (in_operands vs b) (in_operands vs (unplaced b)) (operands_seen vs b))
+  operands_seen vs (plain.Get at x e) = behind (value vs e) (in_operands vs e) (in_operands vs (unplaced e)) (operands_seen vs e)
+  operands_seen vs (plain.Contains at x e) = behind (value vs e) (in_operands vs e) (in_operands vs (unplaced e)) (operands_seen vs e)
   operands_seen vs (plain.Query at ty text es) = all_seen vs es
   operands_seen vs (plain.QueryLong at text es) = all_seen vs es
   operands_seen vs (plain.QueryBoolean at text es) = all_seen vs es
-  operands_seen vs (plain.NewSetOf at e) = seen vs e
+  operands_seen vs (plain.NewSetOf at e) = behind (value vs e) (in_operands vs e) (in_operands vs (unplaced e)) (operands_seen vs e)
   operands_seen vs (plain.Lit at x) = refl
   operands_seen vs (plain.Var at x) = refl
   operands_seen vs (plain.Size at x) = refl
@@ -49,12 +49,12 @@ mutual
   operands_seen vs (plain.NewList at) = refl
   operands_seen vs (plain.NewSet at) = refl
 
-  seen : (vs : Visible) (e : Expression) → in_expression vs (unplaced e) ≡ bare_places (in_expression vs e)
-  seen vs e = behind (value vs e) (in_operands vs e) (in_operands vs (unplaced e)) (operands_seen vs e)
-
   all_seen : (vs : Visible) (es : Expressions) → in_expressions vs (unplaced_all es) ≡ bare_places (in_expressions vs es)
   all_seen vs plain.NoMore = refl
-  all_seen vs (plain.And e es) = both (in_expression vs e) (in_expressions vs es) (in_expression vs (unplaced e)) (in_expressions vs (unplaced_all es)) (seen vs e) (all_seen vs es)
+  all_seen vs (plain.And e es) = both (in_expression vs e) (in_expressions vs es) (in_expression vs (unplaced e)) (in_expressions vs (unplaced_all es)) (behind (value vs e) (in_operands vs e) (in_operands vs (unplaced e)) (operands_seen vs e)) (all_seen vs es)
+
+seen : (vs : Visible) (e : Expression) → in_expression vs (unplaced e) ≡ bare_places (in_expression vs e)
+seen vs e = behind (value vs e) (in_operands vs e) (in_operands vs (unplaced e)) (operands_seen vs e)
 
 nothing_seen : (p : Statements) → is_nothing (unplaced_block p) ≡ is_nothing p
 nothing_seen plain.Nothing = refl

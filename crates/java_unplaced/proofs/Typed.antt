@@ -10,7 +10,6 @@ use Rattle.java_mean.specs.declared.rule.TypeRule.{TypeRule}
 use Rattle.java_mean.specs.declared.rule.TypeRule.TheVariants as rules
 use Rattle.java_mean.specs.declared.rule.TypeFault.{TypeFault}
 use Rattle.java_mean.specs.Places.{Place, whole, in_method}
-use Rattle.java_mean.specs.Rules.{unknown, mismatch, double_name, text_identity, list_alias, modified_in_loop, bad_query, unordered_query, return_place, arity, break_place}
 use Rattle.java_mean.specs.Visible.{Visible, is_visible, declared_in}
 use Rattle.java_mean.specs.WellTyped.{marked, faults_at, faults_in, faults_in_methods, all_faults, IsWellTyped}
 use Rattle.java_unplaced.proofs.Seen.{bare_place, bare_places, method_seen}
