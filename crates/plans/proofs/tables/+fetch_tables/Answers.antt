@@ -1,7 +1,7 @@
 use Rattle.std.proofs.Common.{length, take, drop, ◌-◌}
 use Rattle.std.proofs.lemmas.Result.{err_from_is_err_and}
 use Rattle.deliveries.specs.Plan.{Failed, given}
-use Rattle.deliveries.specs.Reads.{looks, OnlyReads}
+use Rattle.deliveries.specs.Reads.{looks}
 use Rattle.deliveries.proofs.Reading.{reads_none}
 use Rattle.plans.specs.Tables.{table_files}
 use Rattle.plans.proofs.Fetched.{failed_later, first_of, fetch_stopped, reads_on, files_stopped, files_on}
@@ -36,3 +36,11 @@ pub returns-in_ok-push-in-len1-up-clause-only : goal.returns-in_ok-push-in-len1-
 returns-in_ok-push-in-len1-up-clause-only g n c =
     files_on (looks g.F.Files.told g.F.Files.faults g.F.Files.may_fail g.F.Files.by_read) c.args.folder.now c.args.tables.now c.table-item.result (take (length c.args.tables.now - 1) (drop 1 c.args.tables.now)) c.in_ok-name-in-len1-up.name c.args.files.now c.fetch.new.files c.fetch_tables.new.files
     (first_of c.args.tables.now c.table-item.result c.in-len1-up.len_at_least c.table-item.is) c.in_ok-name-in-len1-up.ensures c.fetch.ensures.once c.fetch.ensures.same c.fetch.ensures.later c.fetch.ensures.fewer c.fetch_tables.ensures.only
+
+pub returns-in_err-name-in-len1-up-clause-only : goal.returns-in_err-name-in-len1-up-clause-only
+returns-in_err-name-in-len1-up-clause-only g n c =
+    reads_none (looks g.F.Files.told g.F.Files.faults g.F.Files.may_fail g.F.Files.by_read) (table_files c.args.folder.now c.args.tables.now) c.args.files.now
+
+pub returns-in-empty-clause-only : goal.returns-in-empty-clause-only
+returns-in-empty-clause-only g n c =
+    reads_none (looks g.F.Files.told g.F.Files.faults g.F.Files.may_fail g.F.Files.by_read) (table_files c.args.folder.now c.args.tables.now) c.args.files.now
