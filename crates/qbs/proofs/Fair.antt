@@ -120,7 +120,7 @@ module _ (files : Given) (Names : List ℕ → Type 0) where
   -- ---- `run`
 
   -- the files of the tables of a schema that was read are among the names
-  AreNamed : List ℕ → List ℕ → Type 0
+  abbrev AreNamed : List ℕ → List ℕ → Type 0
   AreNamed schema folder = (bytes : List ℕ) (tables : Schema) → IsRead files schema most_schema bytes → IsSchemaOf bytes tables → (name : List ℕ) → IsFileOf folder tables name → Names name
 
   outcome_fair : (tables : Schema) (o : Outcome) (plan : Plan) → comes_to tables o plan → IsFair files Names plan

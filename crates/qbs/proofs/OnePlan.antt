@@ -28,7 +28,7 @@ use Rattle.plans.specs.Calls.{Call, Calls, CallsNothing, word_refusal}
 use Rattle.plans.specs.Opening.{BreaksBundle, bundle_refusal, has_bundle, IsSchemaOf, BreaksSchema, schema_refusal, IsProgramOf, HasNoProgram, has_schema, has_program}
 use Rattle.deliveries.specs.Plan.{Given, not_yet}
 use Rattle.plans.specs.Results.{names_of}
-use Rattle.deliveries.specs.Steps.{Ends, refused, IsRead, IsNotRead, reads}
+use Rattle.deliveries.specs.Steps.{Ends, ends, refused, IsRead, IsNotRead, reads}
 use Rattle.plans.specs.Tables.{AreRead, AreNotRead, reads_tables, IsFileOf, IsTableFile, HasRows, LacksRows, data_refusal, has_rows}
 use Rattle.qbs.specs.Check.{tells, checks, check_of, check}
 use Rattle.qbs.specs.Commands.{is_built, built, where_built, command, AreRefused}

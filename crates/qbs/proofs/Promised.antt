@@ -195,7 +195,7 @@ pub rewrite_drops_none : (files : Given) (may : May) (words : List (List ℕ)) (
     (o : Options) (schema source : List ℕ) → HasWords words (commands.Rewrite o schema source) → result ≡ statuses.Ok → (front : List ℕ) × Appends rep.old rep.new (front ++ pruned_line 0)
 rewrite_drops_none files may words out rep result done never o schema source has ok =
     let h : IsHeadline files may o schema source out rep = headline files may words out rep result done o schema source has ok in
-    none_dropped may (size_of o) (all_tried h.is.tables (size_of o) (budget_of o) h.is.program) h.is.pruned h.lines rep never h.is.counted h.is.report h.wrote_lines
+    none_dropped may (size_of o) h.is.tries h.is.pruned h.lines rep never h.is.counted h.is.report h.wrote_lines
 
 pub no_one : {P : Type 0} (S : P → Type 0) (ps : List P) → ps ≡ [] → OneIs S ps → ⊥
 no_one S [] e h = h

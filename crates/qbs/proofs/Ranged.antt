@@ -16,6 +16,10 @@ set_within (candidates e one le) h = record { size = h.size; candidates = le }
 set_within (turns e one le) h = record { size = h.size; candidates = h.candidates }
 set_within (rewritten e) h = record { size = h.size; candidates = h.candidates }
 set_within (store e) h = record { size = h.size; candidates = h.candidates }
+set_within (Sets.view e) h = record { size = h.size; candidates = h.candidates }
+set_within (has.tables e) h = record { size = h.size; candidates = h.candidates }
+set_within (has.columns e) h = record { size = h.size; candidates = h.candidates }
+set_within (Sets.check e) h = record { size = h.size; candidates = h.candidates }
 
 all_within : {verb : Verb} {os : List (List ℕ)} {o p : Options} → HasOptions verb os o p → AreWithin o → AreWithin p
 all_within none h = h
@@ -24,13 +28,18 @@ all_within (more takes spells sets rest) h = all_within rest (set_within sets h)
 named_within : {verb : Verb} {o : Options} {ts : List (List ℕ)} {c : Command} → Names verb o ts c → AreWithin o → IsWithin c
 named_within has.rewrite h = h
 named_within has.prove h = h
-named_within has.check h = tt
+named_within Names.check h = tt
 named_within has.run h = h
 named_within has.sql h = tt
 named_within (has.make a b) h = b
 named_within has.unnest h = tt
 named_within has.inline h = tt
 named_within has.gather h = tt
+named_within has.narrow h = tt
+named_within has.schema h = tt
+named_within Names.view h = tt
+named_within (has.map other) h = tt
+named_within (has.check_map asked) h = tt
 
 words_within : {words : List (List ℕ)} {c : Command} → HasWords words c → IsWithin c
 words_within (plainly options others names) = named_within names (all_within options (record { size = tt; candidates = tt }))
