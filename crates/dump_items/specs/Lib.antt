@@ -1,0 +1,5 @@
+pub mod Bytes
+pub mod Pieces
+pub mod Scan
+pub mod Splitting
+pub mod Statements

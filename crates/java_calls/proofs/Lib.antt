@@ -1,0 +1,16 @@
+pub mod Args
+pub mod Calls
+pub mod Computed
+pub mod Fitted
+pub mod Grown
+pub mod Keeping
+pub mod Kin
+pub mod NoneLeft
+pub mod Old
+pub mod Quiet
+pub mod Replacing
+pub mod SetMarks
+pub mod Under
+pub mod Whole
+pub mod WithoutCalls
+pub mod Witness

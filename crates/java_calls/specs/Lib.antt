@@ -1,0 +1,9 @@
+pub mod Called
+pub mod Calling
+pub mod Fitting
+pub mod Inlining
+pub mod KeepsCalls
+pub mod ProgramNames
+pub mod Renaming
+pub mod Rules
+pub mod Worked
