@@ -1,20 +1,23 @@
 -- What is due for words that are plain, and for others.
-use Rattle.std.proofs.Common.{◌≡◌, ℕ, ◌<◌, ◌≤◌, ◌^◌, Bool, true, false, List, [], Option, Some, None, Result, Ok, Err, sym, subst, inl, codes, arith}
+use Rattle.std.proofs.Common.{◌≡◌, ℕ, ◌<◌, ◌≤◌, ◌^◌, Bool, true, false, List, [], ◌∷◌, Option, Some, None, Result, Ok, Err, refl, sym, subst, inl, inr, codes, arith}
 use Rattle.qbs_base.specs.declared.status.Status.{Status}
 use Rattle.words.specs.declared.command.Command.{Command}
 use Rattle.words.specs.declared.command.Command.TheVariants as commands
+use Rattle.words.specs.declared.command.Options.{Options}
 use Rattle.words.specs.Plain.{HasWords}
 use Rattle.words.specs.Reading.{plain}
 use Rattle.words.proofs.Exact.{reads_plain_words}
 use Rattle.deliveries.specs.declared.plan.Plan.{Plan}
 use Rattle.deliveries.specs.declared.fetch.Stop.{Stop}
 use Rattle.deliveries.specs.Code.{OrMemory, StopsFor}
-use Rattle.deliveries.specs.Plan.{Given}
+use Rattle.deliveries.specs.Deliver.{Change, Delivers}
+use Rattle.deliveries.specs.Plan.{Given, not_yet}
+use Rattle.deliveries.specs.Steps.{ends}
 use Rattle.deliveries.specs.Reads.{Looks, OnlyReads}
 use Rattle.deliveries.proofs.Reading.{reads_none}
 use Rattle.qbs.specs.Commands.{is_built, built, where_built, command, HasNoWords, AreRefused, program}
 use Rattle.qbs.specs.Pruners.{May}
-use Rattle.qbs.specs.Top.{ReadsBuilt, ReadsWhere, ReadsInOrder, ReadsAsNamed}
+use Rattle.qbs.specs.Top.{IsDone, ReadsBuilt, ReadsWhere, ReadsInOrder, ReadsAsNamed}
 use Rattle.qbs.specs.Within.{IsWithin}
 use Rattle.qbs.proofs.Going.{goes_on}
 use Rattle.qbs.proofs.Ranged.{within}
@@ -101,3 +104,61 @@ no_words_read_so l words files e d has = absurd (has_no_words words e d has)
 
 pub make_within : (c : Command) (n : ℕ) → c ≡ commands.Make n → IsWithin c → n < 2 ^ 63
 make_within c n is h = let few : n ≤ 100000 = subst IsWithin is h in omega arith
+
+-- nothing is read where a command stops before its first file
+pub none_read : {D : Type 0} (l : Looks D) (c : Command) (files : D) → ReadsBuilt l c files files
+none_read l (commands.Rewrite o s t) files = reads_none l (s ∷ t ∷ []) files
+none_read l (commands.Prove o s t) files = reads_none l (s ∷ t ∷ []) files
+none_read l (commands.Check o s t b) files = reads_none l (s ∷ t ∷ b ∷ []) files
+none_read l (commands.Run o s t d method words) files = record { tables = []; of_schema = inl refl; reads = reads_none l (s ∷ t ∷ []) files }
+none_read l (commands.Sql s d q) files = record { tables = []; of_schema = inl refl; reads = reads_none l (s ∷ []) files }
+none_read l (commands.Make n) files = reads_none l [] files
+none_read l (commands.Unnest o s t) files = reads_none l [] files
+none_read l (commands.Narrow o s t) files = reads_none l [] files
+none_read l (commands.Inline s t) files = reads_none l [] files
+none_read l (commands.Gather o s t) files = reads_none l [] files
+none_read l (commands.Schema o d) files = reads_none l [] files
+none_read l (commands.View m s t) files = reads_none l [] files
+none_read l (commands.Map es) files = reads_none l [] files
+none_read l (commands.CheckMap m s) files = reads_none l [] files
+
+where_none : {D : Type 0} (l : Looks D) (is : Bool) (c : Command) (files : D) → ReadsWhere is l c files files
+where_none l true c files = none_read l c files
+where_none l false c files = reads_none l [] files
+
+pub none_in_order : {D : Type 0} (l : Looks D) (c : Command) (files : D) → ReadsInOrder l c files files
+none_in_order l c files = where_none l (is_built c) c files
+
+-- of a command that none of the built ones is
+refused_due : (stop : Stop) → StopsFor Status.NotYet (codes "qbs: not yet") [] stop → OrMemory (Err stop) (ends not_yet)
+refused_due (Stop.Due plan) due = due
+refused_due Stop.Memory due = tt
+
+pub other_due : (files : Given) (may : May) (c : Command) (stop : Stop) →
+    ((o : Options) (s t : List ℕ) → c ≡ commands.Rewrite o s t → ⊥) →
+    ((o : Options) (s t : List ℕ) → c ≡ commands.Prove o s t → ⊥) →
+    ((o : Options) (s t b : List ℕ) → c ≡ commands.Check o s t b → ⊥) →
+    ((o : Options) (s t d m : List ℕ) (ws : List (List ℕ)) → c ≡ commands.Run o s t d m ws → ⊥) →
+    ((s d q : List ℕ) → c ≡ commands.Sql s d q → ⊥) →
+    ((n : ℕ) → c ≡ commands.Make n → ⊥) →
+    StopsFor Status.NotYet (codes "qbs: not yet") [] stop → OrMemory (Err stop) (built files may c)
+other_due files may (commands.Rewrite o s t) stop rewrite prove check run sql make due = absurd (rewrite o s t refl)
+other_due files may (commands.Prove o s t) stop rewrite prove check run sql make due = absurd (prove o s t refl)
+other_due files may (commands.Check o s t b) stop rewrite prove check run sql make due = absurd (check o s t b refl)
+other_due files may (commands.Run o s t d method words) stop rewrite prove check run sql make due = absurd (run o s t d method words refl)
+other_due files may (commands.Sql s d q) stop rewrite prove check run sql make due = absurd (sql s d q refl)
+other_due files may (commands.Make n) stop rewrite prove check run sql make due = absurd (make n refl)
+other_due files may (commands.Unnest o s t) stop rewrite prove check run sql make due = refused_due stop due
+other_due files may (commands.Narrow o s t) stop rewrite prove check run sql make due = refused_due stop due
+other_due files may (commands.Inline s t) stop rewrite prove check run sql make due = refused_due stop due
+other_due files may (commands.Gather o s t) stop rewrite prove check run sql make due = refused_due stop due
+other_due files may (commands.Schema o d) stop rewrite prove check run sql make due = refused_due stop due
+other_due files may (commands.View m s t) stop rewrite prove check run sql make due = refused_due stop due
+other_due files may (commands.Map es) stop rewrite prove check run sql make due = refused_due stop due
+other_due files may (commands.CheckMap m s) stop rewrite prove check run sql make due = refused_due stop due
+
+-- a plan that is due and delivered
+pub done_by : (files : Given) (may : May) (words : List (List ℕ)) (out rep : Change) (status : Status) (result : Result Plan Stop) (plan : Plan) →
+    result ≡ Ok plan → OrMemory result (program files may words) → Delivers plan out rep status → IsDone files may words out rep status
+done_by files may words out rep status result plan is h delivered =
+    record { plan = plan; due = inr (subst (λ (r : Result Plan Stop). OrMemory r (program files may words)) is h); delivered = delivered }

@@ -1,4 +1,6 @@
-use Rattle.qbs.proofs.Worded.{as_due, as_read}
+use Rattle.deliveries.specs.Plan.{given}
+use Rattle.deliveries.specs.Reads.{looks}
+use Rattle.qbs.proofs.Worded.{as_due, as_read, none_read, other_due}
 use Rattle.qbs.proofs.top.plan_built.Goals as goal
 
 pub returns-in-Rewrite-clause-due : goal.returns-in-Rewrite-clause-due
@@ -33,3 +35,12 @@ returns-in-Run-clause-reads g c = as_read _ c.args.command.now _ _ _ c.in-Run.is
 
 pub returns-in-Make-clause-due : goal.returns-in-Make-clause-due
 returns-in-Make-clause-due g c = as_due _ _ c.args.command.now _ c.plan_make.result c.in-Make.is c.plan_make.ensures
+
+pub returns-in-Make-clause-reads : goal.returns-in-Make-clause-reads
+returns-in-Make-clause-reads g c = none_read (looks g.F.Files.told g.F.Files.faults g.F.Files.may_fail g.F.Files.by_read) c.args.command.now c.args.files.now
+
+pub returns-in_default : goal.returns-in_default
+returns-in_default g c = record {
+    due = other_due (given g.F.Files.told g.F.Files.faults g.F.Files.may_fail c.args.files.now c.args.files.now) _ c.args.command.now c.refused.result c.in_default.not-Rewrite c.in_default.not-Prove c.in_default.not-Check c.in_default.not-Run c.in_default.not-Sql c.in_default.not-Make c.refused.ensures;
+    reads = none_read (looks g.F.Files.told g.F.Files.faults g.F.Files.may_fail g.F.Files.by_read) c.args.command.now c.args.files.now;
+  }
