@@ -41,6 +41,6 @@ returns-in-Make-clause-reads g c = none_read (looks g.F.Files.told g.F.Files.fau
 
 pub returns-in_default : goal.returns-in_default
 returns-in_default g c = record {
-    due = other_due (given g.F.Files.told g.F.Files.faults g.F.Files.may_fail c.args.files.now c.args.files.now) _ c.args.command.now c.refused.result c.in_default.not-Rewrite c.in_default.not-Prove c.in_default.not-Check c.in_default.not-Run c.in_default.not-Sql c.in_default.not-Make c.refused.ensures;
-    reads = none_read (looks g.F.Files.told g.F.Files.faults g.F.Files.may_fail g.F.Files.by_read) c.args.command.now c.args.files.now;
-  }
+  due = other_due (given g.F.Files.told g.F.Files.faults g.F.Files.may_fail c.args.files.now c.args.files.now) _ c.args.command.now c.refused.result c.in_default.not-Rewrite c.in_default.not-Prove c.in_default.not-Check c.in_default.not-Run c.in_default.not-Sql c.in_default.not-Make c.refused.ensures;
+  reads = none_read (looks g.F.Files.told g.F.Files.faults g.F.Files.may_fail g.F.Files.by_read) c.args.command.now c.args.files.now;
+}
