@@ -16,7 +16,7 @@ use Rattle.loop_text.specs.Sites.Sites.{has_number}
 use Rattle.loop_text.specs.Statements.Fragment.{Fragment, fragment_at}
 use Rattle.loop_text.specs.Statements.KeptStatements.{AreKept, none, keeps, drops, with_numbers}
 use Rattle.loop_places.specs.AtNumbers.{alone, at_numbers}
-use Rattle.loop_places.specs.RunsThere.{run_of_fragment}
+use Rattle.loop_places.specs.RunsThere.{run_or_nothing}
 
 -- ---- At the numbers of the kept statements
 
@@ -57,12 +57,6 @@ module _ (schema : Schema) (read : List ℕ → Option PlainQuery) (p : PlainPro
   kept_is = subst (λ (v : Setting). AreKept v.fragment (names_read l.entries) first v.fragment.run kept) (same_setting (setting_at schema read path p) k.setting w k.there is) k.keeps
 
   -- those that are found in the run are kept
-  pub run_kept : (run ss : Statements) → Some run ≡ run_of_fragment (fragment_at path p) → ss ≡ at_numbers first run kept → ss ≡ with_numbers kept first w.fragment.run
-  run_kept run ss there found =
-      let same : Some run ≡ Some w.fragment.run = there ∙ ap run_of_fragment fragment_is in
-      let runs : run ≡ w.fragment.run = cc in
-      found ∙ ap (λ (z : Statements). at_numbers first z kept) runs ∙ kept_found w.fragment (names_read l.entries) first w.fragment.run kept kept_is
-
-  -- a loop has a run
-  pub run_missing : None ≡ run_of_fragment (fragment_at path p) → ⊥
-  run_missing h = let same : None ≡ Some w.fragment.run = h ∙ ap run_of_fragment fragment_is in absurd cc
+  pub run_kept : (ss : Statements) → ss ≡ at_numbers first (run_or_nothing (fragment_at path p)) kept → ss ≡ with_numbers kept first w.fragment.run
+  run_kept ss found =
+      found ∙ ap (λ (o : Option Fragment). at_numbers first (run_or_nothing o) kept) fragment_is ∙ kept_found w.fragment (names_read l.entries) first w.fragment.run kept kept_is

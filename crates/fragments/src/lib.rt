@@ -12,7 +12,7 @@ mod verdict;
 
 pub use kept::kept_statements;
 pub use loop_places::outside::Outside;
-pub use loop_places::run::run_at;
+pub use loop_places::run::{run_at, run_there};
 pub use loop_text::statements::walk::loops_of;
 pub use lowering::lowered::Lowered;
 pub use places::located::needed;

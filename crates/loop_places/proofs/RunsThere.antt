@@ -10,7 +10,7 @@ use Rattle.loop_text.specs.Statements.Loops.{is_loop}
 use Rattle.java_ast.specs.Names.{Names, with_names, declared_among, walking, names_of_params}
 use Rattle.loop_text.proofs.Trees.Walked.{next_item}
 use Rattle.loop_places.specs.Runs.{run_where, run_here, run_in, run_at}
-use Rattle.loop_places.specs.RunsThere.{run_of_fragment}
+use Rattle.loop_places.specs.RunsThere.{run_of_fragment, run_or_nothing}
 
 -- ---- What stands behind a number
 
@@ -77,3 +77,13 @@ step_run path below rest b m n block body s r is more number branch there =
     ∙ ap (found_in (run_in rest m)) branch
     ∙ ap (found_in (λ (t : Statement). found_in (run_in rest m) (branch_of b t))) number
     ∙ ap (λ (q : List ℕ). run_in q n block) (sym whole)
+
+-- ---- Where there may be none
+
+pub found_there : (o : Option Fragment) (run : Statements) → Some run ≡ run_of_fragment o → run ≡ run_or_nothing o
+found_there None run e = absurd cc
+found_there (Some f) run e = cc
+
+pub nothing_there : (o : Option Fragment) → None ≡ run_of_fragment o → Nothing ≡ run_or_nothing o
+nothing_there None e = refl
+nothing_there (Some f) e = absurd cc

@@ -5,7 +5,7 @@ ghost use Rattle.java_ast.specs.Path.{first_of, behind_of};
 ghost use Rattle.java_ast.specs.Reading.{statements, program as plain_program};
 ghost use Rattle.loop_text.specs.Statements.Fragment.{fragment_at};
 ghost use Rattle.loop_places.specs.Runs as specs;
-ghost use Rattle.loop_places.specs.RunsThere.{run_of_fragment};
+ghost use Rattle.loop_places.specs.RunsThere.{run_of_fragment, run_or_nothing};
 
 use java_ast::{Path, Program, Stmt, branch};
 use loop_text::loops::limits::is_loop;
@@ -65,4 +65,14 @@ pub fn run_at<'a>(program: &'a Program, path: &Path) -> Option<&'a [Stmt]>
     ensures { option_map statements (option_copied result) ≡ run_of_fragment (fragment_at path.now (plain_program program.now)) }
 {
     run_found(program, path)
+}
+
+/// The same, empty where the path leads to no loop.
+pub fn run_there<'a>(program: &'a Program, path: &Path) -> &'a [Stmt]
+    ensures { statements result.now ≡ run_or_nothing (fragment_at path.now (plain_program program.now)) }
+{
+    match run_at(program, path) {
+        Some(run) => run,
+        None => &[],
+    }
 }
