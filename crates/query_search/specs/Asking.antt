@@ -6,7 +6,7 @@ use Rattle.std.specs.declared.option.Option.TheVariants.{Some}
 use Rattle.kernel_lang.specs.declared.fragment.KFragment.{KFragment}
 use Rattle.kernel_lang.specs.declared.prune.PruneAnswer.{PruneAnswer}
 use Rattle.kernel_lang.specs.declared.prune.PruneAnswer.TheVariants.{Keep, Drop}
-use Rattle.kernel_lang.specs.Whole.{fragment_of}
+use Rattle.kernel_lang.specs.Plain.{Fragment}
 use Rattle.templates.specs.Numbered.{candidates_of}
 use Rattle.query_search.specs.Counted.{OneIs}
 
@@ -14,26 +14,30 @@ use Rattle.query_search.specs.Counted.{OneIs}
 abbrev pub Promise : Type 1
 Promise = Bor KFragment → Bor (List ℕ) → PruneAnswer → Type 0
 
--- by its promise the call may answer so
-abbrev pub MayAnswer : Promise → KFragment → PruneAnswer → List ℕ → Type 0
-MayAnswer post f answer c = (at : Bor KFragment) × (of : Bor (List ℕ)) × post at of answer × (at.now ≡ f) × (of.now ≡ c)
+-- By its promise the call may answer so about a candidate of a fragment, of which this is read.
+abbrev pub MayAnswer : {A : Type 0} → (KFragment → A) → Promise → A → PruneAnswer → List ℕ → Type 0
+MayAnswer read post f answer c = (at : Bor KFragment) × (of : Bor (List ℕ)) × post at of answer × (read at.now ≡ f) × (of.now ≡ c)
+
+-- a fragment as code has it
+abbrev pub as_it_is : KFragment → KFragment
+as_it_is f = f
 
 -- some pruner may drop the candidate
-abbrev pub OneMayDrop : {P : Type 0} → (P → Promise) → List P → KFragment → List ℕ → Type 0
-OneMayDrop post pruners f c = OneIs (λ p. MayAnswer (post p) f Drop c) pruners
+abbrev pub OneMayDrop : {A P : Type 0} → (KFragment → A) → (P → Promise) → List P → A → List ℕ → Type 0
+OneMayDrop read post pruners f c = OneIs (λ p. MayAnswer read (post p) f Drop c) pruners
 
 -- each pruner may keep it
-abbrev pub AllMayKeep : {P : Type 0} → (P → Promise) → List P → KFragment → List ℕ → Type 0
-AllMayKeep post pruners f c = AllByRecursion (λ p. MayAnswer (post p) f Keep c) pruners
+abbrev pub AllMayKeep : {A P : Type 0} → (KFragment → A) → (P → Promise) → List P → A → List ℕ → Type 0
+AllMayKeep read post pruners f c = AllByRecursion (λ p. MayAnswer read (post p) f Keep c) pruners
 
 -- some pruner may drop the candidate, one further counted among them
-abbrev pub SomeMayDrop : {P : Type 0} → (P → Promise) → List P → Promise → KFragment → List ℕ → Type 0
-SomeMayDrop post pruners further f c = OneMayDrop post pruners f c ⊎ MayAnswer further f Drop c
+abbrev pub SomeMayDrop : {A P : Type 0} → (KFragment → A) → (P → Promise) → List P → Promise → A → List ℕ → Type 0
+SomeMayDrop read post pruners further f c = OneMayDrop read post pruners f c ⊎ MayAnswer read further f Drop c
 
 -- each pruner may keep it, and so may the one further
-abbrev pub EachMayKeep : {P : Type 0} → (P → Promise) → List P → Promise → KFragment → List ℕ → Type 0
-EachMayKeep post pruners further f c = AllMayKeep post pruners f c × MayAnswer further f Keep c
+abbrev pub EachMayKeep : {A P : Type 0} → (KFragment → A) → (P → Promise) → List P → Promise → A → List ℕ → Type 0
+EachMayKeep read post pruners further f c = AllMayKeep read post pruners f c × MayAnswer read further f Keep c
 
 -- something is so of the candidate of this number
-abbrev pub OfCandidate : KFragment → ℕ → (List ℕ → Type 0) → ℕ → Type 0
-OfCandidate f size Is k = (c : List ℕ) × (slice_get (candidates_of (fragment_of f) size) k ≡ Some c) × Is c
+abbrev pub OfCandidate : Fragment → ℕ → (List ℕ → Type 0) → ℕ → Type 0
+OfCandidate f size Is k = (c : List ℕ) × (slice_get (candidates_of f size) k ≡ Some c) × Is c

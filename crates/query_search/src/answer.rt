@@ -1,5 +1,5 @@
 // One call about a candidate.
-ghost use Rattle.query_search.specs.Asking.{MayAnswer};
+ghost use Rattle.query_search.specs.Asking.{as_it_is, MayAnswer};
 
 use kernel_lang::{Candidate, KFragment, PruneAnswer};
 
@@ -10,7 +10,7 @@ pub fn answer_of<F: Fn(&KFragment, &Candidate) -> PruneAnswer>(
     c: &Candidate,
 ) -> PruneAnswer
     requires { F.pre call.now f c }
-    ensures answer { MayAnswer (F.post call.now) f.now result c.now }
+    ensures answer { MayAnswer as_it_is (F.post call.now) f.now result c.now }
 {
     call(f, c)
 }

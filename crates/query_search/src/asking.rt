@@ -5,7 +5,7 @@ ghost use Rattle.kernel_lang.specs.declared.prune.PruneAnswer.TheVariants as ans
 ghost use Rattle.kernel_lang.specs.Pools.{IsCandidateOf};
 ghost use Rattle.kernel_lang.specs.Refuted.{IsRefuted};
 ghost use Rattle.kernel_lang.specs.Whole.{fragment_of};
-ghost use Rattle.query_search.specs.Asking.{MayAnswer};
+ghost use Rattle.query_search.specs.Asking.{as_it_is, MayAnswer};
 ghost use Rattle.query_search.specs.Counted.{OneIs};
 
 use crate::extra::Extra;
@@ -16,8 +16,8 @@ use search_steps::first_asked;
 /// What pruners say of a candidate: whether one drops it, where none before it wants for memory.
 pub fn ask_pruners(pruners: &[Pruner], frag: &KFragment, cand: &Candidate) -> PruneAnswer
     requires { IsCandidateOf (fragment_of frag.now) cand.now }
-    ensures dropped { result ≡ answers.Drop → OneIs (λ p. MayAnswer (Call.post p.call) frag.now answers.Drop cand.now) pruners.now }
-    ensures kept { result ≡ answers.Keep → AllByRecursion (λ p. MayAnswer (Call.post p.call) frag.now answers.Keep cand.now) pruners.now }
+    ensures dropped { result ≡ answers.Drop → OneIs (λ p. MayAnswer as_it_is (Call.post p.call) frag.now answers.Drop cand.now) pruners.now }
+    ensures kept { result ≡ answers.Keep → AllByRecursion (λ p. MayAnswer as_it_is (Call.post p.call) frag.now answers.Keep cand.now) pruners.now }
     ensures justified { result ≡ answers.Drop → ∥ IsRefuted (fragment_of frag.now) cand.now ∥₁ }
 {
     match first_asked(pruners) {
@@ -44,11 +44,11 @@ pub fn ask_all<F: Fn(&KFragment, &Candidate) -> PruneAnswer>(
         → F.post extra.now.call f c answers.Drop
         → ∥ IsRefuted (fragment_of f.now) c.now ∥₁ }
     ensures dropped { result ≡ answers.Drop
-        → OneIs (λ p. MayAnswer (Call.post p.call) frag.now answers.Drop cand.now) pruners.now
-        ⊎ MayAnswer (F.post extra.now.call) frag.now answers.Drop cand.now }
+        → OneIs (λ p. MayAnswer as_it_is (Call.post p.call) frag.now answers.Drop cand.now) pruners.now
+        ⊎ MayAnswer as_it_is (F.post extra.now.call) frag.now answers.Drop cand.now }
     ensures kept { result ≡ answers.Keep
-        → AllByRecursion (λ p. MayAnswer (Call.post p.call) frag.now answers.Keep cand.now) pruners.now
-        × MayAnswer (F.post extra.now.call) frag.now answers.Keep cand.now }
+        → AllByRecursion (λ p. MayAnswer as_it_is (Call.post p.call) frag.now answers.Keep cand.now) pruners.now
+        × MayAnswer as_it_is (F.post extra.now.call) frag.now answers.Keep cand.now }
     ensures justified { result ≡ answers.Drop → ∥ IsRefuted (fragment_of frag.now) cand.now ∥₁ }
 {
     match ask_pruners(pruners, frag, cand) {

@@ -4,7 +4,7 @@ ghost use Rattle.kernel_lang.specs.declared.prune.PruneAnswer.TheVariants as ans
 ghost use Rattle.kernel_lang.specs.Pools.{IsCandidateOf};
 ghost use Rattle.kernel_lang.specs.Refuted.{IsRefuted};
 ghost use Rattle.kernel_lang.specs.Whole.{fragment_of};
-ghost use Rattle.query_search.specs.Asking.{MayAnswer};
+ghost use Rattle.query_search.specs.Asking.{as_it_is, MayAnswer};
 
 use crate::answer::answer_of;
 use kernel_lang::{Candidate, KFragment, PruneAnswer};
@@ -38,7 +38,7 @@ impl<F: Fn(&KFragment, &Candidate) -> PruneAnswer> Extra<F> {
             → IsCandidateOf (fragment_of f.now) c.now
             → F.post self.now.call f c answers.Drop
             → ∥ IsRefuted (fragment_of f.now) c.now ∥₁ }
-        ensures answer { MayAnswer (F.post self.now.call) f.now result c.now }
+        ensures answer { MayAnswer as_it_is (F.post self.now.call) f.now result c.now }
         ensures justified { result ≡ answers.Drop → ∥ IsRefuted (fragment_of f.now) c.now ∥₁ }
     {
         answer_of(&self.call, f, c)

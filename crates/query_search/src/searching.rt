@@ -4,7 +4,7 @@ ghost use Rattle.kernel_lang.specs.declared.prune.PruneAnswer.TheVariants as ans
 ghost use Rattle.kernel_lang.specs.Pools.{IsCandidateOf};
 ghost use Rattle.kernel_lang.specs.Refuted.{IsRefuted};
 ghost use Rattle.kernel_lang.specs.Whole.{fragment_of};
-ghost use Rattle.query_search.specs.Asking.{OneMayDrop, AllMayKeep, SomeMayDrop, EachMayKeep, OfCandidate};
+ghost use Rattle.query_search.specs.Asking.{as_it_is, OneMayDrop, AllMayKeep, SomeMayDrop, EachMayKeep, OfCandidate};
 ghost use Rattle.query_search.specs.Counted.{AreCounted};
 ghost use Rattle.query_search.specs.Seen.{hit_in, verdict_in, dropped_in, IsFoundOf};
 ghost use Rattle.query_search.specs.Verdicts.{verdict, verdict_by, before};
@@ -70,8 +70,8 @@ pub fn search_with<F: Fn(&KFragment, &Candidate) -> PruneAnswer>(
     ensures exact { IfOk result (λ r. verdict_in r ≡ verdict (fragment_of frag.now) size budget) }
     ensures dropped { IfOk result (λ r.
         AreCounted
-        (OfCandidate frag.now size (SomeMayDrop (λ p. Call.post p.call) pruners.now (F.post extra.now.call) frag.now))
-        (OfCandidate frag.now size (EachMayKeep (λ p. Call.post p.call) pruners.now (F.post extra.now.call) frag.now))
+        (OfCandidate (fragment_of frag.now) size (SomeMayDrop as_it_is (λ p. Call.post p.call) pruners.now (F.post extra.now.call) frag.now))
+        (OfCandidate (fragment_of frag.now) size (EachMayKeep as_it_is (λ p. Call.post p.call) pruners.now (F.post extra.now.call) frag.now))
         0 (before (verdict (fragment_of frag.now) size budget)) (dropped_in r)) }
     ensures found { IfOk result (IsFoundOf (fragment_of frag.now)) }
 {
@@ -97,8 +97,8 @@ fn search_past<F: Fn(&KFragment, &Candidate) -> PruneAnswer>(
     ensures exact { IfOk result (λ r. verdict_in r ≡ verdict (fragment_of frag.now) size budget) }
     ensures dropped { IfOk result (λ r.
         AreCounted
-        (OfCandidate frag.now size (OneMayDrop (λ p. Call.post p.call) pruners.now frag.now))
-        (OfCandidate frag.now size (AllMayKeep (λ p. Call.post p.call) pruners.now frag.now))
+        (OfCandidate (fragment_of frag.now) size (OneMayDrop as_it_is (λ p. Call.post p.call) pruners.now frag.now))
+        (OfCandidate (fragment_of frag.now) size (AllMayKeep as_it_is (λ p. Call.post p.call) pruners.now frag.now))
         0 (before (verdict (fragment_of frag.now) size budget)) (dropped_in r)) }
     ensures found { IfOk result (IsFoundOf (fragment_of frag.now)) }
 {
@@ -117,8 +117,8 @@ pub fn search(
     ensures exact { IfOk result (λ r. verdict_in r ≡ verdict (fragment_of frag.now) size budget) }
     ensures dropped { IfOk result (λ r.
         AreCounted
-        (OfCandidate frag.now size (OneMayDrop (λ p. Call.post p.call) pruners.now frag.now))
-        (OfCandidate frag.now size (AllMayKeep (λ p. Call.post p.call) pruners.now frag.now))
+        (OfCandidate (fragment_of frag.now) size (OneMayDrop as_it_is (λ p. Call.post p.call) pruners.now frag.now))
+        (OfCandidate (fragment_of frag.now) size (AllMayKeep as_it_is (λ p. Call.post p.call) pruners.now frag.now))
         0 (before (verdict (fragment_of frag.now) size budget)) (dropped_in r)) }
     ensures found { IfOk result (IsFoundOf (fragment_of frag.now)) }
 {

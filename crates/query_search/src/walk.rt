@@ -5,7 +5,7 @@ ghost use Rattle.kernel_lang.specs.Pools.{IsCandidateOf};
 ghost use Rattle.kernel_lang.specs.Refuted.{IsRefuted};
 ghost use Rattle.kernel_lang.specs.Whole.{fragment_of};
 ghost use Rattle.templates.specs.Numbered.{candidates_of};
-ghost use Rattle.query_search.specs.Asking.{SomeMayDrop, EachMayKeep, OfCandidate};
+ghost use Rattle.query_search.specs.Asking.{as_it_is, SomeMayDrop, EachMayKeep, OfCandidate};
 ghost use Rattle.query_search.specs.Remembered.{IsMemoryOf};
 ghost use Rattle.query_search.specs.Seen.{hit_in};
 ghost use Rattle.query_search.specs.Walks.{IsPart};
@@ -57,8 +57,8 @@ fn judge_one<F: Fn(&KFragment, &Candidate) -> PruneAnswer>(
     ensures kept { OnOk result (IsMemoryOf (fragment_of frag.now) memory.new) }
     ensures part { IfOk result (λ part.
         IsPart (fragment_of frag.now) size
-        (OfCandidate frag.now size (SomeMayDrop (λ p. Call.post p.call) pruners.now (F.post extra.now.call) frag.now))
-        (OfCandidate frag.now size (EachMayKeep (λ p. Call.post p.call) pruners.now (F.post extra.now.call) frag.now))
+        (OfCandidate (fragment_of frag.now) size (SomeMayDrop as_it_is (λ p. Call.post p.call) pruners.now (F.post extra.now.call) frag.now))
+        (OfCandidate (fragment_of frag.now) size (EachMayKeep as_it_is (λ p. Call.post p.call) pruners.now (F.post extra.now.call) frag.now))
         k 1 (option_map hit_in part.hit) part.dropped) }
 {
     let cand = candidate_at(alloc, frag, size, k)?;
@@ -104,8 +104,8 @@ pub fn walk<F: Fn(&KFragment, &Candidate) -> PruneAnswer>(
     ensures kept { OnOk result (IsMemoryOf (fragment_of frag.now) memory.new) }
     ensures part { IfOk result (λ part.
         IsPart (fragment_of frag.now) size
-        (OfCandidate frag.now size (SomeMayDrop (λ p. Call.post p.call) pruners.now (F.post extra.now.call) frag.now))
-        (OfCandidate frag.now size (EachMayKeep (λ p. Call.post p.call) pruners.now (F.post extra.now.call) frag.now))
+        (OfCandidate (fragment_of frag.now) size (SomeMayDrop as_it_is (λ p. Call.post p.call) pruners.now (F.post extra.now.call) frag.now))
+        (OfCandidate (fragment_of frag.now) size (EachMayKeep as_it_is (λ p. Call.post p.call) pruners.now (F.post extra.now.call) frag.now))
         k n (option_map hit_in part.hit) part.dropped) }
 {
     if n == 0 {
