@@ -8,6 +8,7 @@ pub mod Found
 pub mod Kept
 pub mod Leaves
 pub mod Margins
+pub mod PatchesMade
 pub mod Programs
 pub mod Runs
 pub mod SameExpressions

@@ -1,14 +1,21 @@
 -- Patches as code makes them are those that are defined.
-use Rattle.std.proofs.Common.{◌≡◌, ℕ, zero, suc, ◌-◌, ◌<◌, true, false, List, [], ◌∷◌, ◌++◌, length, take, drop, slice_get, Option, refl, sym, ap, ◌∙◌, arith, append_assoc, length-append, codes}
+use Rattle.std.proofs.Common.{◌≡◌, ℕ, zero, suc, ◌-◌, ◌<◌, true, false, List, [], ◌∷◌, ◌++◌, length, take, drop, map, slice_get, Bool, cond, Option, option_map, refl, sym, ap, ◌∙◌, arith, append_assoc, length-append, codes}
+use Rattle.std.specs.Prelude.{filter, nat_le}
 use Rattle.std.specs.Str.{IsUtf8}
 use Rattle.std.proofs.lemmas.Bool.Decides.{nat_tests}
 use Rattle.std.proofs.Math.Seq.{take-append_seam}
+use Rattle.std.proofs.lemmas.List.{length-map, map-append}
+use Rattle.std.proofs.lemmas.Option.{slice_get-map}
 use Rattle.std.proofs.lemmas.Str.{IsUtf8-from_ascii}
 use Rattle.java_ast.specs.Tree.{Declare, Assign, Add, Sort, If, IfElse, ForEach, While, Print, Return, Break, Statement, Statements, Nothing, Then}
 use Rattle.java_lex.proofs.Ascii.{front_is_ascii}
+use Rattle.java_ast.specs.declared.tree.Stmt.{Stmt}
+use Rattle.java_ast.specs.Reading.{statements}
 use Rattle.java_text.specs.Canonical.{line_end, indent, canonical_expression, canonical_keys, declared_text, walked_text, tested_text, returned_text, braced, canonical_statement, canonical_statements}
-use Rattle.rewrite_core.specs.declared.patch.Patch.{Patch}
-use Rattle.rewrite_core.specs.Patches.{is_blank, blanks_of, earlier, patched, last_of, margin_by, margin_at, joined_lines, patch_of, sibling}
+use Rattle.java_stretches.specs.declared.patch.Patch.{Patch}
+use Rattle.java_stretches.specs.Lines.{is_blank, joined_lines}
+use Rattle.java_stretches.specs.Patches.{PlainPatch, plain_patch, plain_patches, blanks_of, is_before, earlier, patched, last_of, margin_by, margin_at, patch_of}
+use Rattle.java_stretches.specs.Stretch.{sibling}
 
 -- ---- Margins
 
@@ -122,21 +129,48 @@ sibling_is path front new m n is e = e ∙ sym (ap (λ (p : List ℕ). sibling p
 
 -- ---- Patches
 
-last_is : (ps : List Patch) → last_of ps ≡ slice_get ps (length ps - 1)
+earlier_step : (v : Bool) (p : Patch) (xs : List PlainPatch) (ps : List Patch) → plain_patches ps ≡ xs → plain_patches (cond v (p ∷ ps) ps) ≡ cond v (plain_patch p ∷ xs) xs
+earlier_step true p xs ps e = ap (λ (ys : List PlainPatch). plain_patch p ∷ ys) e
+earlier_step false p xs ps e = e
+
+-- those of the code that end before a byte are those that are defined
+pub earlier_made : (from : ℕ) (ps : List Patch) → plain_patches (filter (λ p. nat_le p.to from) ps) ≡ earlier from (plain_patches ps)
+earlier_made from [] = refl
+earlier_made from (p ∷ ps) = earlier_step (nat_le p.to from) p (earlier from (plain_patches ps)) (filter (λ q. nat_le q.to from) ps) (earlier_made from ps)
+
+last_is : (ps : List PlainPatch) → last_of ps ≡ slice_get ps (length ps - 1)
 last_is [] = refl
 last_is (p ∷ []) = refl
 last_is (p ∷ q ∷ ps) =
     let n : suc (suc (length ps) - 1) ≡ suc (suc (length ps)) - 1 = omega arith in
     last_is (q ∷ ps) ∙ ap (λ (k : ℕ). slice_get (p ∷ q ∷ ps) k) n
 
-abbrev made : ℕ → ℕ → List ℕ → List ℕ → Patch
-made from to margin text = record { from = from; to = to; margin = margin; text = text }
+-- the last one of the code's
+last_made : (ps : List Patch) → option_map plain_patch (slice_get ps (length ps - 1)) ≡ last_of (plain_patches ps)
+last_made ps =
+    sym (slice_get-map plain_patch ps (length ps - 1))
+    ∙ ap (λ (n : ℕ). slice_get (plain_patches ps) (n - 1)) (sym (length-map ps plain_patch))
+    ∙ sym (last_is (plain_patches ps))
 
-pub patch_is : (source : List ℕ) (ps kept : List Patch) (from to : ℕ) (block : Statements) (last : Option Patch) (margin text : List ℕ) → kept ≡ earlier from ps → last ≡ slice_get kept (length kept - 1) → margin ≡ margin_by source last from → text ≡ joined_lines margin block
-    → (new : List Patch) → new ≡ kept ++ record { from = from; to = to; margin = margin; text = text } ∷ [] → new ≡ patched ps (patch_of source ps from to block)
-patch_is source ps kept from to block last margin text kept_is last_there margin_is text_is new new_is =
-    let behind : margin ≡ margin_at source ps from = margin_is ∙ ap (λ (o : Option Patch). margin_by source o from) (last_there ∙ sym (last_is kept) ∙ ap last_of kept_is) in
-    new_is
-    ∙ ap (λ (ks : List Patch). ks ++ made from to margin text ∷ []) kept_is
-    ∙ ap (λ (t : List ℕ). earlier from ps ++ made from to margin t ∷ []) text_is
-    ∙ ap (λ (m : List ℕ). earlier from ps ++ made from to m (joined_lines m block) ∷ []) behind
+abbrev made : ℕ → ℕ → List ℕ → List ℕ → List ℕ → ℕ → List Stmt → Patch
+made from to margin text path first block = record { from = from; to = to; margin = margin; text = text; path = path; first = first; block = block }
+
+abbrev meant : ℕ → ℕ → List ℕ → List ℕ → List ℕ → ℕ → Statements → PlainPatch
+meant from to margin text path first block = record { from = from; to = to; margin = margin; text = text; path = path; first = first; block = block }
+
+pub patch_is : (source : List ℕ) (old : List PlainPatch) (kept : List Patch) (from to : ℕ) (path : List ℕ) (first : ℕ) (block : Statements) (last : Option Patch) (margin text : List ℕ) (way : List ℕ) (copy : List Stmt)
+    → plain_patches kept ≡ earlier from old → last ≡ slice_get kept (length kept - 1) → margin ≡ margin_by source (option_map plain_patch last) from → text ≡ joined_lines margin block → way ≡ path → statements copy ≡ block
+    → (new : List Patch) → new ≡ kept ++ made from to margin text way first copy ∷ [] → plain_patches new ≡ patched old (patch_of source old from to path first block)
+patch_is source old kept from to path first block last margin text way copy kept_is last_there margin_is text_is way_is copy_is new new_is =
+    let behind : margin ≡ margin_at source old from =
+      margin_is
+      ∙ ap (λ (o : Option Patch). margin_by source (option_map plain_patch o) from) last_there
+      ∙ ap (λ (o : Option PlainPatch). margin_by source o from) (last_made kept)
+      ∙ ap (λ (ps : List PlainPatch). margin_by source (last_of ps) from) kept_is in
+    ap plain_patches new_is
+    ∙ map-append plain_patch kept (made from to margin text way first copy ∷ [])
+    ∙ ap (λ (ks : List PlainPatch). ks ++ meant from to margin text way first (statements copy) ∷ []) kept_is
+    ∙ ap (λ (b : Statements). earlier from old ++ meant from to margin text way first b ∷ []) copy_is
+    ∙ ap (λ (w : List ℕ). earlier from old ++ meant from to margin text w first block ∷ []) way_is
+    ∙ ap (λ (t : List ℕ). earlier from old ++ meant from to margin t path first block ∷ []) text_is
+    ∙ ap (λ (m : List ℕ). earlier from old ++ meant from to m (joined_lines m block) path first block ∷ []) behind

@@ -3,6 +3,7 @@ pub mod Fit
 pub mod Focus
 pub mod Laid
 pub mod Lines
+pub mod Patches
 pub mod Stretch
 pub mod Worked
 pub mod WorkedPatch

@@ -1,6 +1,6 @@
-// The text that is written for a rewritten program.
+// A source with patches in place.
 ghost use Rattle.std.specs.Prelude.{◌≡◌, IfOk};
-ghost use Rattle.rewrite_core.specs.Patches.{with_patches};
+ghost use Rattle.java_stretches.specs.Patches as specs;
 
 use crate::patch::Patch;
 use crate::patching::{bytes_from, stretch};
@@ -8,8 +8,8 @@ use qbs_base::{Bytes, NoMemory};
 use std::alloc::Global;
 
 /// The source with patches in place. Only want of memory is an error.
-pub fn patched(alloc: Global, source: &[u8], patches: &[Patch]) -> Result<Bytes, NoMemory>
-    ensures { IfOk result (λ bytes. bytes ≡ with_patches source.now 0 patches.now) }
+pub fn with_patches(alloc: Global, source: &[u8], patches: &[Patch]) -> Result<Bytes, NoMemory>
+    ensures { IfOk result (λ bytes. bytes ≡ specs.with_patches source.now 0 (specs.plain_patches patches.now)) }
 {
     let mut out = Vec::new(alloc);
     let mut at = 0u64;

@@ -1,14 +1,17 @@
-// Patches of a source, one for each loop that gives way.
+// Patches of a source, one for each stretch of statements that gives way.
 ghost use Rattle.std.specs.Prelude.{◌≡◌, ◌≤◌, IfOk, OnOk, take, drop, length};
 ghost use Rattle.std.specs.List.{prefix_len, suffix_len};
 ghost use Rattle.std.specs.Option.{option_copied, option_map};
 ghost use Rattle.java_ast.specs.Path.{statement_at};
 ghost use Rattle.java_ast.specs.Reading.{statement, statements, program as plain_program};
 ghost use Rattle.java_lex.specs.Bytes.{is_in_line as is_in_line_byte};
-ghost use Rattle.rewrite_core.specs.Patches as specs;
+ghost use Rattle.java_stretches.specs.Lines as lines;
+ghost use Rattle.java_stretches.specs.Stretch as stretches;
+ghost use Rattle.java_stretches.specs.Patches as specs;
 
 use crate::patch::{Patch, Patches};
-use java_ast::{Path, Program, Stmt, at_path};
+use java_ast::{Path, Program, Stmt, Stmts, at_path};
+use java_copies::copy_statements;
 use java_text::print_statements;
 use qbs_base::{NoMemory, Text, copy_text};
 use std::alloc::Global;
@@ -52,7 +55,7 @@ fn is_in_line(byte: u8) -> bool
 }
 
 fn is_blank(byte: u8) -> bool
-    ensures { result ≡ specs.is_blank byte }
+    ensures { result ≡ lines.is_blank byte }
 {
     byte == b' ' || byte == b'\t'
 }
@@ -67,7 +70,7 @@ fn line_len(bytes: &[u8]) -> usize
 
 // How many spaces and tabs begin a line.
 fn blank_len(line: &[u8]) -> usize
-    ensures value { result ≡ prefix_len specs.is_blank line.now }
+    ensures value { result ≡ prefix_len lines.is_blank line.now }
     ensures within { result ≤ length line.now }
 {
     line.iter().take_while(|b| is_blank(**b)).count()
@@ -110,14 +113,14 @@ fn margin_behind(alloc: Global, margin: &Text, bytes: &[u8]) -> Result<Text, NoM
     }
 }
 
-// The margin of the line in which a patch begins, by the last one before it: the bytes between them are looked at, or those of its line.
-fn margin_by(
+/// The margin of the line in which a patch begins, by the last one before it: the bytes between them are looked at, or those of its line.
+pub fn margin_by(
     alloc: Global,
     source: &[u8],
     last: Option<&Patch>,
     from: u64,
 ) -> Result<Text, NoMemory>
-    ensures { IfOk result (λ margin. margin ≡ specs.margin_by source.now (option_copied last.entry) from) }
+    ensures { IfOk result (λ margin. margin ≡ specs.margin_by source.now (option_map specs.plain_patch (option_copied last.entry)) from) }
 {
     match last {
         None => blanks_of(alloc, last_line(bytes_to(source, from))),
@@ -129,7 +132,7 @@ fn margin_by(
 
 // The lines of statements but for the margin of the first and the line end of the last.
 fn joined_lines(alloc: Global, margin: &Text, block: &[Stmt]) -> Result<Text, NoMemory>
-    ensures { IfOk result (λ text. text ≡ specs.joined_lines margin.now (statements block.now)) }
+    ensures { IfOk result (λ text. text ≡ lines.joined_lines margin.now (statements block.now)) }
 {
     let lines = print_statements(alloc, margin.as_str(), block)?;
     let Some(front) = lines.as_str().strip_suffix("\n") else {
@@ -161,7 +164,7 @@ fn end_of(s: Option<&Stmt>) -> u64
 
 // The path to the statement with this number in the block of the statement to which a path leads.
 fn sibling(alloc: Global, path: &Path, number: u64) -> Result<Path, NoMemory>
-    ensures { IfOk result (λ p. p ≡ specs.sibling path.now number) }
+    ensures { IfOk result (λ p. p ≡ stretches.sibling path.now number) }
 {
     let mut steps = path.as_slice().to_vec(alloc)?;
     match steps.pop() {
@@ -177,7 +180,7 @@ fn sibling(alloc: Global, path: &Path, number: u64) -> Result<Path, NoMemory>
 
 // Where the bytes of a statement begin that begins at this byte of the source.
 fn begins_at(patches: &[Patch], start: u64) -> u64
-    ensures { result ≡ specs.begins_at patches.now start }
+    ensures { result ≡ specs.begins_at (specs.plain_patches patches.now) start }
 {
     for p in patches {
         if p.from <= start && start < p.to {
@@ -189,32 +192,49 @@ fn begins_at(patches: &[Patch], start: u64) -> u64
 
 // Those that end before a byte stay.
 fn keep_earlier(alloc: Global, patches: &mut Patches, from: u64)
-    ensures { patches.new ≡ specs.earlier from patches.old }
+    ensures { specs.plain_patches patches.new ≡ specs.earlier from (specs.plain_patches patches.old) }
 {
     let mut all = mem::replace(patches, Patches::new(alloc)).into_vec();
     all.retain(|p| p.to <= from);
     *patches = Patches::from_vec(all);
 }
 
-// Puts a patch behind those that end before it: statements in place of the bytes from one number to another.
+// A path of its own.
+fn copy_path(alloc: Global, path: &Path) -> Result<Path, NoMemory>
+    ensures { IfOk result (λ p. p ≡ path.now) }
+{
+    Ok(Path::from_vec(path.as_slice().to_vec(alloc)?))
+}
+
+// Puts a patch behind those that end before it: a block in place of the bytes from one number to another, and of the statements from the
+// number `first` to the one to which the path leads.
 fn put_from(
     alloc: Global,
     source: &[u8],
     patches: &mut Patches,
     from: u64,
     to: u64,
+    path: &Path,
+    first: u64,
     block: &[Stmt],
 ) -> Result<(), NoMemory>
-    ensures { OnOk result (patches.new ≡ specs.patched patches.old (specs.patch_of source.now patches.old from to (statements block.now))) }
+    ensures { OnOk result (
+        specs.plain_patches patches.new
+        ≡ specs.patched (specs.plain_patches patches.old) (specs.patch_of source.now (specs.plain_patches patches.old) from to path.now first (statements block.now))) }
 {
     keep_earlier(alloc, patches, from);
     let margin = margin_by(alloc, source, patches.as_slice().last(), from)?;
     let text = joined_lines(alloc, &margin, block)?;
+    let path = copy_path(alloc, path)?;
+    let block = copy_statements(alloc, block)?;
     patches.push(Patch {
         from,
         to,
         margin,
         text,
+        path,
+        first,
+        block: Stmts::from_vec(block),
     })
 }
 
@@ -226,7 +246,7 @@ fn stretch_at(
     path: &Path,
     first: u64,
 ) -> Result<(u64, u64), NoMemory>
-    ensures from { IfOk result (λ r. r.0 ≡ specs.begins_at patches.now (specs.start_of (statement_at (specs.sibling path.now first) (plain_program program.now)))) }
+    ensures from { IfOk result (λ r. r.0 ≡ specs.begins_at (specs.plain_patches patches.now) (specs.start_of (statement_at (stretches.sibling path.now first) (plain_program program.now)))) }
     ensures to { IfOk result (λ r. r.1 ≡ specs.end_of (statement_at path.now (plain_program program.now))) }
 {
     let run = sibling(alloc, path, first)?;
@@ -234,8 +254,9 @@ fn stretch_at(
     Ok((begins_at(patches, start), end_of(at_path(program, path))))
 }
 
-/// Puts a patch: statements in place of those of a program from the number `first` to the one to which a path leads. Patches that don't
-/// end before it vanish. The list of patches is walked twice, and of the source the bytes between the last earlier patch and this one.
+/// Puts a patch: a block, which is copied, in place of the statements of a program from the number `first` to the one to which a path
+/// leads. Patches that don't end before it vanish. The list of patches is walked twice, and of the source the bytes between the last earlier
+/// patch and this one. Only want of memory is an error.
 pub fn put_patch(
     alloc: Global,
     source: &[u8],
@@ -245,8 +266,10 @@ pub fn put_patch(
     first: u64,
     block: &[Stmt],
 ) -> Result<(), NoMemory>
-    ensures { OnOk result (patches.new ≡ specs.put_patch source.now path.now first (statements block.now) (plain_program program.now) patches.old) }
+    ensures { OnOk result (
+        specs.plain_patches patches.new
+        ≡ specs.put_patch source.now path.now first (statements block.now) (plain_program program.now) (specs.plain_patches patches.old)) }
 {
     let (from, to) = stretch_at(alloc, patches.as_slice(), program, path, first)?;
-    put_from(alloc, source, patches, from, to, block)
+    put_from(alloc, source, patches, from, to, path, first, block)
 }

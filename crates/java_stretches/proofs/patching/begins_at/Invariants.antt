@@ -1,7 +1,7 @@
 use Rattle.std.proofs.Common.{◌≡◌, drop}
-use Rattle.rewrite_core.specs.Patches as specs
-use Rattle.rewrite_core.proofs.patching.begins_at.Given as goal
+use Rattle.java_stretches.specs.Patches as specs
+use Rattle.java_stretches.proofs.patching.begins_at.Given as goal
 
 -- no patch so far has the byte
 abbrev pub invariant-loop-p : goal.invariant-loop-p
-invariant-loop-p l = specs.begins_at l.patches l.start ≡ specs.begins_at (drop l.p-index l.patches) l.start
+invariant-loop-p l = specs.begins_at (specs.plain_patches l.patches) l.start ≡ specs.begins_at (specs.plain_patches (drop l.p-index l.patches)) l.start

@@ -1,8 +1,8 @@
 use Rattle.std.proofs.Common.{rules, ◌≡◌, take, false, true, sym, ap, ◌∙◌, subst}
 use Rattle.std.specs.Str.{IsUtf8}
-use Rattle.rewrite_core.specs.Patches as specs
-use Rattle.rewrite_core.proofs.PatchesMade.{blanks_are_text}
-use Rattle.rewrite_core.proofs.patching.blanks_of.Goals as goal
+use Rattle.java_stretches.specs.Patches as specs
+use Rattle.java_stretches.proofs.PatchesMade.{blanks_are_text}
+use Rattle.java_stretches.proofs.patching.blanks_of.Goals as goal
 
 pub unreachable-requires : goal.unreachable-requires
 unreachable-requires c =

@@ -1,8 +1,8 @@
 use Rattle.std.proofs.Common.{◌≡◌, ◌-◌, ◌++◌, ℕ, List, length, take, sym, ap, ◌∙◌}
 use Rattle.java_ast.specs.Reading.{statements}
 use Rattle.java_text.specs.Canonical.{canonical_statements, line_end}
-use Rattle.rewrite_core.proofs.PatchesMade.{no_line_end, no_margin}
-use Rattle.rewrite_core.proofs.patching.joined_lines.Goals as goal
+use Rattle.java_stretches.proofs.PatchesMade.{no_line_end, no_margin}
+use Rattle.java_stretches.proofs.patching.joined_lines.Goals as goal
 
 pub returns-in_default : goal.returns-in_default
 returns-in_default c =

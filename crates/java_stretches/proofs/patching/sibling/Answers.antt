@@ -1,6 +1,6 @@
 use Rattle.std.proofs.Common.{rules, ◌≡◌, sym, ◌∙◌}
-use Rattle.rewrite_core.proofs.PatchesMade.{sibling_is}
-use Rattle.rewrite_core.proofs.patching.sibling.Goals as goal
+use Rattle.java_stretches.proofs.PatchesMade.{sibling_is}
+use Rattle.java_stretches.proofs.patching.sibling.Goals as goal
 
 pub returns-in_ok-push-in-Some : goal.returns-in_ok-push-in-Some
 returns-in_ok-push-in-Some c =
