@@ -16,7 +16,8 @@ use Rattle.java_loops.specs.Kernel.Setting.{Setting}
 use Rattle.rewrite_core.specs.declared.outcome.Outcome.{Outcome}
 use Rattle.verdicts.specs.declared.verdict.LoopVerdict.{LoopVerdict}
 use Rattle.rewrite_core.specs.Outcome.{try_with, IsOutcomeOf, program_with, entries_with, standing_with, patches_with, BeginsBefore}
-use Rattle.rewrite_core.specs.declared.patch.Patch.{Patch}
+use Rattle.java_stretches.specs.declared.patch.Patch.{Patch}
+use Rattle.java_stretches.specs.Patches.{PlainPatch, plain_patches}
 use Rattle.rewrite_core.specs.declared.progress.AllTried.{AllTried}
 use Rattle.rewrite_core.specs.declared.progress.Report.{Report}
 use Rattle.rewrite_core.specs.Progress.{Progress, progress_in, starts_at, ends_with, Leads}
@@ -71,7 +72,7 @@ standing_through : (n : ℕ) (ts us : List Tried) → standing_left n (ts ++ us)
 standing_through n [] us = refl
 standing_through n (t ∷ ts) us = standing_through (standing_after n t.answer) ts us
 
-patched_through : (source : List ℕ) (ps : List Patch) (ts us : List Tried) → patches_left source ps (ts ++ us) ≡ patches_left source (patches_left source ps ts) us
+patched_through : (source : List ℕ) (ps : List PlainPatch) (ts us : List Tried) → patches_left source ps (ts ++ us) ≡ patches_left source (patches_left source ps ts) us
 patched_through source ps [] us = refl
 patched_through source ps (t ∷ ts) us = patched_through source (patches_by source t t.answer ps) ts us
 
@@ -116,7 +117,7 @@ module _ (D K : Fragment → List ℕ → Type 0) (size : ℕ) (source : List �
           counted = pruned_joined ts us h.pruned k.pruned h.counted k.counted;
           dropped = (let one : t.dropped ≡ s.dropped + h.pruned = h.dropped in let two : u.dropped ≡ t.dropped + k.pruned = k.dropped in omega arith);
           asked = all_asked schema ts us h.asked k.asked;
-          patches = k.patches ∙ ap (λ (ps : List Patch). patches_left source ps us) h.patches ∙ sym (patched_through source s.patches ts us);
+          patches = k.patches ∙ ap (λ (ps : List PlainPatch). patches_left source ps us) h.patches ∙ sym (patched_through source s.patches ts us);
         }
 
     -- some of so many tries, and then the others
@@ -225,7 +226,7 @@ pub pass_leads : (D K : Fragment → List ℕ → Type 0) (schema : Schema) (siz
     → OnOk r (after.verdicts ≡ before.verdicts ++ o.verdict ∷ [])
     → OnOk r (entries_of after.bundle ≡ entries_of before.bundle ++ entries_with o.verdict.at o.way)
     → OnOk r (after.dropped ≡ before.dropped + o.dropped)
-    → OnOk r ((q : List ℕ) → next_of v ≡ Some q → after.patches ≡ patches_with source o.way q (plain_program v.typed.program) before.patches)
+    → OnOk r ((q : List ℕ) → next_of v ≡ Some q → plain_patches after.patches ≡ patches_with source o.way q (plain_program v.typed.program) (plain_patches before.patches))
     → IfOk r (λ x. Leads D K schema size source (trying 1 schema size budget (plain_program v.typed.program) v.standing) (progress_in v before) (progress_in (u x) after))
 pass_leads D K schema size budget source (Ok x) u d v before after path o same there listed outcome program standing verdicts entries dropped patches =
     let k : HasOutcome D K schema size budget v path o = subst (λ (s : Stage). HasOutcome D K schema size budget s path o) same outcome in
@@ -240,17 +241,17 @@ pass_typed D K schema size budget source (Err e) u v before after typed h = tt
 
 -- ---- From the first loop on
 
-abbrev made : PlainProgram → ℕ → List LoopVerdict → List Entry → ℕ → List Patch → Progress
+abbrev made : PlainProgram → ℕ → List LoopVerdict → List Entry → ℕ → List PlainPatch → Progress
 made p n vs es d ps = record { program = p; standing = n; verdicts = vs; entries = es; dropped = d; patches = ps }
 
 pub at_start : (p : PlainProgram) (s : Stage) (r : Report) → plain_program s.typed.program ≡ p → s.standing ≡ 0 → (r.verdicts ≡ []) × (r.bundle ≡ []) × (r.dropped ≡ 0) × (r.patches ≡ []) → progress_in s r ≡ starts_at p
 at_start p s r program standing none =
-    ap (λ (q : PlainProgram). made q s.standing r.verdicts (entries_of r.bundle) r.dropped r.patches) program
-    ∙ ap (λ (n : ℕ). made p n r.verdicts (entries_of r.bundle) r.dropped r.patches) standing
-    ∙ ap (λ (vs : List LoopVerdict). made p 0 vs (entries_of r.bundle) r.dropped r.patches) none.0
-    ∙ ap (λ (es : List BundleEntry). made p 0 [] (entries_of es) r.dropped r.patches) none.1
-    ∙ ap (λ (d : ℕ). made p 0 [] [] d r.patches) none.2
-    ∙ ap (λ (ps : List Patch). made p 0 [] [] 0 ps) none.3
+    ap (λ (q : PlainProgram). made q s.standing r.verdicts (entries_of r.bundle) r.dropped (plain_patches r.patches)) program
+    ∙ ap (λ (n : ℕ). made p n r.verdicts (entries_of r.bundle) r.dropped (plain_patches r.patches)) standing
+    ∙ ap (λ (vs : List LoopVerdict). made p 0 vs (entries_of r.bundle) r.dropped (plain_patches r.patches)) none.0
+    ∙ ap (λ (es : List BundleEntry). made p 0 [] (entries_of es) r.dropped (plain_patches r.patches)) none.1
+    ∙ ap (λ (d : ℕ). made p 0 [] [] d (plain_patches r.patches)) none.2
+    ∙ ap (λ (ps : List Patch). made p 0 [] [] 0 (plain_patches ps)) none.3
 
 pub all_lead : (D K : Fragment → List ℕ → Type 0) (schema : Schema) (size budget : ℕ) (source : List ℕ) (p : PlainProgram) (s t : Progress) (left n : ℕ) (r : AllTried) → s ≡ starts_at p → left ≡ length (loops_of p)
     → Leads D K schema size source (trying left schema size budget s.program s.standing) s t → ends_with r n ≡ t

@@ -37,10 +37,10 @@ pub mod NoReturns
 pub mod NumbersStay
 pub mod Outer
 pub mod PatchedTexts
-pub mod PatchesMade
 pub mod PlacesInOrder
 pub mod PrunedTries
 pub mod Pushed
+pub mod PutInOrder
 pub mod ShownLoops
 pub mod SomeAsked
 pub mod SourceFits

@@ -6,6 +6,7 @@ use Rattle.tor_axioms.specs.declared.derivation.Derivation.{Derivation}
 use Rattle.tor_axioms.specs.Accepts.{Proof}
 use Rattle.kernel_lang.specs.Plain.{Fragment}
 use Rattle.kernel_lang.specs.Whole.{fragment_of}
+use Rattle.query_search.specs.Asking.{OfCandidate}
 use Rattle.query_search.specs.Counted.{AreCounted, OneIs}
 use Rattle.query_search.specs.Firsts.{IsVerdict}
 use Rattle.query_search.specs.declared.found.Found.{Found as CodeFound}
@@ -29,15 +30,15 @@ use Rattle.fragments.specs.declared.lowering.lowered.Lowered.{Lowered}
 use Rattle.fragments.specs.Lowers.{lowering_in_code}
 use Rattle.rewrite_core.specs.declared.outcome.GivesWay.{GivesWay}
 use Rattle.rewrite_core.specs.declared.outcome.Outcome.{Outcome}
-use Rattle.rewrite_core.specs.declared.patch.Patch.{Patch}
+use Rattle.java_stretches.specs.Patches.{PlainPatch, put_patch}
 use Rattle.verdicts.specs.declared.verdict.Said.{Said}
 use Rattle.verdicts.specs.declared.verdict.Said.TheVariants as says
 use Rattle.verdicts.specs.declared.verdict.LoopVerdict.{LoopVerdict}
 use Rattle.rewrite_core.specs.Asked.{number_of, first_of_run}
 use Rattle.rewrite_core.specs.Asking.{HasAsks, MayBeAsked}
 use Rattle.rewrite_core.specs.Outcome.{try_with, IsOutcomeOf, program_with, entries_with, standing_with, patches_with, BeginsBefore}
-use Rattle.rewrite_core.specs.Patches.{instead, put_patch, patches_by}
-use Rattle.rewrite_core.specs.Pruned.{OfNumber, IsPrunedBy}
+use Rattle.rewrite_core.specs.Patches.{instead, patches_by}
+use Rattle.rewrite_core.specs.Pruned.{IsPrunedBy}
 use Rattle.rewrite_core.specs.Rewriting.{said_by, verdict_of, entry_by, entry_for}
 use Rattle.rewrite_core.specs.TriedAsking.{MayBeAskedBy}
 use Rattle.rewrite_core.specs.Trying.{Answer, Outside, Searched, answer_unless, Tried, program_after, standing_after}
@@ -65,7 +66,7 @@ record Stays (schema : Schema) (t : Tried) : Type 0 where
   entry : entry_for t ≡ []
   standing : (n : ℕ) → standing_after n t.answer ≡ suc n
   asked : MayBeAskedBy schema t t.answer
-  patches : (source : List ℕ) (ps : List Patch) → patches_by source t t.answer ps ≡ ps
+  patches : (source : List ℕ) (ps : List PlainPatch) → patches_by source t t.answer ps ≡ ps
 
 module _ (D K : Fragment → List ℕ → Type 0) (schema : Schema) (size budget : ℕ) (p : PlainProgram) (path : List ℕ) (w : Setting) where
   abbrev answered : Answer → Tried
@@ -157,7 +158,7 @@ module _ (D K : Fragment → List ℕ → Type 0) (schema : Schema) (read : List
   pub searched_there : v ≡ verdict (lowering k.setting).fragment size budget
   searched_there = exact ∙ ap (λ (f : Fragment). verdict f size budget) (sym fragment_is)
 
-  pub counted_there : (n : ℕ) → AreCounted (OfNumber (fragment_of l.frag) size (D (fragment_of l.frag))) (OfNumber (fragment_of l.frag) size (K (fragment_of l.frag))) 0 (before (verdict (fragment_of l.frag) size budget)) n
+  pub counted_there : (n : ℕ) → AreCounted (OfCandidate (fragment_of l.frag) size (D (fragment_of l.frag))) (OfCandidate (fragment_of l.frag) size (K (fragment_of l.frag))) 0 (before (verdict (fragment_of l.frag) size budget)) n
       → IsPrunedBy D K size (Searched (lowering k.setting).fragment v) n
   counted_there n h =
       subst (λ (f : Fragment). IsPrunedBy D K size (Searched f v) n) (sym fragment_is)
@@ -188,7 +189,7 @@ module _ (D K : Fragment → List ℕ → Type 0) (schema : Schema) (size budget
       (k.0, k.1, outside_outcome D K schema size budget p path k.0 at (place k.0 k.1) o b k.2 said none stands)
 
   module _ (l : Lowered) (k : IsLowered schema (read_by schema) p path (lowering_in_code l) l.first l.kept) (at : Span) (place : at ≡ place_of k.setting.fragment.loop) (r : CodeFound) (exact : verdict_in r ≡ verdict (fragment_of l.frag) size budget)
-      (counts : AreCounted (OfNumber (fragment_of l.frag) size (D (fragment_of l.frag))) (OfNumber (fragment_of l.frag) size (K (fragment_of l.frag))) 0 (before (verdict (fragment_of l.frag) size budget)) (dropped_in r)) where
+      (counts : AreCounted (OfCandidate (fragment_of l.frag) size (D (fragment_of l.frag))) (OfCandidate (fragment_of l.frag) size (K (fragment_of l.frag))) 0 (before (verdict (fragment_of l.frag) size budget)) (dropped_in r)) where
     searches : verdict_in r ≡ verdict (lowering k.setting).fragment size budget
     searches = searched_there D K schema (read_by schema) p path l k size budget (verdict_in r) exact
 

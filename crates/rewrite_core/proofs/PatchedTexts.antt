@@ -14,7 +14,9 @@ use Rattle.java_ast.specs.Spans.{place_of}
 use Rattle.java_ast.specs.Tree.{Statement, Statements, Nothing, Then, PlainProgram}
 use Rattle.java_grammar.specs.Grammar.{IsProgram}
 use Rattle.java_grammar.specs.ReadBack.{IsReadBack}
-use Rattle.java_stretches.specs.Lines.{IsMargin, CanStandFor}
+use Rattle.java_stretches.specs.Lines.{IsMargin, joined_lines, CanStandFor}
+use Rattle.java_stretches.specs.Patches.{PlainPatch, stretch, is_broken, last_line, blanks_of, earlier, begins_at, patched, margin_by, margin_at, with_patches, patch_of, start_of, end_of, put_patch}
+use Rattle.java_stretches.specs.Patches as patches
 use Rattle.java_stretches.proofs.Kept.{readable}
 use Rattle.java_stretches.proofs.Margins.{margin_of, joined_stands}
 use Rattle.java_mean.specs.Queries.{Reader}
@@ -37,12 +39,10 @@ use Rattle.java_stretches.proofs.Carried.{carried, read_back, one_more, RunStand
 use Rattle.java_stretches.proofs.Runs.{run_begins, chain_joined, chain_kept, simple_joined, simple_kept, are_lines}
 use Rattle.java_stretches.proofs.Steps.{begun_before}
 use Rattle.loop_lists.proofs.LoopSites.{Site, site, sites_of}
-use Rattle.rewrite_core.specs.declared.patch.Patch.{Patch}
 use Rattle.rewrite_core.specs.Asked.{Place, asks_of, number_of, first_of_run, replaced}
 use Rattle.rewrite_core.specs.Asking.{HasAsks}
 use Rattle.rewrite_core.specs.Output.{IsSourceOf}
-use Rattle.rewrite_core.specs.Patches.{stretch, is_broken, last_line, blanks_of, earlier, begins_at, patched, margin_by, margin_at, with_patches, joined_lines, patch_of, start_of, end_of, put_patch, instead, patches_by, patches_left, patched_text}
-use Rattle.rewrite_core.specs.Patches as patches
+use Rattle.rewrite_core.specs.Patches.{instead, patches_by, patches_left, patched_text}
 use Rattle.rewrite_core.specs.Trying.{Answer, Outside, Searched, answer_unless, Tried, tried_in, tried_at, program_by, program_after, standing_after, and_further, trying, left_of, rewritten, all_tried}
 use Rattle.rewrite_core.specs.TriedAsking.{MayBeAskedBy, AllMayBeAsked}
 use Rattle.rewrite_core.proofs.HasAsks.{has_asks}
@@ -55,56 +55,56 @@ use Rattle.rewrite_core.proofs.Untried.{site_there}
 use Rattle.rewrite_core.proofs.Writable.Asks.{instead_fine, replaced_fine}
 use Rattle.rewrite_core.proofs.Writable.Replaced.{IsFineProgram, AreFineStatements}
 
--- ---- Patches without their margins
+-- ---- Patches without margins and statements
 
-abbrev plain_patch : Patch → Patched
-plain_patch p = record { from = p.from; to = p.to; text = p.text }
+abbrev bare_patch : PlainPatch → Patched
+bare_patch p = record { from = p.from; to = p.to; text = p.text }
 
-abbrev plain_patches : List Patch → List Patched
-plain_patches ps = map plain_patch ps
+abbrev bare_patches : List PlainPatch → List Patched
+bare_patches ps = map bare_patch ps
 
-texts_are : (source : List ℕ) (at : ℕ) (ps : List Patch) → with_patches source at ps ≡ with_texts source at (plain_patches ps)
+texts_are : (source : List ℕ) (at : ℕ) (ps : List PlainPatch) → with_patches source at ps ≡ with_texts source at (bare_patches ps)
 texts_are source at [] = refl
 texts_are source at (p ∷ ps) = ap (λ (bs : List ℕ). stretch source at p.from ++ (p.text ++ bs)) (texts_are source p.to ps)
 
-begun_same : (ps : List Patch) (s : ℕ) → begun_at (plain_patches ps) s ≡ begins_at ps s
+begun_same : (ps : List PlainPatch) (s : ℕ) → begun_at (bare_patches ps) s ≡ begins_at ps s
 begun_same [] s = refl
 begun_same (p ∷ ps) s = ap (λ (k : ℕ). cond (nat_le p.from s && nat_lt s p.to) p.from k) (begun_same ps s)
 
-earlier_step : (v : Bool) (p : Patch) (xs : List Patched) (ps : List Patch) → xs ≡ plain_patches ps → cond v (plain_patch p ∷ xs) xs ≡ plain_patches (cond v (p ∷ ps) ps)
-earlier_step true p xs ps e = ap (λ (ys : List Patched). plain_patch p ∷ ys) e
+earlier_step : (v : Bool) (p : PlainPatch) (xs : List Patched) (ps : List PlainPatch) → xs ≡ bare_patches ps → cond v (bare_patch p ∷ xs) xs ≡ bare_patches (cond v (p ∷ ps) ps)
+earlier_step true p xs ps e = ap (λ (ys : List Patched). bare_patch p ∷ ys) e
 earlier_step false p xs ps e = e
 
-earlier_same : (c : ℕ) (ps : List Patch) → ended_before c (plain_patches ps) ≡ plain_patches (earlier c ps)
+earlier_same : (c : ℕ) (ps : List PlainPatch) → ended_before c (bare_patches ps) ≡ bare_patches (earlier c ps)
 earlier_same c [] = refl
-earlier_same c (p ∷ ps) = earlier_step (nat_le p.to c) p (ended_before c (plain_patches ps)) (earlier c ps) (earlier_same c ps)
+earlier_same c (p ∷ ps) = earlier_step (nat_le p.to c) p (ended_before c (bare_patches ps)) (earlier c ps) (earlier_same c ps)
 
 -- with one more
-patched_plain : (source : List ℕ) (ps : List Patch) (from to : ℕ) (block : Statements)
-    → plain_patches (patched ps (patch_of source ps from to block)) ≡ ended_before from (plain_patches ps) ++ (record { from = from; to = to; text = joined_lines (margin_at source ps from) block } ∷ [])
-patched_plain source ps from to block =
-    map-append plain_patch (earlier from ps) (patch_of source ps from to block ∷ [])
+patched_plain : (source : List ℕ) (ps : List PlainPatch) (from to : ℕ) (path : List ℕ) (first : ℕ) (block : Statements)
+    → bare_patches (patched ps (patch_of source ps from to path first block)) ≡ ended_before from (bare_patches ps) ++ (record { from = from; to = to; text = joined_lines (margin_at source ps from) block } ∷ [])
+patched_plain source ps from to path first block =
+    map-append bare_patch (earlier from ps) (patch_of source ps from to path first block ∷ [])
     ∙ ap (λ (xs : List Patched). xs ++ (record { from = from; to = to; text = joined_lines (margin_at source ps from) block } ∷ [])) (sym (earlier_same from ps))
 
 -- ---- Margins
 
-abbrev HasMargin : Patch → Type 0
+abbrev HasMargin : PlainPatch → Type 0
 HasMargin p = IsMargin p.margin
 
-kept_step : (P : Patch → Type 0) (v : Bool) (p : Patch) (ps : List Patch) → P p → AllByRecursion P ps → AllByRecursion P (cond v (p ∷ ps) ps)
+kept_step : (P : PlainPatch → Type 0) (v : Bool) (p : PlainPatch) (ps : List PlainPatch) → P p → AllByRecursion P ps → AllByRecursion P (cond v (p ∷ ps) ps)
 kept_step P true p ps h k = (h, k)
 kept_step P false p ps h k = k
 
-all_earlier : (P : Patch → Type 0) (c : ℕ) (ps : List Patch) → AllByRecursion P ps → AllByRecursion P (earlier c ps)
+all_earlier : (P : PlainPatch → Type 0) (c : ℕ) (ps : List PlainPatch) → AllByRecursion P ps → AllByRecursion P (earlier c ps)
 all_earlier P c [] h = tt
 all_earlier P c (p ∷ ps) h = kept_step P (nat_le p.to c) p (earlier c ps) h.0 (all_earlier P c ps h.1)
 
-last_is : (ps : List Patch) (p : Patch) → AllByRecursion HasMargin ps → patches.last_of ps ≡ Some p → IsMargin p.margin
+last_is : (ps : List PlainPatch) (p : PlainPatch) → AllByRecursion HasMargin ps → patches.last_of ps ≡ Some p → IsMargin p.margin
 last_is [] p h e = absurd cc
 last_is (q ∷ []) p h e = let is : q ≡ p = cc in subst HasMargin is h.0
 last_is (q ∷ r ∷ ps) p h e = last_is (r ∷ ps) p h.1 e
 
-margin_there : (source : List ℕ) (last : Option Patch) (from : ℕ) → ((p : Patch) → last ≡ Some p → IsMargin p.margin) → IsMargin (margin_by source last from)
+margin_there : (source : List ℕ) (last : Option PlainPatch) (from : ℕ) → ((p : PlainPatch) → last ≡ Some p → IsMargin p.margin) → IsMargin (margin_by source last from)
 margin_there source None from h = margin_of (last_line (take from source))
 margin_there source (Some p) from h = by (is_broken (stretch source p.to from))
   where
@@ -112,18 +112,18 @@ margin_there source (Some p) from h = by (is_broken (stretch source p.to from))
     by true = margin_of (last_line (stretch source p.to from))
     by false = h p refl
 
-margin_is : (source : List ℕ) (ps : List Patch) (from : ℕ) → AllByRecursion HasMargin ps → IsMargin (margin_at source ps from)
+margin_is : (source : List ℕ) (ps : List PlainPatch) (from : ℕ) → AllByRecursion HasMargin ps → IsMargin (margin_at source ps from)
 margin_is source ps from h = margin_there source (patches.last_of (earlier from ps)) from (λ p e. last_is (earlier from ps) p (all_earlier HasMargin from ps h) e)
 
 -- ---- How far the tries have come
 
 -- The source carries the program. All patches begin no later than the last loop that gave way, and all loops from the number n on no earlier.
-record Stands (source : List ℕ) (p : PlainProgram) (n : ℕ) (ps : List Patch) : Type 0 where
-  carries : Carries source (plain_patches ps) p
+record Stands (source : List ℕ) (p : PlainProgram) (n : ℕ) (ps : List PlainPatch) : Type 0 where
+  carries : Carries source (bare_patches ps) p
   margins : AllByRecursion HasMargin ps
   fine : IsFineProgram p
   last : ℕ
-  behind : AllByRecursion (λ (x : Patch). x.from ≤ last) ps
+  behind : AllByRecursion (λ (x : PlainPatch). x.from ≤ last) ps
   ahead : AllFrom last (drop n (places_of p))
 
 simple_places : (ss : Statements) → are_simple ss ≡ true → places_among ss ≡ []
@@ -132,11 +132,11 @@ simple_places (Then s ss) h =
     let two = and_parts (is_simple s) (are_simple ss) h in
     ap (λ xs. xs ++ places_among ss) (no_loops s (no_branches s two.0)) ∙ simple_places ss two.1
 
-all_ended : (last to : ℕ) (ps : List Patch) → last < to → AllByRecursion (λ (x : Patch). x.from ≤ last) ps → AllByRecursion (λ (x : Patched). x.from < to) (plain_patches ps)
+all_ended : (last to : ℕ) (ps : List PlainPatch) → last < to → AllByRecursion (λ (x : PlainPatch). x.from ≤ last) ps → AllByRecursion (λ (x : Patched). x.from < to) (bare_patches ps)
 all_ended last to [] less h = tt
 all_ended last to (p ∷ ps) less h = (omega (arith, less, h.0), all_ended last to ps less h.1)
 
-all_no_later : (last next : ℕ) (ps : List Patch) → last ≤ next → AllByRecursion (λ (x : Patch). x.from ≤ last) ps → AllByRecursion (λ (x : Patch). x.from ≤ next) ps
+all_no_later : (last next : ℕ) (ps : List PlainPatch) → last ≤ next → AllByRecursion (λ (x : PlainPatch). x.from ≤ last) ps → AllByRecursion (λ (x : PlainPatch). x.from ≤ next) ps
 all_no_later last next [] less h = tt
 all_no_later last next (p ∷ ps) less h = (omega (arith, less, h.0), all_no_later last next ps less h.1)
 
@@ -146,7 +146,7 @@ first_ask (Then s ss) k ks = (s, and_then ss (asked (k ∷ ks)), refl)
 
 -- ---- A loop gives way
 
-module _ (schema : Schema) (source : List ℕ) (l : Place) (n : ℕ) (ps : List Patch) (h : Stands source l.program n ps) (has : HasAsks schema (read_by schema) l.program l.path l.setting l.candidate) (number : slice_get (loops_of l.program) n ≡ Some l.path) where
+module _ (schema : Schema) (source : List ℕ) (l : Place) (n : ℕ) (ps : List PlainPatch) (h : Stands source l.program n ps) (has : HasAsks schema (read_by schema) l.program l.path l.setting l.candidate) (number : slice_get (loops_of l.program) n ≡ Some l.path) where
   abbrev reader : Reader schema
   reader = record { read = read_by schema; exact = found_exactly schema }
 
@@ -174,7 +174,7 @@ module _ (schema : Schema) (source : List ℕ) (l : Place) (n : ℕ) (ps : List 
   less = run_begins l.path l.program l.setting.fragment (first_of_run l) leads begins asks.run
 
   run : RunStands l.program l.path l.setting.fragment (first_of_run l)
-  run = run_stands source (plain_patches ps) l.program h.carries l.path l.setting.fragment (first_of_run l) leads begins less
+  run = run_stands source (bare_patches ps) l.program h.carries l.path l.setting.fragment (first_of_run l) leads begins less
 
   simple : are_simple (instead l) ≡ true
   simple = simple_joined kept (asked (asks_of l)) (simple_kept _ (first_of_run l) l.setting.fragment.run stands.simple) (all_asked_simple (asks_of l))
@@ -213,16 +213,16 @@ module _ (schema : Schema) (source : List ℕ) (l : Place) (n : ℕ) (ps : List 
   from = begins_at ps (place_of run.one).start
 
   begins_before : begins_at ps (place_of run.one).start ≤ (place_of l.setting.fragment.loop).start
-  begins_before = omega (arith, sym (begun_same ps (place_of run.one).start), begun_before (plain_patches ps) (place_of run.one).start, run.before)
+  begins_before = omega (arith, sym (begun_same ps (place_of run.one).start), begun_before (bare_patches ps) (place_of run.one).start, run.before)
 
   abbrev text : List ℕ
   text = joined_lines (margin_at source ps (begins_at ps (place_of run.one).start)) (instead l)
 
-  more : Carries source (plain_patches (patched ps (patch_of source ps (begins_at ps (place_of run.one).start) (place_of l.setting.fragment.loop).end (instead l)))) (replaced l)
+  more : Carries source (bare_patches (patched ps (patch_of source ps (begins_at ps (place_of run.one).start) (place_of l.setting.fragment.loop).end l.path (first_of_run l) (instead l)))) (replaced l)
   more =
-      subst (λ (xs : List Patched). Carries source xs (replaced l)) (sym (patched_plain source ps (begins_at ps (place_of run.one).start) (place_of l.setting.fragment.loop).end (instead l)))
-      (subst (λ (k : ℕ). Carries source (ended_before k (plain_patches ps) ++ (record { from = k; to = (place_of l.setting.fragment.loop).end; text = text } ∷ [])) (replaced l)) (begun_same ps (place_of run.one).start)
-      (one_more source (plain_patches ps) l.program h.carries l.path l.setting.fragment (first_of_run l) leads begins less run.one run.to_one (instead l) come text
+      subst (λ (xs : List Patched). Carries source xs (replaced l)) (sym (patched_plain source ps (begins_at ps (place_of run.one).start) (place_of l.setting.fragment.loop).end l.path (first_of_run l) (instead l)))
+      (subst (λ (k : ℕ). Carries source (ended_before k (bare_patches ps) ++ (record { from = k; to = (place_of l.setting.fragment.loop).end; text = text } ∷ [])) (replaced l)) (begun_same ps (place_of run.one).start)
+      (one_more source (bare_patches ps) l.program h.carries l.path l.setting.fragment (first_of_run l) leads begins less run.one run.to_one (instead l) come text
       (text_stands (margin_at source ps (begins_at ps (place_of run.one).start)) (margin_is source ps (begins_at ps (place_of run.one).start) h.margins))
       (all_ended h.last (place_of l.setting.fragment.loop).end ps (omega (arith, no_earlier, run.grows)) h.behind)))
 
@@ -232,42 +232,42 @@ module _ (schema : Schema) (source : List ℕ) (l : Place) (n : ℕ) (ps : List 
       (stretch_out (instead l) (simple_places (instead l) simple) l.path (first_of_run l) l.program (omega (arith, less)))
       (from_one 0 n (places_of l.program) (place_of l.setting.fragment.loop) (methods_ascend 0 h.carries.program.methods l.program.methods h.carries.fits) place)
 
-  gave_way : Stands source (replaced l) n (patched ps (patch_of source ps (begins_at ps (place_of run.one).start) (place_of l.setting.fragment.loop).end (instead l)))
+  gave_way : Stands source (replaced l) n (patched ps (patch_of source ps (begins_at ps (place_of run.one).start) (place_of l.setting.fragment.loop).end l.path (first_of_run l) (instead l)))
   gave_way = record {
     carries = more;
-    margins = all_joined HasMargin (earlier (begins_at ps (place_of run.one).start) ps) (patch_of source ps (begins_at ps (place_of run.one).start) (place_of l.setting.fragment.loop).end (instead l) ∷ []) (all_earlier HasMargin (begins_at ps (place_of run.one).start) ps h.margins) (margin_is source ps (begins_at ps (place_of run.one).start) h.margins, tt);
+    margins = all_joined HasMargin (earlier (begins_at ps (place_of run.one).start) ps) (patch_of source ps (begins_at ps (place_of run.one).start) (place_of l.setting.fragment.loop).end l.path (first_of_run l) (instead l) ∷ []) (all_earlier HasMargin (begins_at ps (place_of run.one).start) ps h.margins) (margin_is source ps (begins_at ps (place_of run.one).start) h.margins, tt);
     fine = replaced_fine schema reader l has h.fine;
     last = (place_of l.setting.fragment.loop).start;
     behind =
-        all_joined (λ (x : Patch). x.from ≤ (place_of l.setting.fragment.loop).start) (earlier (begins_at ps (place_of run.one).start) ps) (patch_of source ps (begins_at ps (place_of run.one).start) (place_of l.setting.fragment.loop).end (instead l) ∷ [])
-        (all_earlier (λ (x : Patch). x.from ≤ (place_of l.setting.fragment.loop).start) (begins_at ps (place_of run.one).start) ps (all_no_later h.last (place_of l.setting.fragment.loop).start ps no_earlier h.behind)) (begins_before, tt);
+        all_joined (λ (x : PlainPatch). x.from ≤ (place_of l.setting.fragment.loop).start) (earlier (begins_at ps (place_of run.one).start) ps) (patch_of source ps (begins_at ps (place_of run.one).start) (place_of l.setting.fragment.loop).end l.path (first_of_run l) (instead l) ∷ [])
+        (all_earlier (λ (x : PlainPatch). x.from ≤ (place_of l.setting.fragment.loop).start) (begins_at ps (place_of run.one).start) ps (all_no_later h.last (place_of l.setting.fragment.loop).start ps no_earlier h.behind)) (begins_before, tt);
     ahead = ahead;
   }
 
   -- with the patch as it is put
   gives_way : Stands source (replaced l) n (put_patch source l.path (first_of_run l) (instead l) l.program ps)
   gives_way =
-      subst (λ (o : Option Statement). Stands source (replaced l) n (patched ps (patch_of source ps (begins_at ps (start_of o)) (end_of (statement_at l.path l.program)) (instead l)))) (sym run.to_one)
-      (subst (λ (o : Option Statement). Stands source (replaced l) n (patched ps (patch_of source ps (begins_at ps (place_of run.one).start) (end_of o) (instead l)))) (sym stands.there) gave_way)
+      subst (λ (o : Option Statement). Stands source (replaced l) n (patched ps (patch_of source ps (begins_at ps (start_of o)) (end_of (statement_at l.path l.program)) l.path (first_of_run l) (instead l)))) (sym run.to_one)
+      (subst (λ (o : Option Statement). Stands source (replaced l) n (patched ps (patch_of source ps (begins_at ps (place_of run.one).start) (end_of o) l.path (first_of_run l) (instead l)))) (sym stands.there) gave_way)
 
 -- ---- All tries
 
 module _ (schema : Schema) (source : List ℕ) where
-  passes : (p : PlainProgram) (n : ℕ) (ps : List Patch) → Stands source p n ps → Stands source p (suc n) ps
+  passes : (p : PlainProgram) (n : ℕ) (ps : List PlainPatch) → Stands source p n ps → Stands source p (suc n) ps
   passes p n ps h = record { carries = h.carries; margins = h.margins; fine = h.fine; last = h.last; behind = h.behind; ahead = one_less h.last n (places_of p) h.ahead }
 
-  one_try : (t : Tried) (a : Answer) (n : ℕ) (ps : List Patch) → slice_get (loops_of t.program) n ≡ Some t.path → MayBeAskedBy schema t a → Stands source t.program n ps → Stands source (program_by t a) (standing_after n a) (patches_by source t a ps)
+  one_try : (t : Tried) (a : Answer) (n : ℕ) (ps : List PlainPatch) → slice_get (loops_of t.program) n ≡ Some t.path → MayBeAskedBy schema t a → Stands source t.program n ps → Stands source (program_by t a) (standing_after n a) (patches_by source t a ps)
   one_try t (Searched f (Found h)) n ps number may s =
       gives_way schema source (record { program = t.program; path = t.path; setting = t.setting; candidate = h.candidate }) n ps s (has_asks schema (read_by schema) t.program t.path t.setting h.candidate may) number
   one_try t (Searched f (NoneOf m)) n ps number may s = passes t.program n ps s
   one_try t (Searched f (Budget b m)) n ps number may s = passes t.program n ps s
   one_try t (Outside b) n ps number may s = passes t.program n ps s
 
-  abbrev Ends : PlainProgram → List Patch → List Tried → Type 0
-  Ends p ps ts = Carries source (plain_patches (patches_left source ps ts)) (left_of p ts)
+  abbrev Ends : PlainProgram → List PlainPatch → List Tried → Type 0
+  Ends p ps ts = Carries source (bare_patches (patches_left source ps ts)) (left_of p ts)
 
   module _ (size budget : ℕ) where
-    module _ (p : PlainProgram) (n : ℕ) (ps : List Patch) (s : Stands source p n ps) (further : PlainProgram → ℕ → List Tried) (ih : (q : PlainProgram) (m : ℕ) (qs : List Patch) → AllMayBeAsked schema (further q m) → Stands source q m qs → Ends q qs (further q m)) where
+    module _ (p : PlainProgram) (n : ℕ) (ps : List PlainPatch) (s : Stands source p n ps) (further : PlainProgram → ℕ → List Tried) (ih : (q : PlainProgram) (m : ℕ) (qs : List PlainPatch) → AllMayBeAsked schema (further q m) → Stands source q m qs → Ends q qs (further q m)) where
       abbrev tries : Option Tried → List Tried
       tries o = and_further o (λ t. further (program_after t) (standing_after n t.answer))
 
@@ -281,7 +281,7 @@ module _ (schema : Schema) (source : List ℕ) where
       by_path None e h = s.carries
       by_path (Some path) e h = by_setting path (setting_at schema (read_by schema) path p) e h
 
-    all_carried : (left : ℕ) (p : PlainProgram) (n : ℕ) (ps : List Patch) → AllMayBeAsked schema (trying left schema size budget p n) → Stands source p n ps → Ends p ps (trying left schema size budget p n)
+    all_carried : (left : ℕ) (p : PlainProgram) (n : ℕ) (ps : List PlainPatch) → AllMayBeAsked schema (trying left schema size budget p n) → Stands source p n ps → Ends p ps (trying left schema size budget p n)
     unfolding trying
     all_carried zero p n ps h s = s.carries
     all_carried (suc left) p n ps h s = by_path p n ps s (λ q m. trying left schema size budget q m) (λ q m qs k r. all_carried left q m qs k r) (slice_get (loops_of p) n) refl h
@@ -300,6 +300,6 @@ pub patched_back : (schema : Schema) (size budget : ℕ) (source : List ℕ) (p 
 patched_back schema size budget source p is may =
     let has : IsProgram is.tokens.list p = readable is.tokens.list p is.reads in
     let s : Stands source p 0 [] = record { carries = carried source is.tokens p is.lexed_as has; margins = tt; fine = source_fits source p is; last = 0; behind = tt; ahead = from_nought (places_of p) } in
-    let c : Carries source (plain_patches (patches_left source [] (all_tried schema size budget p))) (left_of p (all_tried schema size budget p)) = tried_carried schema source size budget p may s in
+    let c : Carries source (bare_patches (patches_left source [] (all_tried schema size budget p))) (left_of p (all_tried schema size budget p)) = tried_carried schema source size budget p may s in
     subst (λ (text : List ℕ). IsReadBack text (rewritten schema size budget p)) (sym (texts_are source 0 (patches_left source [] (all_tried schema size budget p))))
-    (read_back source (plain_patches (patches_left source [] (all_tried schema size budget p))) (rewritten schema size budget p) c)
+    (read_back source (bare_patches (patches_left source [] (all_tried schema size budget p))) (rewritten schema size budget p) c)

@@ -8,6 +8,7 @@ pub mod Output
 pub mod Patches
 pub mod Progress
 pub mod Pruned
+pub mod Results
 pub mod Rewriting
 pub mod Stages
 pub mod TriedAsking

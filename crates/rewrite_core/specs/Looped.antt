@@ -19,6 +19,8 @@ use Rattle.sql_parts.specs.Numbered.{Emission, emitted}
 use Rattle.sql_parts.specs.Scopes.{def_of, table_name}
 use Rattle.java_ast.specs.Path.{and_then}
 use Rattle.java_ast.specs.Reading.{expression, statements, program}
+use Rattle.java_ast.specs.Spans.{place_of}
+use Rattle.java_ast.specs.Unplaced.{nowhere}
 use Rattle.java_ast.specs.Tree.{Spelled, Table, Expression, Query, QueryLong, QueryBoolean, NewSetOf, Expressions, Statement, Statements, Nothing, Then, PlainProgram}
 use Rattle.java_ast.specs.Names.{Names}
 use Rattle.loop_text.specs.Statements.Setting.{first_touching}
@@ -49,6 +51,11 @@ value_with at (updates.Best way e) S text arguments = QueryLong at text argument
 value_with at updates.Mark S text arguments = QueryBoolean at text arguments
 
 -- ---- Loops
+
+-- where a statement stands, where there is one
+abbrev pub place_or_nowhere : Option Statement → Span
+place_or_nowhere (Some s) = place_of s
+place_or_nowhere None = nowhere
 
 -- A loop of a program with a candidate: the path to it, the run before it and its place, its lowered fragment, the expressions of its
 -- entry values, and its known queries with the entry numbers of their arguments.

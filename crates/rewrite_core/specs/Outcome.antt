@@ -10,12 +10,12 @@ use Rattle.kernel_lang.specs.Plain.{Fragment}
 use Rattle.java_ast.specs.Path.{last_of, replaced_at}
 use Rattle.java_ast.specs.Reading.{statements}
 use Rattle.java_ast.specs.Tree.{PlainProgram}
+use Rattle.java_stretches.specs.Patches.{PlainPatch, put_patch}
 use Rattle.java_loops.specs.Kernel.Kernel.{broken}
 use Rattle.java_loops.specs.Kernel.Setting.{Setting}
 use Rattle.rewrite_core.specs.declared.outcome.GivesWay.{GivesWay}
 use Rattle.rewrite_core.specs.declared.outcome.Outcome.{Outcome}
-use Rattle.rewrite_core.specs.declared.patch.Patch.{Patch}
-use Rattle.rewrite_core.specs.Patches.{put_patch, patches_by}
+use Rattle.rewrite_core.specs.Patches.{patches_by}
 use Rattle.rewrite_core.specs.Pruned.{IsPrunedBy}
 use Rattle.rewrite_core.specs.Rewriting.{verdict_of, entry_for}
 use Rattle.rewrite_core.specs.TriedAsking.{MayBeAskedBy}
@@ -40,7 +40,7 @@ standing_with n None = suc n
 standing_with n (Some way) = n
 
 -- the patches of the source behind earlier ones
-abbrev pub patches_with : List ℕ → Option GivesWay → List ℕ → PlainProgram → List Patch → List Patch
+abbrev pub patches_with : List ℕ → Option GivesWay → List ℕ → PlainProgram → List PlainPatch → List PlainPatch
 patches_with source None path p ps = ps
 patches_with source (Some way) path p ps = put_patch source path way.first (statements way.others.items) p ps
 
@@ -60,4 +60,4 @@ pub record IsOutcomeOf (drops keeps : Fragment → List ℕ → Type 0) (schema 
   pub entry : entry_for t ≡ entries_with o.verdict.at o.way
   pub standing : (n : ℕ) → standing_after n t.answer ≡ standing_with n o.way
   pub begins : BeginsBefore t.path o.way
-  pub patches : (source : List ℕ) (ps : List Patch) → patches_by source t t.answer ps ≡ patches_with source o.way t.path t.program ps
+  pub patches : (source : List ℕ) (ps : List PlainPatch) → patches_by source t t.answer ps ≡ patches_with source o.way t.path t.program ps

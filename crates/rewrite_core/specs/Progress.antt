@@ -5,10 +5,10 @@ use Rattle.deriv_check.specs.Bundles.{Entry, entries_of}
 use Rattle.kernel_lang.specs.Plain.{Fragment}
 use Rattle.java_ast.specs.Reading.{program as plain_program}
 use Rattle.java_ast.specs.Tree.{PlainProgram}
+use Rattle.java_stretches.specs.Patches.{PlainPatch, plain_patches}
 use Rattle.rewrite_core.specs.declared.progress.Report.{Report}
 use Rattle.verdicts.specs.declared.verdict.LoopVerdict.{LoopVerdict}
 use Rattle.rewrite_core.specs.declared.stage.Stage.{Stage}
-use Rattle.rewrite_core.specs.declared.patch.Patch.{Patch}
 use Rattle.rewrite_core.specs.declared.progress.AllTried.{AllTried}
 use Rattle.rewrite_core.specs.Patches.{patches_left}
 use Rattle.rewrite_core.specs.Pruned.{ArePruned}
@@ -24,10 +24,10 @@ pub record Progress : Type 0 where
   pub verdicts : List LoopVerdict
   pub entries : List Entry
   pub dropped : ℕ
-  pub patches : List Patch
+  pub patches : List PlainPatch
 
 abbrev pub progress_in : Stage → Report → Progress
-progress_in s r = record { program = plain_program s.typed.program; standing = s.standing; verdicts = r.verdicts; entries = entries_of r.bundle; dropped = r.dropped; patches = r.patches }
+progress_in s r = record { program = plain_program s.typed.program; standing = s.standing; verdicts = r.verdicts; entries = entries_of r.bundle; dropped = r.dropped; patches = plain_patches r.patches }
 
 -- no loop has been tried
 abbrev pub starts_at : PlainProgram → Progress
@@ -35,7 +35,7 @@ starts_at p = record { program = p; standing = 0; verdicts = []; entries = []; d
 
 -- all loops have been tried, and so many stand
 abbrev pub ends_with : AllTried → ℕ → Progress
-ends_with r n = record { program = plain_program r.program; standing = n; verdicts = r.verdicts; entries = entries_of r.bundle; dropped = r.dropped; patches = r.patches }
+ends_with r n = record { program = plain_program r.program; standing = n; verdicts = r.verdicts; entries = entries_of r.bundle; dropped = r.dropped; patches = plain_patches r.patches }
 
 -- these tries lead from one to another: each loop that gave way may be asked for
 pub record Leads (drops keeps : Fragment → List ℕ → Type 0) (schema : Schema) (size : ℕ) (source : List ℕ) (ts : List Tried) (before after : Progress) : Type 0 where

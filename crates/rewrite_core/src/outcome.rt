@@ -20,7 +20,7 @@ ghost use Rattle.rewrite_core.specs.Outcome.{try_with, IsOutcomeOf};
 ghost use Rattle.query_search.specs.Counted.{AreCounted};
 ghost use Rattle.query_search.specs.Seen.{verdict_in, dropped_in, IsFoundOf};
 ghost use Rattle.query_search.specs.Verdicts.{verdict, before};
-ghost use Rattle.rewrite_core.specs.Pruned.{SomeDrops, EachKeeps, OfNumber};
+ghost use Rattle.query_search.specs.Asking.{SomeMayDrop, EachMayKeep, OfCandidate};
 
 use crate::replacing::{place_there, statements_instead};
 use fragments::{Lowered, lower};
@@ -112,8 +112,8 @@ fn search_plainly<F: Fn(&KFragment, &Candidate) -> PruneAnswer>(
     ensures exact { IfOk result (λ r. verdict_in r ≡ verdict (fragment_of frag.now) size budget) }
     ensures dropped { IfOk result (λ r.
         AreCounted
-        (OfNumber (fragment_of frag.now) size (SomeDrops (λ p. ⟦<Box<dyn Fn(&KFragment, &Candidate) -> PruneAnswer> as Fn(&KFragment, &Candidate) -> PruneAnswer>⟧.post p.call) pruners.now (F.post extra.now.call) (fragment_of frag.now)))
-        (OfNumber (fragment_of frag.now) size (EachKeeps (λ p. ⟦<Box<dyn Fn(&KFragment, &Candidate) -> PruneAnswer> as Fn(&KFragment, &Candidate) -> PruneAnswer>⟧.post p.call) pruners.now (F.post extra.now.call) (fragment_of frag.now)))
+        (OfCandidate (fragment_of frag.now) size (SomeMayDrop fragment_of (λ p. ⟦<Box<dyn Fn(&KFragment, &Candidate) -> PruneAnswer> as Fn(&KFragment, &Candidate) -> PruneAnswer>⟧.post p.call) pruners.now (F.post extra.now.call) (fragment_of frag.now)))
+        (OfCandidate (fragment_of frag.now) size (EachMayKeep fragment_of (λ p. ⟦<Box<dyn Fn(&KFragment, &Candidate) -> PruneAnswer> as Fn(&KFragment, &Candidate) -> PruneAnswer>⟧.post p.call) pruners.now (F.post extra.now.call) (fragment_of frag.now)))
         0 (before (verdict (fragment_of frag.now) size budget)) (dropped_in r)) }
     ensures found { IfOk result (IsFoundOf (fragment_of frag.now)) }
 {
@@ -146,8 +146,8 @@ fn try_lowered<F: Fn(&KFragment, &Candidate) -> PruneAnswer>(
         (w : Setting)
         × (setting_at schema.now (read_by schema.now) path.now (plain_program typed.now.program) ≡ Some w)
         × IsOutcomeOf
-        (SomeDrops (λ p. ⟦<Box<dyn Fn(&KFragment, &Candidate) -> PruneAnswer> as Fn(&KFragment, &Candidate) -> PruneAnswer>⟧.post p.call) pruners.now (F.post extra.now.call))
-        (EachKeeps (λ p. ⟦<Box<dyn Fn(&KFragment, &Candidate) -> PruneAnswer> as Fn(&KFragment, &Candidate) -> PruneAnswer>⟧.post p.call) pruners.now (F.post extra.now.call))
+        (SomeMayDrop fragment_of (λ p. ⟦<Box<dyn Fn(&KFragment, &Candidate) -> PruneAnswer> as Fn(&KFragment, &Candidate) -> PruneAnswer>⟧.post p.call) pruners.now (F.post extra.now.call))
+        (EachMayKeep fragment_of (λ p. ⟦<Box<dyn Fn(&KFragment, &Candidate) -> PruneAnswer> as Fn(&KFragment, &Candidate) -> PruneAnswer>⟧.post p.call) pruners.now (F.post extra.now.call))
         schema.now size (try_with size budget (plain_program typed.now.program) path.now w) o) }
 {
     let at = place_there(typed.program(), path);
@@ -190,8 +190,8 @@ pub fn try_loop<F: Fn(&KFragment, &Candidate) -> PruneAnswer>(
         (w : Setting)
         × (setting_at schema.now (read_by schema.now) path.now (plain_program typed.now.program) ≡ Some w)
         × IsOutcomeOf
-        (SomeDrops (λ p. ⟦<Box<dyn Fn(&KFragment, &Candidate) -> PruneAnswer> as Fn(&KFragment, &Candidate) -> PruneAnswer>⟧.post p.call) pruners.now (F.post extra.now.call))
-        (EachKeeps (λ p. ⟦<Box<dyn Fn(&KFragment, &Candidate) -> PruneAnswer> as Fn(&KFragment, &Candidate) -> PruneAnswer>⟧.post p.call) pruners.now (F.post extra.now.call))
+        (SomeMayDrop fragment_of (λ p. ⟦<Box<dyn Fn(&KFragment, &Candidate) -> PruneAnswer> as Fn(&KFragment, &Candidate) -> PruneAnswer>⟧.post p.call) pruners.now (F.post extra.now.call))
+        (EachMayKeep fragment_of (λ p. ⟦<Box<dyn Fn(&KFragment, &Candidate) -> PruneAnswer> as Fn(&KFragment, &Candidate) -> PruneAnswer>⟧.post p.call) pruners.now (F.post extra.now.call))
         schema.now size (try_with size budget (plain_program typed.now.program) path.now w) o) }
 {
     match lower(alloc, schema, typed, path) {

@@ -6,26 +6,25 @@ ghost use Rattle.deriv_check.specs.Bundles.{entries_of};
 ghost use Rattle.java_ast.specs.Reading.{statements, program as plain_program};
 ghost use Rattle.java_mean.specs.Numbers.{NumbersFit};
 ghost use Rattle.java_mean.specs.WellTyped.{IsWellTyped};
+ghost use Rattle.java_stretches.specs.Patches.{plain_patches, put_patch as put_patch_in};
 ghost use Rattle.java_types.specs.Texts.{read_by};
 ghost use Rattle.kernel_lang.specs.declared.prune.PruneAnswer.TheVariants as answers;
 ghost use Rattle.kernel_lang.specs.Pools.{IsCandidateOf};
 ghost use Rattle.kernel_lang.specs.Refuted.{IsRefuted};
 ghost use Rattle.kernel_lang.specs.Whole.{fragment_of};
 ghost use Rattle.loop_text.specs.Statements.Loops.{loops_of};
+ghost use Rattle.query_search.specs.Asking.{SomeMayDrop, EachMayKeep};
 ghost use Rattle.rewrite_core.specs.Outcome.{program_with, entries_with, standing_with, patches_with, BeginsBefore};
-ghost use Rattle.rewrite_core.specs.Patches as specs;
 ghost use Rattle.rewrite_core.specs.Progress.{progress_in, starts_at, ends_with, Leads};
-ghost use Rattle.rewrite_core.specs.Pruned.{SomeDrops, EachKeeps};
 ghost use Rattle.rewrite_core.specs.Stages.{IsStage, next_of};
 ghost use Rattle.rewrite_core.specs.Trying.{trying, all_tried};
 
 use crate::outcome::{Outcome, try_loop};
-use crate::patch::Patches;
-use crate::patching::put_patch;
 use crate::stage::{Stage, give_way, next_path, stage_of, stand};
 use deriv_check::{Bundle, BundleEntry};
 use java_ast::{Program, Stmt};
 use java_copies::copy_program;
+use java_stretches::{Patches, put_patch};
 use java_types::Typed;
 use kernel_lang::{Candidate, KFragment};
 use loop_text::statements::walk::loops_of;
@@ -102,7 +101,8 @@ fn note_patch(
     ensures patches { OnOk result (
         (path : _)
         → next_of stage.now ≡ Some path
-        → report.new.patches ≡ specs.put_patch source.now path first (statements others.now) (plain_program stage.now.typed.program) report.old.patches) }
+        → plain_patches report.new.patches
+        ≡ put_patch_in source.now path first (statements others.now) (plain_program stage.now.typed.program) (plain_patches report.old.patches)) }
     ensures verdicts { report.new.verdicts ≡ report.old.verdicts }
     ensures bundle { report.new.bundle ≡ report.old.bundle }
     ensures dropped { report.new.dropped ≡ report.old.dropped }
@@ -145,7 +145,8 @@ fn pass(
     ensures patches { OnOk result (
         (path : _)
         → next_of stage.value ≡ Some path
-        → report.new.patches ≡ patches_with source.now outcome.way path (plain_program stage.value.typed.program) report.old.patches) }
+        → plain_patches report.new.patches
+        ≡ patches_with source.now outcome.way path (plain_program stage.value.typed.program) (plain_patches report.old.patches)) }
 {
     let Outcome {
         verdict,
@@ -193,8 +194,8 @@ fn try_next<F: Fn(&KFragment, &Candidate) -> PruneAnswer>(
         → ∥ IsRefuted (fragment_of f.now) c.now ∥₁ }
     ensures leads { IfOk result (λ s.
         Leads
-        (SomeDrops (λ p. ⟦<Box<dyn Fn(&KFragment, &Candidate) -> PruneAnswer> as Fn(&KFragment, &Candidate) -> PruneAnswer>⟧.post p.call) pruners.now (F.post extra.now.call))
-        (EachKeeps (λ p. ⟦<Box<dyn Fn(&KFragment, &Candidate) -> PruneAnswer> as Fn(&KFragment, &Candidate) -> PruneAnswer>⟧.post p.call) pruners.now (F.post extra.now.call))
+        (SomeMayDrop fragment_of (λ p. ⟦<Box<dyn Fn(&KFragment, &Candidate) -> PruneAnswer> as Fn(&KFragment, &Candidate) -> PruneAnswer>⟧.post p.call) pruners.now (F.post extra.now.call))
+        (EachMayKeep fragment_of (λ p. ⟦<Box<dyn Fn(&KFragment, &Candidate) -> PruneAnswer> as Fn(&KFragment, &Candidate) -> PruneAnswer>⟧.post p.call) pruners.now (F.post extra.now.call))
         schema.now size source.now (trying 1 schema.now size budget (plain_program stage.value.typed.program) stage.value.standing)
         (progress_in stage.value report.old) (progress_in s.value report.new)) }
     ensures typed { IfOk result (λ s. IsWellTyped schema.now (read_by schema.now) (plain_program s.value.typed.program)) }
@@ -244,8 +245,8 @@ fn try_further<F: Fn(&KFragment, &Candidate) -> PruneAnswer>(
         → ∥ IsRefuted (fragment_of f.now) c.now ∥₁ }
     ensures leads { IfOk result (λ s.
         Leads
-        (SomeDrops (λ p. ⟦<Box<dyn Fn(&KFragment, &Candidate) -> PruneAnswer> as Fn(&KFragment, &Candidate) -> PruneAnswer>⟧.post p.call) pruners.now (F.post extra.now.call))
-        (EachKeeps (λ p. ⟦<Box<dyn Fn(&KFragment, &Candidate) -> PruneAnswer> as Fn(&KFragment, &Candidate) -> PruneAnswer>⟧.post p.call) pruners.now (F.post extra.now.call))
+        (SomeMayDrop fragment_of (λ p. ⟦<Box<dyn Fn(&KFragment, &Candidate) -> PruneAnswer> as Fn(&KFragment, &Candidate) -> PruneAnswer>⟧.post p.call) pruners.now (F.post extra.now.call))
+        (EachMayKeep fragment_of (λ p. ⟦<Box<dyn Fn(&KFragment, &Candidate) -> PruneAnswer> as Fn(&KFragment, &Candidate) -> PruneAnswer>⟧.post p.call) pruners.now (F.post extra.now.call))
         schema.now size source.now (trying left schema.now size budget (plain_program stage.value.typed.program) stage.value.standing)
         (progress_in stage.value report.old) (progress_in s.value report.new)) }
     ensures typed { IfOk result (λ s. IsWellTyped schema.now (read_by schema.now) (plain_program s.value.typed.program)) }
@@ -334,8 +335,8 @@ pub fn try_all<F: Fn(&KFragment, &Candidate) -> PruneAnswer>(
     ensures { IfOk result (λ r.
         (n : _)
         × Leads
-        (SomeDrops (λ p. ⟦<Box<dyn Fn(&KFragment, &Candidate) -> PruneAnswer> as Fn(&KFragment, &Candidate) -> PruneAnswer>⟧.post p.call) pruners.now (F.post extra.now.call))
-        (EachKeeps (λ p. ⟦<Box<dyn Fn(&KFragment, &Candidate) -> PruneAnswer> as Fn(&KFragment, &Candidate) -> PruneAnswer>⟧.post p.call) pruners.now (F.post extra.now.call))
+        (SomeMayDrop fragment_of (λ p. ⟦<Box<dyn Fn(&KFragment, &Candidate) -> PruneAnswer> as Fn(&KFragment, &Candidate) -> PruneAnswer>⟧.post p.call) pruners.now (F.post extra.now.call))
+        (EachMayKeep fragment_of (λ p. ⟦<Box<dyn Fn(&KFragment, &Candidate) -> PruneAnswer> as Fn(&KFragment, &Candidate) -> PruneAnswer>⟧.post p.call) pruners.now (F.post extra.now.call))
         schema.now size source.now (all_tried schema.now size budget (plain_program typed.now.program))
         (starts_at (plain_program typed.now.program)) (ends_with r n)) }
 {

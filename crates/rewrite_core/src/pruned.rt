@@ -1,6 +1,8 @@
 //! How many candidates are dropped where there are no pruners, as a law. It does nothing.
 ghost use Rattle.std.specs.Prelude.{◌≡◌, ℕ, List, []};
-ghost use Rattle.rewrite_core.specs.Pruned.{ArePruned, OneDrops, AllKeep};
+ghost use Rattle.kernel_lang.specs.Whole.{fragment_of};
+ghost use Rattle.query_search.specs.Asking.{OneMayDrop, AllMayKeep};
+ghost use Rattle.rewrite_core.specs.Pruned.{ArePruned};
 ghost use Rattle.rewrite_core.specs.Trying.{Tried};
 
 use kernel_lang::{Candidate, KFragment};
@@ -10,6 +12,6 @@ use query_search::{PruneAnswer, Pruner};
 pub fn nothing_is_pruned_without_pruners(pruners: &[Pruner])
     requires { pruners.now ≡ [] }
     ensures { (size : ℕ) (ts : List Tried) (n : ℕ)
-        → ArePruned (OneDrops (λ p. ⟦<Box<dyn Fn(&KFragment, &Candidate) -> PruneAnswer> as Fn(&KFragment, &Candidate) -> PruneAnswer>⟧.post p.call) pruners.now) (AllKeep (λ p. ⟦<Box<dyn Fn(&KFragment, &Candidate) -> PruneAnswer> as Fn(&KFragment, &Candidate) -> PruneAnswer>⟧.post p.call) pruners.now) size ts n
+        → ArePruned (OneMayDrop fragment_of (λ p. ⟦<Box<dyn Fn(&KFragment, &Candidate) -> PruneAnswer> as Fn(&KFragment, &Candidate) -> PruneAnswer>⟧.post p.call) pruners.now) (AllMayKeep fragment_of (λ p. ⟦<Box<dyn Fn(&KFragment, &Candidate) -> PruneAnswer> as Fn(&KFragment, &Candidate) -> PruneAnswer>⟧.post p.call) pruners.now) size ts n
         → n ≡ 0 }
 {}

@@ -1,14 +1,12 @@
 // The loops of a program that has no text.
-ghost use Rattle.std.specs.Prelude.{◌≡◌, ◌≤◌, [], IfOk};
+ghost use Rattle.std.specs.Prelude.{◌≤◌, IfOk};
 ghost use Rattle.java_ast.specs.Reading.{program as plain_program};
-ghost use Rattle.java_mean.specs.Keeps.{Keeps};
 ghost use Rattle.java_mean.specs.WellTyped.{IsWellTyped};
 ghost use Rattle.java_types.specs.Texts.{read_by};
 ghost use Rattle.kernel_lang.specs.declared.prune.PruneAnswer.TheVariants as answers;
 ghost use Rattle.kernel_lang.specs.Pools.{IsCandidateOf};
 ghost use Rattle.kernel_lang.specs.Whole.{fragment_of};
-ghost use Rattle.rewrite_core.specs.Rewriting.{verdicts_of, StandAsTried};
-ghost use Rattle.rewrite_core.specs.Trying.{all_tried, rewritten};
+ghost use Rattle.rewrite_core.specs.Results.{IsReplacementOf};
 
 use crate::progress::try_all;
 use java_ast::Program;
@@ -41,11 +39,7 @@ fn replace_past<F: Fn(&KFragment, &Candidate) -> PruneAnswer>(
     requires budget { budget ≤ 1000000 }
     requires callable { (f : _) (c : _) → IsCandidateOf (fragment_of f.now) c.now → F.pre kept.now.call f c }
     requires never { (f : _) (c : _) → F.post kept.now.call f c answers.Drop → ⊥ }
-    ensures exact { IfOk result (λ r. plain_program r.program ≡ rewritten schema.now size budget (plain_program typed.now.program)) }
-    ensures verdicts { IfOk result (λ r. r.verdicts ≡ verdicts_of (all_tried schema.now size budget (plain_program typed.now.program))) }
-    ensures typed { IfOk result (λ r. IsWellTyped schema.now (read_by schema.now) (plain_program r.program)) }
-    ensures keeps { IfOk result (λ r. Keeps (plain_program typed.now.program) (plain_program r.program) schema.now) }
-    ensures standing { IfOk result (λ r. StandAsTried (all_tried schema.now size budget (plain_program typed.now.program)) (plain_program r.program)) }
+    ensures { IfOk result (IsReplacementOf schema.now size budget (plain_program typed.now.program)) }
 {
     let all = try_all(alloc, schema, typed, &[], size, budget, &[], kept)?;
     Ok(Replaced {
@@ -66,11 +60,7 @@ pub fn replace_loops(
     requires typed { IsWellTyped schema.now (read_by schema.now) (plain_program typed.now.program) }
     requires size { size ≤ 8 }
     requires budget { budget ≤ 1000000 }
-    ensures exact { IfOk result (λ r. plain_program r.program ≡ rewritten schema.now size budget (plain_program typed.now.program)) }
-    ensures verdicts { IfOk result (λ r. r.verdicts ≡ verdicts_of (all_tried schema.now size budget (plain_program typed.now.program))) }
-    ensures typed { IfOk result (λ r. IsWellTyped schema.now (read_by schema.now) (plain_program r.program)) }
-    ensures keeps { IfOk result (λ r. Keeps (plain_program typed.now.program) (plain_program r.program) schema.now) }
-    ensures standing { IfOk result (λ r. StandAsTried (all_tried schema.now size budget (plain_program typed.now.program)) (plain_program r.program)) }
+    ensures { IfOk result (IsReplacementOf schema.now size budget (plain_program typed.now.program)) }
 {
     let kept = Extra::new(|_frag: &KFragment, _cand: &Candidate| PruneAnswer::Keep);
     replace_past(alloc, schema, typed, size, budget, &kept)

@@ -4,8 +4,6 @@ ghost use Rattle.std.specs.declared.option.Option.{Option};
 ghost use Rattle.qbs_base.specs.Values.{Schema as Tables};
 ghost use Rattle.java_ast.specs.Path.{and_then, last_of, replaced_at, statement_at};
 ghost use Rattle.java_ast.specs.Reading.{statements, program as plain_program};
-ghost use Rattle.java_ast.specs.Spans.{place_of};
-ghost use Rattle.java_ast.specs.Tree as plain;
 ghost use Rattle.java_loops.specs.Kernel.Kernel.{setting_at};
 ghost use Rattle.java_loops.specs.Kernel.Setting.{Setting};
 ghost use Rattle.java_loops.specs.Lowering.Lowered.{Lowering};
@@ -19,7 +17,6 @@ ghost use Rattle.java_types.specs.Texts.{read_by};
 ghost use Rattle.kernel_lang.specs.Pools.{IsCandidateOf};
 ghost use Rattle.kernel_lang.specs.Typed.{is_typed};
 ghost use Rattle.kernel_lang.specs.Whole.{fragment_of};
-ghost use Rattle.loop_text.specs.Statements.Fragment.{Fragment, fragment_at};
 ghost use Rattle.loop_text.specs.Statements.KeptStatements.{with_numbers};
 ghost use Rattle.sql_ast.specs.Reading.{query};
 ghost use Rattle.sql_ast.specs.Tree.{PlainQuery};
@@ -28,12 +25,12 @@ ghost use Rattle.vc_gen.specs.Soundness.{EndsAnywhere};
 ghost use Rattle.fragments.specs.Lowers.{lowering_in_code};
 ghost use Rattle.rewrite_core.specs.Asked.{replaced};
 ghost use Rattle.rewrite_core.specs.Asking.{HasAsks};
-ghost use Rattle.rewrite_core.specs.Looped.{looped_in_code, asked_from, AreValidFrom};
+ghost use Rattle.rewrite_core.specs.Looped.{looped_in_code, asked_from, AreValidFrom, place_or_nowhere};
 ghost use Rattle.rewrite_core.specs.Patches.{instead};
 
 use crate::asking::push_asks;
 use crate::looped::Looped;
-use fragments::{Lowered, kept_statements, run_at};
+use fragments::{Lowered, kept_statements, run_there};
 use java_ast::{Path, Program, Stmt, at_path};
 use java_copies::{copy_program, put_at};
 use java_types::Typed;
@@ -42,19 +39,9 @@ use qbs_base::{NoMemory, Span};
 use schema::Schema;
 use std::alloc::Global;
 
-// The run before the loop to which a path leads, empty where it leads to none.
-fn run_there<'a>(program: &'a Program, path: &Path) -> &'a [Stmt]
-    ensures { (f : Fragment) → fragment_at path.now (plain_program program.now) ≡ Some f → statements result.now ≡ f.run }
-{
-    match run_at(program, path) {
-        Some(run) => run,
-        None => &[],
-    }
-}
-
-/// Where the statement stands to which a path leads.
+/// Where the statement stands to which a path leads, nowhere where it leads to none.
 pub fn place_there(program: &Program, path: &Path) -> Span
-    ensures { (s : plain.Statement) → statement_at path.now (plain_program program.now) ≡ Some s → result ≡ place_of s }
+    ensures { result ≡ place_or_nowhere (statement_at path.now (plain_program program.now)) }
 {
     match at_path(program, path) {
         Some(s) => s.span,

@@ -1,26 +1,20 @@
 // The loops of a program in text order, each tried on the program as it stands.
 ghost use Rattle.std.specs.Prelude.{◌≡◌, ◌≤◌, IfOk};
-ghost use Rattle.deriv_check.specs.Bundles.{entries_of};
 ghost use Rattle.java_ast.specs.Reading.{program as plain_program};
-ghost use Rattle.java_mean.specs.Keeps.{Keeps};
 ghost use Rattle.java_mean.specs.WellTyped.{IsWellTyped};
-ghost use Rattle.java_grammar.specs.InGrammar.{IsInGrammar};
-ghost use Rattle.java_grammar.specs.ReadBack.{IsReadBack};
-ghost use Rattle.java_grammar.specs.Written.{IsWritten};
+ghost use Rattle.java_stretches.specs.Patches.{plain_patches, with_patches as with_patches_in};
 ghost use Rattle.java_types.specs.Texts.{read_by};
 ghost use Rattle.kernel_lang.specs.declared.prune.PruneAnswer.TheVariants as answers;
 ghost use Rattle.kernel_lang.specs.Pools.{IsCandidateOf};
 ghost use Rattle.kernel_lang.specs.Refuted.{IsRefuted};
 ghost use Rattle.kernel_lang.specs.Whole.{fragment_of};
+ghost use Rattle.query_search.specs.Asking.{OneMayDrop, AllMayKeep, SomeMayDrop, EachMayKeep};
 ghost use Rattle.rewrite_core.specs.Output.{IsSourceOf};
-ghost use Rattle.rewrite_core.specs.Patches.{with_patches, patched_text};
-ghost use Rattle.rewrite_core.specs.Pruned.{ArePruned, OneDrops, AllKeep, SomeDrops, EachKeeps};
-ghost use Rattle.rewrite_core.specs.Rewriting.{verdicts_of, bundle_of, StandAsTried};
-ghost use Rattle.rewrite_core.specs.Trying.{all_tried, rewritten};
+ghost use Rattle.rewrite_core.specs.Results.{IsRewritingOf};
 
-use crate::output::patched;
 use crate::progress::{AllTried, try_all};
 use crate::rewritten::Rewritten;
+use java_stretches::with_patches;
 use java_types::Typed;
 use kernel_lang::{Candidate, KFragment};
 use qbs_base::NoMemory;
@@ -34,7 +28,8 @@ fn with_output(alloc: Global, source: &[u8], all: AllTried) -> Result<Rewritten,
     ensures verdicts { IfOk result (λ r. r.verdicts ≡ all.verdicts) }
     ensures bundle { IfOk result (λ r. r.bundle ≡ all.bundle) }
     ensures dropped { IfOk result (λ r. r.dropped ≡ all.dropped) }
-    ensures text { IfOk result (λ r. r.text ≡ with_patches source.now 0 all.patches) }
+    ensures patches { IfOk result (λ r. r.patches ≡ all.patches) }
+    ensures text { IfOk result (λ r. r.text ≡ with_patches_in source.now 0 (plain_patches all.patches)) }
 {
     let AllTried {
         program,
@@ -43,12 +38,13 @@ fn with_output(alloc: Global, source: &[u8], all: AllTried) -> Result<Rewritten,
         dropped,
         patches,
     } = all;
-    let text = patched(alloc, source, patches.as_slice())?;
+    let text = with_patches(alloc, source, patches.as_slice())?;
     Ok(Rewritten {
         program,
         verdicts,
         bundle,
         dropped,
+        patches,
         text,
     })
 }
@@ -57,11 +53,12 @@ fn with_output(alloc: Global, source: &[u8], all: AllTried) -> Result<Rewritten,
 /// the search judges candidates of at most `size` formulas, as many as the budget. A loop with an accepted candidate gives way to its queries
 /// and vanishes with all inside it. Only want of memory is an error.
 ///
-/// The program after all tries is well typed, keeps what the first one does, and is of the grammar and can be written if the first one
-/// is. The loops that stand are those that were tried and found no candidate. `dropped` is the sum over the loops of the candidates
-/// that the pruners or the further call dropped, which may drop none but refuted ones.
+/// What comes of it is `IsRewritingOf`: the program after all tries is well typed, keeps what the first one does, and is of the grammar and
+/// can be written if the first one is. The loops that stand are those that were tried and found no candidate. `dropped` is the sum over the
+/// loops of the candidates that the pruners or the further call dropped, which may drop none but refuted ones.
 ///
-/// The output is the source with patches in place, which is a text of the program after all tries, but for places: it is read back.
+/// The patches are those of the loops that gave way. The output is the source with them in place, which is a text of the program after all
+/// tries, but for places: it is read back.
 pub fn rewrite_with<F: Fn(&KFragment, &Candidate) -> PruneAnswer>(
     alloc: Global,
     schema: &Schema,
@@ -81,23 +78,11 @@ pub fn rewrite_with<F: Fn(&KFragment, &Candidate) -> PruneAnswer>(
         → IsCandidateOf (fragment_of f.now) c.now
         → F.post extra.now.call f c answers.Drop
         → ∥ IsRefuted (fragment_of f.now) c.now ∥₁ }
-    ensures exact { IfOk result (λ r. plain_program r.program ≡ rewritten schema.now size budget (plain_program typed.now.program)) }
-    ensures verdicts { IfOk result (λ r. r.verdicts ≡ verdicts_of (all_tried schema.now size budget (plain_program typed.now.program))) }
-    ensures bundle { IfOk result (λ r. entries_of r.bundle ≡ bundle_of (all_tried schema.now size budget (plain_program typed.now.program))) }
-    ensures dropped { IfOk result (λ r.
-        ArePruned
-        (SomeDrops (λ p. ⟦<Box<dyn Fn(&KFragment, &Candidate) -> PruneAnswer> as Fn(&KFragment, &Candidate) -> PruneAnswer>⟧.post p.call) pruners.now (F.post extra.now.call))
-        (EachKeeps (λ p. ⟦<Box<dyn Fn(&KFragment, &Candidate) -> PruneAnswer> as Fn(&KFragment, &Candidate) -> PruneAnswer>⟧.post p.call) pruners.now (F.post extra.now.call))
-        size (all_tried schema.now size budget (plain_program typed.now.program)) r.dropped) }
-    ensures typed { IfOk result (λ r. IsWellTyped schema.now (read_by schema.now) (plain_program r.program)) }
-    ensures keeps { IfOk result (λ r. Keeps (plain_program typed.now.program) (plain_program r.program) schema.now) }
-    ensures written { IfOk result (λ r.
-        IsInGrammar (plain_program typed.now.program)
-        → IsWritten (plain_program typed.now.program)
-        → IsInGrammar (plain_program r.program) × IsWritten (plain_program r.program)) }
-    ensures standing { IfOk result (λ r. StandAsTried (all_tried schema.now size budget (plain_program typed.now.program)) (plain_program r.program)) }
-    ensures text { IfOk result (λ r. r.text ≡ patched_text source.now (all_tried schema.now size budget (plain_program typed.now.program))) }
-    ensures read_back { IfOk result (λ r. IsReadBack r.text (plain_program r.program)) }
+    ensures { IfOk result (
+        IsRewritingOf
+        (SomeMayDrop fragment_of (λ p. ⟦<Box<dyn Fn(&KFragment, &Candidate) -> PruneAnswer> as Fn(&KFragment, &Candidate) -> PruneAnswer>⟧.post p.call) pruners.now (F.post extra.now.call))
+        (EachMayKeep fragment_of (λ p. ⟦<Box<dyn Fn(&KFragment, &Candidate) -> PruneAnswer> as Fn(&KFragment, &Candidate) -> PruneAnswer>⟧.post p.call) pruners.now (F.post extra.now.call))
+        schema.now size budget source.now (plain_program typed.now.program)) }
 {
     let all = try_all(alloc, schema, typed, source, size, budget, pruners, extra)?;
     with_output(alloc, source, all)
@@ -120,23 +105,11 @@ fn rewrite_past<F: Fn(&KFragment, &Candidate) -> PruneAnswer>(
     requires budget { budget ≤ 1000000 }
     requires callable { (f : _) (c : _) → IsCandidateOf (fragment_of f.now) c.now → F.pre kept.now.call f c }
     requires never { (f : _) (c : _) → F.post kept.now.call f c answers.Drop → ⊥ }
-    ensures exact { IfOk result (λ r. plain_program r.program ≡ rewritten schema.now size budget (plain_program typed.now.program)) }
-    ensures verdicts { IfOk result (λ r. r.verdicts ≡ verdicts_of (all_tried schema.now size budget (plain_program typed.now.program))) }
-    ensures bundle { IfOk result (λ r. entries_of r.bundle ≡ bundle_of (all_tried schema.now size budget (plain_program typed.now.program))) }
-    ensures dropped { IfOk result (λ r.
-        ArePruned
-        (OneDrops (λ p. ⟦<Box<dyn Fn(&KFragment, &Candidate) -> PruneAnswer> as Fn(&KFragment, &Candidate) -> PruneAnswer>⟧.post p.call) pruners.now)
-        (AllKeep (λ p. ⟦<Box<dyn Fn(&KFragment, &Candidate) -> PruneAnswer> as Fn(&KFragment, &Candidate) -> PruneAnswer>⟧.post p.call) pruners.now)
-        size (all_tried schema.now size budget (plain_program typed.now.program)) r.dropped) }
-    ensures typed { IfOk result (λ r. IsWellTyped schema.now (read_by schema.now) (plain_program r.program)) }
-    ensures keeps { IfOk result (λ r. Keeps (plain_program typed.now.program) (plain_program r.program) schema.now) }
-    ensures written { IfOk result (λ r.
-        IsInGrammar (plain_program typed.now.program)
-        → IsWritten (plain_program typed.now.program)
-        → IsInGrammar (plain_program r.program) × IsWritten (plain_program r.program)) }
-    ensures standing { IfOk result (λ r. StandAsTried (all_tried schema.now size budget (plain_program typed.now.program)) (plain_program r.program)) }
-    ensures text { IfOk result (λ r. r.text ≡ patched_text source.now (all_tried schema.now size budget (plain_program typed.now.program))) }
-    ensures read_back { IfOk result (λ r. IsReadBack r.text (plain_program r.program)) }
+    ensures { IfOk result (
+        IsRewritingOf
+        (OneMayDrop fragment_of (λ p. ⟦<Box<dyn Fn(&KFragment, &Candidate) -> PruneAnswer> as Fn(&KFragment, &Candidate) -> PruneAnswer>⟧.post p.call) pruners.now)
+        (AllMayKeep fragment_of (λ p. ⟦<Box<dyn Fn(&KFragment, &Candidate) -> PruneAnswer> as Fn(&KFragment, &Candidate) -> PruneAnswer>⟧.post p.call) pruners.now)
+        schema.now size budget source.now (plain_program typed.now.program)) }
 {
     rewrite_with(alloc, schema, typed, source, size, budget, pruners, kept)
 }
@@ -155,23 +128,11 @@ pub fn rewrite(
     requires source { IsSourceOf source.now (plain_program typed.now.program) }
     requires size { size ≤ 8 }
     requires budget { budget ≤ 1000000 }
-    ensures exact { IfOk result (λ r. plain_program r.program ≡ rewritten schema.now size budget (plain_program typed.now.program)) }
-    ensures verdicts { IfOk result (λ r. r.verdicts ≡ verdicts_of (all_tried schema.now size budget (plain_program typed.now.program))) }
-    ensures bundle { IfOk result (λ r. entries_of r.bundle ≡ bundle_of (all_tried schema.now size budget (plain_program typed.now.program))) }
-    ensures dropped { IfOk result (λ r.
-        ArePruned
-        (OneDrops (λ p. ⟦<Box<dyn Fn(&KFragment, &Candidate) -> PruneAnswer> as Fn(&KFragment, &Candidate) -> PruneAnswer>⟧.post p.call) pruners.now)
-        (AllKeep (λ p. ⟦<Box<dyn Fn(&KFragment, &Candidate) -> PruneAnswer> as Fn(&KFragment, &Candidate) -> PruneAnswer>⟧.post p.call) pruners.now)
-        size (all_tried schema.now size budget (plain_program typed.now.program)) r.dropped) }
-    ensures typed { IfOk result (λ r. IsWellTyped schema.now (read_by schema.now) (plain_program r.program)) }
-    ensures keeps { IfOk result (λ r. Keeps (plain_program typed.now.program) (plain_program r.program) schema.now) }
-    ensures written { IfOk result (λ r.
-        IsInGrammar (plain_program typed.now.program)
-        → IsWritten (plain_program typed.now.program)
-        → IsInGrammar (plain_program r.program) × IsWritten (plain_program r.program)) }
-    ensures standing { IfOk result (λ r. StandAsTried (all_tried schema.now size budget (plain_program typed.now.program)) (plain_program r.program)) }
-    ensures text { IfOk result (λ r. r.text ≡ patched_text source.now (all_tried schema.now size budget (plain_program typed.now.program))) }
-    ensures read_back { IfOk result (λ r. IsReadBack r.text (plain_program r.program)) }
+    ensures { IfOk result (
+        IsRewritingOf
+        (OneMayDrop fragment_of (λ p. ⟦<Box<dyn Fn(&KFragment, &Candidate) -> PruneAnswer> as Fn(&KFragment, &Candidate) -> PruneAnswer>⟧.post p.call) pruners.now)
+        (AllMayKeep fragment_of (λ p. ⟦<Box<dyn Fn(&KFragment, &Candidate) -> PruneAnswer> as Fn(&KFragment, &Candidate) -> PruneAnswer>⟧.post p.call) pruners.now)
+        schema.now size budget source.now (plain_program typed.now.program)) }
 {
     let kept = Extra::new(|_frag: &KFragment, _cand: &Candidate| PruneAnswer::Keep);
     rewrite_past(alloc, schema, typed, source, size, budget, pruners, &kept)

@@ -6,7 +6,7 @@ ghost use Rattle.java_ast.specs.Path.{last_of, replaced_at};
 ghost use Rattle.java_ast.specs.Reading.{statements, program as plain_program};
 ghost use Rattle.java_mean.specs.Numbers.{NumbersFit};
 ghost use Rattle.loop_text.specs.Statements.Loops.{loops_of_methods};
-ghost use Rattle.rewrite_core.specs.Stages.{IsStage, next_of};
+ghost use Rattle.rewrite_core.specs.Stages.{IsStage, next_of, given_way};
 
 use crate::replacing::put_instead;
 use java_ast::{Path, Stmt};
@@ -103,9 +103,7 @@ pub fn give_way(
     requires first { (path : _) → next_of stage.value ≡ Some path → first ≤ last_of path }
     requires numbers { (path : _) → next_of stage.value ≡ Some path → NumbersFit (replaced_at path first (statements others.items) (plain_program stage.value.typed.program)) }
     ensures program { IfOk result (λ s.
-        (path : _)
-        → next_of stage.value ≡ Some path
-        → plain_program s.value.typed.program ≡ replaced_at path first (statements others.items) (plain_program stage.value.typed.program)) }
+        plain_program s.value.typed.program ≡ given_way (next_of stage.value) first (statements others.items) (plain_program stage.value.typed.program)) }
     ensures standing { IfOk result (λ s. s.value.standing ≡ stage.value.standing) }
     ensures lists { IfOk result (λ s. IsStage s.value) }
 {

@@ -1,5 +1,5 @@
 //! Laws of the tries of a program's loops, for the crates above. They do nothing.
-ghost use Rattle.std.specs.Prelude.{◌≡◌, ℕ, ◌<◌, length, take, slice_get};
+ghost use Rattle.std.specs.Prelude.{◌≡◌, ℕ, ◌<◌, List, [], length, take, slice_get};
 ghost use Rattle.std.specs.declared.option.Option.TheVariants.{Some};
 ghost use Rattle.std.specs.List.{AllByRecursion};
 ghost use Rattle.qbs_base.specs.Values.{Schema};
@@ -12,6 +12,7 @@ ghost use Rattle.java_types.specs.Texts.{read_by};
 ghost use Rattle.loop_text.specs.Statements.Loops.{loops_of};
 ghost use Rattle.fragments.specs.Asked.{IsKernelLoop};
 ghost use Rattle.rewrite_core.specs.Asked.{Place, replaced};
+ghost use Rattle.rewrite_core.specs.Patches.{patches_left, puts_of, with_puts, patches_for};
 ghost use Rattle.rewrite_core.specs.Rewriting.{standing_tries, StandsIn};
 ghost use Rattle.rewrite_core.specs.Trying.{all_tried, rewritten};
 ghost use Rattle.rewrite_core.specs.TriedAsking.{AllMayBeAsked, standing_paths, standing_left};
@@ -64,4 +65,13 @@ pub fn standing_loops_stay_in_place()
     ensures { (schema : Schema) (size budget : ℕ) (p : PlainProgram)
         → AllMayBeAsked schema (all_tried schema size budget p)
         → AllByRecursion (StandsIn (rewritten schema size budget p)) (standing_tries (all_tried schema size budget p)) }
+{}
+
+/// The program after all tries is the first one with what is put for the loops that gave way, each at its path in the program as it stands
+/// then (`program`). The patches of the source are those for the same, in this order (`patches`).
+pub fn loops_give_way_in_order()
+    ensures program { (schema : Schema) (size budget : ℕ) (p : PlainProgram)
+        → rewritten schema size budget p ≡ with_puts p (puts_of (all_tried schema size budget p)) }
+    ensures patches { (schema : Schema) (size budget : ℕ) (source : List ℕ) (p : PlainProgram)
+        → patches_left source [] (all_tried schema size budget p) ≡ patches_for source p (puts_of (all_tried schema size budget p)) [] }
 {}
