@@ -14,7 +14,7 @@ use Rattle.java_ast.specs.Reading.{statements}
 use Rattle.java_text.specs.Canonical.{line_end, indent, canonical_expression, canonical_keys, declared_text, walked_text, tested_text, returned_text, braced, canonical_statement, canonical_statements}
 use Rattle.java_stretches.specs.declared.patch.Patch.{Patch}
 use Rattle.java_stretches.specs.Lines.{is_blank, joined_lines}
-use Rattle.java_stretches.specs.Patches.{PlainPatch, plain_patch, plain_patches, blanks_of, is_before, earlier, patched, last_of, margin_by, margin_at, patch_of}
+use Rattle.java_stretches.specs.Patches.{PlainPatch, plain_patch, plain_patches, blanks_of, earlier, patched, last_of, margin_by, margin_at, patch_of}
 use Rattle.java_stretches.specs.Stretch.{sibling}
 
 -- ---- Margins

@@ -22,7 +22,7 @@ use Rattle.rewrite_core.specs.Patches.{patched_text}
 use Rattle.rewrite_core.specs.Progress.{starts_at, ends_with, Leads}
 use Rattle.rewrite_core.specs.Pruned.{ArePruned}
 use Rattle.rewrite_core.specs.Results.{IsReplacementOf, IsRewritingOf}
-use Rattle.rewrite_core.specs.Rewriting.{verdicts_of, bundle_of, StandAsTried}
+use Rattle.rewrite_core.specs.Rewriting.{verdicts_of, StandAsTried}
 use Rattle.rewrite_core.specs.Trying.{all_tried, rewritten}
 use Rattle.rewrite_core.proofs.PatchedTexts.{patched_back}
 use Rattle.rewrite_core.proofs.Turns.{rewritten_keeps, rewritten_typed, rewritten_follows}

@@ -1,13 +1,11 @@
 -- The loops of a program whose statements begin one behind the other do so too, in text order, and so do those that are left where others vanish.
-use Rattle.std.proofs.Common.{◌≡◌, ℕ, zero, suc, ◌≤◌, ◌<◌, false, List, [], ◌∷◌, ◌++◌, drop, slice_get, Option, Some, None, refl, sym, ap, ◌∙◌, subst, arith}
+use Rattle.std.proofs.Common.{◌≡◌, ℕ, zero, suc, ◌≤◌, ◌<◌, false, List, [], ◌∷◌, ◌++◌, drop, slice_get, Some, None, refl, sym, ◌∙◌, subst, arith}
 use Rattle.std.specs.List.{AllByRecursion}
 use Rattle.qbs_base.specs.declared.span.Span.{Span}
 use Rattle.java_ast.specs.Path.{branch_of}
-use Rattle.java_ast.specs.Spans.{place_of}
 use Rattle.java_ast.specs.Tree as tree
 use Rattle.java_ast.specs.Tree.{Statement, Statements, PlainMethod}
 use Rattle.java_stretches.specs.Fit.{FitStatement, alone, if_alone, if_else, for_each, while, FitBlock, nothing, followed, FitMethods}
-use Rattle.java_stretches.proofs.Fitting.{statement_order, block_order}
 use Rattle.rewrite_core.proofs.LoopPlaces.{places_in, places_among, places_of_methods, LeftOut}
 
 -- ---- Lists of places

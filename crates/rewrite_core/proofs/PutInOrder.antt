@@ -9,7 +9,7 @@ use Rattle.loop_text.specs.Statements.Loops.{loops_of}
 use Rattle.java_loops.specs.Kernel.Kernel.{broken, setting_at}
 use Rattle.java_loops.specs.Kernel.Setting.{Setting}
 use Rattle.rewrite_core.specs.Patches.{Put, put_by, puts_of, with_puts, patches_for, patches_by, patches_left}
-use Rattle.rewrite_core.specs.Trying.{Answer, Outside, Searched, answer_unless, Tried, tried_in, tried_at, program_by, program_after, standing_after, and_further, trying, left_of, rewritten, all_tried}
+use Rattle.rewrite_core.specs.Trying.{Answer, Outside, Searched, answer_unless, Tried, tried_in, tried_at, program_by, program_after, standing_after, and_further, trying, left_of, all_tried}
 
 one_put : (t : Tried) (a : Answer) (xs : List Put) → with_puts t.program (put_by t a ++ xs) ≡ with_puts (program_by t a) xs
 one_put t (Searched f (Found h)) xs = refl

@@ -9,20 +9,19 @@ use Rattle.kernel_lang.specs.Plain.{Accumulator}
 use Rattle.sql_ast.specs.Tree.{PlainQuery}
 use Rattle.sql_ast.proofs.Tools.{all_joined}
 use Rattle.sql_parts.specs.Numbered.{Emission}
-use Rattle.java_ast.specs.Path.{and_then}
 use Rattle.java_ast.specs.Spans.{place_of}
 use Rattle.java_ast.specs.Tree.{Spelled, Expression, Statement, Statements, Nothing, Then}
 use Rattle.loop_text.specs.Kernel.KernelStatements.{broken_update, is_idle_flag, is_none}
 use Rattle.loop_text.specs.Sites.Sites.{any_site, place_where, first_broken}
-use Rattle.loop_text.specs.Statements.Fragment.{Fragment, accumulators, needed_of, set_by, is_simple, are_simple}
+use Rattle.loop_text.specs.Statements.Fragment.{accumulators, needed_of, set_by, is_simple, are_simple}
 use Rattle.java_ast.specs.Names.{Names, is_among}
 use Rattle.loop_text.specs.Statements.Setting.{first_touching}
 use Rattle.java_mean.specs.Refines.{followed_by}
 use Rattle.java_mean.proofs.Puts.{name_same}
-use Rattle.java_loops.specs.Kernel.Kernel.{broken, lowering}
+use Rattle.java_loops.specs.Kernel.Kernel.{lowering}
 use Rattle.java_loops.specs.Kernel.Setting.{Setting, setting_of}
 use Rattle.java_loops.specs.Lowering.Lowered.{needed_in_order, set_in_order}
-use Rattle.java_loops.specs.Meant.Asking.{IsForStarted, AskForNeeded}
+use Rattle.java_loops.specs.Meant.Asking.{IsForStarted}
 use Rattle.java_loops.specs.Meant.Members.{AreMatched}
 use Rattle.java_loops.specs.Walks.Replacing.{Ask, asking, asked}
 use Rattle.java_loops.proofs.Lowering.LowerChains.{at_setting}

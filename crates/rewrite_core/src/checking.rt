@@ -1,10 +1,9 @@
 // Bundles that are checked against a program.
-ghost use Rattle.std.specs.Prelude.{◌≡◌, map, IfOk, IfSome};
+ghost use Rattle.std.specs.Prelude.{◌≡◌, map, IfOk};
 ghost use Rattle.std.specs.declared.option.Option.TheVariants.{Some};
 ghost use Rattle.tor_axioms.specs.Accepts.{proof_of};
 ghost use Rattle.deriv_check.specs.Bundles.{entry_of, entries_of};
-ghost use Rattle.java_ast.specs.Path.{last_of, replaced_at};
-ghost use Rattle.java_ast.specs.Reading.{statements, program as plain_program};
+ghost use Rattle.java_ast.specs.Reading.{program as plain_program};
 ghost use Rattle.java_mean.specs.Keeps.{Keeps};
 ghost use Rattle.java_mean.specs.WellTyped.{IsWellTyped};
 ghost use Rattle.java_types.specs.Texts.{read_by};
@@ -12,15 +11,11 @@ ghost use Rattle.rewrite_core.specs.Checking as spec;
 ghost use Rattle.rewrite_core.specs.Checking.{checked_from, shown};
 ghost use Rattle.rewrite_core.specs.Checked.{checks_in, IfAll, IsShown, Follows};
 ghost use Rattle.kernel_lang.specs.Whole.{fragment_of};
-ghost use Rattle.vc_gen.specs.Soundness.{EndsAnywhere};
-ghost use Rattle.java_loops.specs.Kernel.Kernel.{setting_at, broken};
-ghost use Rattle.java_loops.specs.Kernel.Setting.{Setting};
 ghost use Rattle.java_loops.specs.Meant.Lowers.{IsLowered};
 ghost use Rattle.fragments.specs.Lowers.{lowering_in_code};
 ghost use Rattle.sql_ast.specs.Reading.{query};
 ghost use Rattle.sql_parts.specs.Given.{AreKnownTo};
 ghost use Rattle.loop_text.specs.Statements.Walking.{IsLoopOf};
-ghost use Rattle.loop_text.specs.Statements.Loops.{loops_of};
 
 use crate::replacing::{put_instead, statements_instead};
 use deriv_accept::are_accepted;

@@ -9,7 +9,7 @@ use Rattle.qbs_base.specs.declared.span.Span.{Span}
 use Rattle.qbs_base.specs.Values.{Schema}
 use Rattle.qbs_base.specs.Columns.{column_number, columns_at}
 use Rattle.java_ast.specs.Tree as tree
-use Rattle.java_ast.specs.Tree.{Expression, Expressions, NoMore, And, Statements, PlainMethod}
+use Rattle.java_ast.specs.Tree.{Expression, Expressions, Statements}
 use Rattle.java_mean.specs.declared.types.JavaType.{JavaType}
 use Rattle.java_mean.specs.declared.types.JavaType.TheVariants.{Of}
 use Rattle.java_mean.specs.declared.types.Single.TheVariants.{ScalarOf, RowOf}
