@@ -163,10 +163,10 @@ pub patch_is : (source : List ℕ) (old : List PlainPatch) (kept : List Patch) (
     → (new : List Patch) → new ≡ kept ++ made from to margin text way first copy ∷ [] → plain_patches new ≡ patched old (patch_of source old from to path first block)
 patch_is source old kept from to path first block last margin text way copy kept_is last_there margin_is text_is way_is copy_is new new_is =
     let behind : margin ≡ margin_at source old from =
-      margin_is
-      ∙ ap (λ (o : Option Patch). margin_by source (option_map plain_patch o) from) last_there
-      ∙ ap (λ (o : Option PlainPatch). margin_by source o from) (last_made kept)
-      ∙ ap (λ (ps : List PlainPatch). margin_by source (last_of ps) from) kept_is in
+    margin_is
+    ∙ ap (λ (o : Option Patch). margin_by source (option_map plain_patch o) from) last_there
+    ∙ ap (λ (o : Option PlainPatch). margin_by source o from) (last_made kept)
+    ∙ ap (λ (ps : List PlainPatch). margin_by source (last_of ps) from) kept_is in
     ap plain_patches new_is
     ∙ map-append plain_patch kept (made from to margin text way first copy ∷ [])
     ∙ ap (λ (ks : List PlainPatch). ks ++ meant from to margin text way first (statements copy) ∷ []) kept_is

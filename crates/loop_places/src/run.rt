@@ -72,7 +72,7 @@ pub fn run_there<'a>(program: &'a Program, path: &Path) -> &'a [Stmt]
     ensures { statements result.now ≡ run_or_nothing (fragment_at path.now (plain_program program.now)) }
 {
     match run_at(program, path) {
-        Some(run) => run,
+        Some(found) => found,
         None => &[],
     }
 }

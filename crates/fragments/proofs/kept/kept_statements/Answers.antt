@@ -13,9 +13,9 @@ pub returns-clause-exact : goal.returns-clause-exact
 returns-clause-exact c =
     IfOk-weaker c.at_numbers.result _ _
     (λ r found.
-        found
-        ∙ ap (λ (run : Statements). at_numbers c.args.lowered.now.first run c.as_slice.result.now) c.run_there-run.ensures
-        ∙ ap (λ (ns : List ℕ). at_numbers c.args.lowered.now.first (run_or_nothing (fragment_at c.args.path.now (program c.args.program.now))) ns) c.as_slice.ensures)
+    found
+    ∙ ap (λ (run : Statements). at_numbers c.args.lowered.now.first run c.as_slice.result.now) c.run_there-run.ensures
+    ∙ ap (λ (ns : List ℕ). at_numbers c.args.lowered.now.first (run_or_nothing (fragment_at c.args.path.now (program c.args.program.now))) ns) c.as_slice.ensures)
     c.at_numbers.ensures
 
 pub returns-clause-kept : goal.returns-clause-kept
@@ -23,6 +23,6 @@ returns-clause-kept c =
     IfOk-weaker c.at_numbers.result _ _
     (λ r found schema read l w k is. run_kept schema read (program c.args.program.now) c.args.path.now l c.args.lowered.now.first c.args.lowered.now.kept k w is (statements r.items)
     (found
-        ∙ ap (λ (run : Statements). at_numbers c.args.lowered.now.first run c.as_slice.result.now) c.run_there-run.ensures
-        ∙ ap (λ (ns : List ℕ). at_numbers c.args.lowered.now.first (run_or_nothing (fragment_at c.args.path.now (program c.args.program.now))) ns) c.as_slice.ensures))
+    ∙ ap (λ (run : Statements). at_numbers c.args.lowered.now.first run c.as_slice.result.now) c.run_there-run.ensures
+    ∙ ap (λ (ns : List ℕ). at_numbers c.args.lowered.now.first (run_or_nothing (fragment_at c.args.path.now (program c.args.program.now))) ns) c.as_slice.ensures))
     c.at_numbers.ensures
