@@ -1,5 +1,5 @@
--- The text of a rewritten program is made of the source's own bytes: where a loop gave way, statements in canonical layout stand in place of the
--- bytes from the first statement of its run to its end, and all other bytes stay.
+-- What comes in place of loops that gave way. The text of a rewritten program is made of the source's own bytes: statements in canonical
+-- layout stand in place of those from the first statement of a loop's run to its end, and all other bytes stay.
 use Rattle.std.specs.Prelude.{ℕ, List, [], ◌∷◌, ◌++◌}
 use Rattle.java_ast.specs.Names.{names_read}
 use Rattle.java_ast.specs.Path.{and_then, replaced_at}
