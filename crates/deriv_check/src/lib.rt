@@ -11,6 +11,7 @@ mod print;
 mod reading;
 
 pub use bundle::{Bundle, BundleEntry};
+pub use deriv_accept::accepts;
 pub use fault::BundleFault;
 pub use parse::{parse_bundle, parse_derivation};
 pub use print::{print_bundle, print_derivation};

@@ -22,3 +22,4 @@ mod visit;
 
 pub use claim::ends_as_claimed;
 pub use fragment::run_fragment;
+pub use kernel_steps::FragmentEnd;
