@@ -1,6 +1,7 @@
 pub mod Answerable
 pub mod Changed
 pub mod Columns
+pub mod Numbering
 pub mod Occurring
 pub mod Operands
 pub mod Placing

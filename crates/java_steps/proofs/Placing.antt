@@ -1,8 +1,9 @@
 -- Values that stand at places.
-use Rattle.std.proofs.Common.{◌≡◌, ℕ, zero, suc, List, [], ◌∷◌, ◌<◌, length, Bool, true, false, cond, Some, Bor, slice_get, arith, sym, ap, ◌∙◌}
-use Rattle.std.specs.Prelude.{bytes_eq, if◌then◌else◌}
-use Rattle.std.specs.List.{AllByRecursion, IsDistinct}
+use Rattle.std.proofs.Common.{◌≡◌, ℕ, zero, suc, ◌+◌, List, [], ◌∷◌, ◌<◌, length, Bool, true, false, cond, not, refl, subst, Some, None, Bor, slice_get, arith, sym, ap, ◌∙◌}
+use Rattle.std.specs.Prelude.{bytes_eq, if◌then◌else◌, nat_lt, position}
+use Rattle.std.specs.List.{AllByRecursion, IsDistinct, prefix_len}
 use Rattle.std.specs.Map.{lookup, keys_of}
+use Rattle.std.proofs.lemmas.Bool.Decides.{nat_tests}
 use Rattle.indexmap.specs.IndexMap.{insert_entry, set_value_at}
 use Rattle.java_mean.proofs.Puts.{names_equal}
 use Rattle.java_steps.specs.Placed.{test, same, Stands, IsAt}
@@ -59,6 +60,37 @@ module _ {V : Type 0} where
 
   pub stands_at : (es : List (Bor (List ℕ) × V)) (i : ℕ) (x : List ℕ) (v : V) → IsAt es i x v → Stands es i x
   stands_at es i x v s = record { key = s.key; value = v; at = s.at; is = s.is }
+
+  -- the first place at which a key stands
+  first_there : (es : List (Bor (List ℕ) × V)) (x : List ℕ) → prefix_len (λ k. not (test x k)) (keys_of es) < length (keys_of es) → Stands es (prefix_len (λ k. not (test x k)) (keys_of es)) x
+  first_there [] x lt = absurd (omega arith)
+  first_there (f ∷ es) x lt = go (test x f.0) refl lt (λ h. first_there es x h)
+    where
+      go : (b : Bool) → test x f.0 ≡ b → cond (not b) (1 + prefix_len (λ k. not (test x k)) (keys_of es)) 0 < suc (length (keys_of es)) → (prefix_len (λ k. not (test x k)) (keys_of es) < length (keys_of es) → Stands es (prefix_len (λ k. not (test x k)) (keys_of es)) x) → Stands (f ∷ es) (cond (not b) (1 + prefix_len (λ k. not (test x k)) (keys_of es)) 0) x
+      go true e h next = record { key = f.0; value = f.1; at = refl; is = back f.0.now x ∙ e }
+      go false e h next =
+          let s = next (omega arith) in
+          let t : Stands (f ∷ es) (suc (prefix_len (λ k. not (test x k)) (keys_of es))) x = record { key = s.key; value = s.value; at = s.at; is = s.is } in
+          let one : suc (prefix_len (λ k. not (test x k)) (keys_of es)) ≡ 1 + prefix_len (λ k. not (test x k)) (keys_of es) = omega arith in
+          subst (λ (n : ℕ). Stands (f ∷ es) n x) one t
+
+  placed : (es : List (Bor (List ℕ) × V)) (x : List ℕ) (i : ℕ) (b : Bool) → nat_lt (prefix_len (λ k. not (test x k)) (keys_of es)) (length (keys_of es)) ≡ b → cond b (Some (prefix_len (λ k. not (test x k)) (keys_of es))) None ≡ Some i → Stands es i x
+  placed es x i true lt e = let h : prefix_len (λ k. not (test x k)) (keys_of es) ≡ i = cc in subst (λ (n : ℕ). Stands es n x) h (first_there es x (grind (arith, nat_tests)))
+  placed es x i false lt e = absurd cc
+
+  pub found_at : (es : List (Bor (List ℕ) × V)) (x : List ℕ) (i : ℕ) → position (test x) (keys_of es) ≡ Some i → Stands es i x
+  found_at es x i e = placed es x i (nat_lt (prefix_len (λ k. not (test x k)) (keys_of es)) (length (keys_of es))) refl e
+
+  -- a key stands where it is equal to that of an entry
+  pub not_there : (es : List (Bor (List ℕ) × V)) (i : ℕ) (x : List ℕ) (k : Bor (List ℕ)) (v : V) → slice_get es i ≡ Some (k, v) → bytes_eq k.now x ≡ false → Stands es i x → ⊥
+  not_there es i x k v at e s =
+      let h : Some (s.key, s.value) ≡ Some (k, v) = sym s.at ∙ at in
+      let g : (s.key, s.value) ≡ (k, v) = cc in
+      let f : true ≡ false = sym s.is ∙ ap (λ (p : Bor (List ℕ) × V). bytes_eq p.0.now x) g ∙ e in
+      absurd cc
+
+  pub none_there : (es : List (Bor (List ℕ) × V)) (i : ℕ) (x : List ℕ) → slice_get es i ≡ None → Stands es i x → ⊥
+  none_there es i x e s = let h : Some (s.key, s.value) ≡ None = sym s.at ∙ e in absurd cc
 
   -- one value stands at a place
   pub one_there : (es : List (Bor (List ℕ) × V)) (i : ℕ) (x : List ℕ) (v w : V) (k : Bor (List ℕ)) → slice_get es i ≡ Some (k, w) → IsAt es i x v → v ≡ w

@@ -1,5 +1,5 @@
 -- Numbers and truth values that come without a fault.
-use Rattle.std.proofs.Common.{◌≡◌, ℕ, List, Bool, true, false, Option, Some, None, Ok, refl, sym, ap, ◌∙◌, option_map}
+use Rattle.std.proofs.Common.{◌≡◌, ℕ, List, Bool, true, false, Option, Some, None, Ok, Err, refl, sym, ap, ◌∙◌, option_map}
 use Rattle.qbs_base.specs.declared.scalar.Row.{Row}
 use Rattle.qbs_base.specs.declared.scalar.Scalar.{Scalar}
 use Rattle.qbs_base.specs.declared.scalar.Value.{Value}
@@ -9,6 +9,7 @@ use Rattle.qbs_base.specs.Named.{at_name}
 use Rattle.java_ast.specs.declared.tree.Op.{Op}
 use Rattle.java_ast.specs.declared.tree.Op.TheVariants as ops
 use Rattle.java_ast.specs.Tree.{Expression, Var, Field, Binary}
+use Rattle.java_mean.specs.declared.ending.Ending.TheVariants.{Stuck}
 use Rattle.java_mean.specs.Endings.{◌>>=◌, found}
 use Rattle.java_mean.specs.Expression.{value_of, cell, truth}
 use Rattle.java_mean.specs.Statement.{GoesOn, with_value}
@@ -36,6 +37,10 @@ or_open at a b w s y p q = rw (p, q) refl
 -- the cell of a row that a variable holds
 pub cell_comes : (at at' : Span) (x name : List ℕ) (w : World) (s : Store) (held : Variable) (row : Row) (c : Scalar) → at_name s x ≡ Some held → held.value ≡ Whole row → cell w.schema row name ≡ Some c → value_of (Field at (Var at' x) name) w s ≡ Ok (One c)
 cell_comes at at' x name w s held row c p q r = rw p (rw q (rw r refl))
+
+-- no variable is assigned that isn't there
+pub not_there : (s : Store) (x : List ℕ) (v : Value) (lines : List (List ℕ)) (turns : ℕ) → at_name s x ≡ None → (found (at_name s x) >>= λ held. Ok (GoesOn (with_value (record { store = s; lines = lines; turns = turns }) x held v))) ≡ Err Stuck
+not_there s x v lines turns e = rw e refl
 
 -- a variable that is there is assigned
 pub written_over : (s new : Store) (x : List ℕ) (v : Value) (lines : List (List ℕ)) (turns : ℕ) → Some new ≡ written s x v → (found (at_name s x) >>= λ held. Ok (GoesOn (with_value (record { store = s; lines = lines; turns = turns }) x held v))) ≡ Ok (GoesOn (record { store = new; lines = lines; turns = turns }))

@@ -1,5 +1,5 @@
 -- One row more among those that were met.
-use Rattle.std.proofs.Common.{◌≡◌, ℕ, ℤ, ◌+◌, ◌<◌, length, take, get_or, Bool, true, false, cond, not, ◌&&◌, ◌||◌, List, [], ◌∷◌, ◌++◌, map, refl, sym, ap, ap₂, ◌∙◌}
+use Rattle.std.proofs.Common.{◌≡◌, ℕ, ℤ, ◌+◌, ◌<◌, length, take, get_or, Bool, true, false, cond, not, ◌&&◌, ◌||◌, List, [], ◌∷◌, ◌++◌, map, refl, sym, ap, ap₂, ◌∙◌, IfOk, Result, Ok, Err}
 use Rattle.std.specs.Bool.{OnFalse}
 use Rattle.std.specs.BTreeSet.{BTreeSet, contains, Updates, IsUnchanged}
 use Rattle.std.specs.Cmp.Lexicographic.{slice_cmp}
@@ -8,6 +8,7 @@ use Rattle.std.specs.Ordering.{is_eq, int_cmp, bool_cmp, nat_cmp, ordering_then}
 use Rattle.std.specs.declared.cmp.Ordering.{Ordering}
 use Rattle.std.specs.declared.cmp.Ordering.TheVariants.{Less, Equal, Greater}
 use Rattle.qbs_base.specs.declared.scalar.Row.{Row}
+use Rattle.qbs_base.specs.declared.scalar.Scalar.{Scalar}
 use Rattle.qbs_base.specs.Scalar.{scalar_same, same_cells}
 use Rattle.sql_ast.specs.Grouped.{firsts}
 use Rattle.sql_rows.proofs.Finding.{any_append}
@@ -19,7 +20,7 @@ use Rattle.java_mean.proofs.Members.{cells_back}
 use Rattle.java_steps.specs.declared.met.Atom.{Atom}
 use Rattle.java_steps.specs.declared.met.Atom.TheVariants as atoms
 use Rattle.java_steps.proofs.Columns.{take_next}
-use Rattle.java_steps.specs.Met.{Key, atom_in, cells_in, has, AreMet, Meets, AreFirsts, Takes}
+use Rattle.java_steps.specs.Met.{Key, atom_in, cells_in, has, AreMet, IsMet, Meets, AreFirsts, Takes}
 
 -- ---- Keys
 
@@ -62,6 +63,18 @@ same_atoms cmp h (x ∷ xs) (y ∷ ys) = eq_then (cmp x y) (slice_cmp cmp xs ys)
 any_same : {X : Type 0} (p q : X → Bool) → ((x : X) → p x ≡ q x) → (xs : List X) → list_any p xs ≡ list_any q xs
 any_same p q h [] = refl
 any_same p q h (x ∷ xs) = ap₂ (λ (a b : Bool). a || b) (h x) (any_same p q h xs)
+
+pub is_met : (cmp : Key → Key → Ordering) → ((j k : Key) → is_eq (cmp j k) ≡ same_cells (cells_in j) (cells_in k)) → (met : BTreeSet Key) (key : Key) (cells : List Scalar) (found : Bool) → cells_in key ≡ cells → found ≡ contains cmp met key → IsMet met cells found
+is_met cmp same met key cells found is e rows a =
+    e
+    ∙ any_same (λ k. is_eq (cmp key k)) (λ k. same_cells (cells_in key) (cells_in k)) (λ k. same key k) met.keys
+    ∙ a key
+    ∙ ap (λ cs. list_any (λ row. same_cells cs row.cells) rows) is
+
+-- whether cells are among the rows of a set that knows them
+pub met_within : {E : Type 0} (r : Result Bool E) (met : BTreeSet Key) (cells : List Scalar) (rows now : List Row) → AreMet met rows → rows ≡ now → IfOk r (IsMet met cells) → IfOk r (λ found. found ≡ list_any (λ row. same_cells cells row.cells) now)
+met_within (Ok found) met cells rows now a e h = h rows a ∙ ap (list_any (λ row. same_cells cells row.cells)) e
+met_within (Err u) met cells rows now a e h = tt
 
 on_false : (b : Bool) (P : Type 0) → OnFalse b P → b ≡ false → P
 on_false true P h e = absurd cc

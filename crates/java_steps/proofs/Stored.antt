@@ -1,6 +1,6 @@
 -- The variables in the entries of an IndexMap, and rows of different lengths.
-use Rattle.std.proofs.Common.{◌≡◌, ℕ, suc, length, List, [], ◌∷◌, Bool, true, false, cond, refl, ap, sym, ◌∙◌, subst, Option, Some, Bor}
-use Rattle.std.specs.Prelude.{bytes_eq, ◌&&◌, if◌then◌else◌}
+use Rattle.std.proofs.Common.{◌≡◌, ℕ, suc, length, List, [], ◌∷◌, Bool, true, false, cond, refl, ap, sym, ◌∙◌, subst, Option, Some, None, Bor}
+use Rattle.std.specs.Prelude.{bytes_eq, is_some, ◌&&◌, if◌then◌else◌}
 use Rattle.std.specs.Map.{lookup}
 use Rattle.std.specs.Option.{option_map}
 use Rattle.indexmap.specs.IndexMap.{insert_entry}
@@ -58,6 +58,14 @@ cells_differ [] [] h = absurd (h refl)
 cells_differ [] (y ∷ ys) h = refl
 cells_differ (x ∷ xs) [] h = refl
 cells_differ (x ∷ xs) (y ∷ ys) h = and_false (scalar_same x y) (same_cells xs ys) (cells_differ xs ys (λ e. h (ap (λ n. suc n) e)))
+
+-- no variable has a name that no entry has
+pub none_seen : (es : Entries) (x : List ℕ) → false ≡ is_some (lookup (test x) es) → at_name (seen es) x ≡ None
+none_seen es x e = sym (get_lem x es) ∙ go (lookup (test x) es) e
+  where
+    go : (o : Option Variable) → false ≡ is_some o → option_map variable_in o ≡ None
+    go None h = refl
+    go (Some v) h = absurd cc
 
 -- a number that is put in a variable that is there
 pub put_over : (es : Entries) (k : Bor (List ℕ)) (old new : Variable) (fs : Entries) → Some old ≡ lookup (test k.now) es → fs ≡ insert_entry same es k new → new.is_set ≡ old.is_set → Some (seen fs) ≡ written (seen es) k.now (variable_in new).value

@@ -1,7 +1,7 @@
 -- Query texts that were read.
-use Rattle.std.specs.Prelude.{◌≡◌, ℕ, List, Box, map}
+use Rattle.std.specs.Prelude.{◌≡◌, ℕ, Bool, List, [], ◌∷◌, ◌++◌, Box, map, nat_eq, if◌then◌else◌}
 use Rattle.std.specs.Borrow.{Bor}
-use Rattle.std.specs.List.{AllByRecursion}
+use Rattle.std.specs.List.{AllByRecursion, list_any}
 use Rattle.std.specs.declared.alloc.Global.{Global}
 use Rattle.std.specs.declared.option.Option.TheVariants.{Some}
 use Rattle.qbs_base.specs.Values.{Schema}
@@ -10,6 +10,23 @@ use Rattle.sql_ast.specs.Reading.{query}
 use Rattle.sql_ast.specs.Tree.{PlainQuery}
 use Rattle.sql_exec.specs.Answered.{IsAnswerable}
 use Rattle.java_types.specs.Texts.{read_by}
+
+-- a schema under which query texts are read, and the numbers of the queries that may be asked many times, each once
+pub record Queries : Type 0 where
+  pub schema : Schema
+  pub repeated : List ℕ
+
+-- no text was read
+abbrev pub unread : Schema → Queries
+unread schema = record { schema = schema; repeated = [] }
+
+-- the numbers, with this one at the end where it is none of them
+abbrev pub with_number : List ℕ → ℕ → List ℕ
+with_number numbers n = if list_any (nat_eq n) numbers then numbers else numbers ++ n ∷ []
+
+-- the same where it is to be noted
+abbrev pub marked : Bool → List ℕ → ℕ → List ℕ
+marked noted numbers n = if noted then with_number numbers n else numbers
 
 -- the text has this query, which is answered
 pub record IsRead (schema : Schema) (text : List ℕ) (q : PlainQuery) : Type 0 where

@@ -2,6 +2,7 @@ pub mod Gives
 pub mod Held
 pub mod IsRead
 pub mod Met
+pub mod Numbered
 pub mod Placed
 pub mod Quick
 pub mod Running

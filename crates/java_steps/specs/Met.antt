@@ -31,6 +31,10 @@ has met k = list_any (λ j. same_cells (cells_in k) (cells_in j)) met.keys
 abbrev pub AreMet : BTreeSet Key → List Row → Type 0
 AreMet met rows = (k : Key) → has met k ≡ list_any (λ b. same_cells (cells_in k) b.cells) rows
 
+-- whether a row with these cells is among those that were met
+abbrev pub IsMet : BTreeSet Key → List Scalar → Bool → Type 0
+IsMet met cells found = (rows : List Row) → AreMet met rows → found ≡ list_any (λ row. same_cells cells row.cells) rows
+
 -- One row more is met: whether it is the first with its cells. Where it is not, the set stays.
 abbrev pub Meets : BTreeSet Key → Row → Bool → BTreeSet Key → Type 0
 Meets met row added later =

@@ -7,7 +7,7 @@ use Rattle.java_steps.specs.declared.source.Source.{Source}
 use Rattle.java_steps.specs.declared.machine.Machine.{Machine}
 
 abbrev pub world : Source → World
-world s = world_with s.queries (read_by s.queries) s.tables
+world s = world_with s.queries.schema (read_by s.queries.schema) s.tables
 
 abbrev pub state : Machine → State
 state m = record { store = m.store; lines = m.lines; turns = m.turns }

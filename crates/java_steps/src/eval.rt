@@ -17,7 +17,7 @@ use crate::firsts::first_rows;
 use crate::held::{Held, List, Variable, held_again, list_again, rows};
 use crate::operators::{applied, same_texts, settled, size_number};
 use crate::queries::ask;
-use crate::rows::{cell, element, is_among, row_at};
+use crate::rows::{cell, element, has_member, row_at};
 use crate::source::Source;
 use crate::stop::Stop;
 use crate::store::Store;
@@ -36,16 +36,31 @@ fn held<'b, 'a>(store: &'b Store<'a>, number: usize, name: &Name) -> Result<&'b 
     }
 }
 
-// The rows of a list or a set by its name.
-fn list<'b, 'a>(store: &'b Store<'a>, number: usize, name: &Name) -> Result<&'b [Row], Stop>
-    ensures { GivesBy (λ rows. rows.now) result (list_at store.now name.now) }
+// A list or a set by its name.
+fn list_held<'b, 'a>(store: &'b Store<'a>, number: usize, name: &Name) -> Result<&'b List<'a>, Stop>
+    ensures { GivesBy (λ l. rows_in l.now) result (list_at store.now name.now) }
 {
     match held(store, number, name)? {
         Held::One(_) => Err(Stop::Ends(Ending::Stuck)),
         Held::Whole(_) => Err(Stop::Ends(Ending::Stuck)),
         Held::Lent(_) => Err(Stop::Ends(Ending::Stuck)),
-        Held::Many(list) => Ok(rows(list)),
+        Held::Many(list) => Ok(list),
     }
+}
+
+// The rows of a list or a set by its name.
+fn list<'b, 'a>(store: &'b Store<'a>, number: usize, name: &Name) -> Result<&'b [Row], Stop>
+    ensures { GivesBy (λ rows. rows.now) result (list_at store.now name.now) }
+{
+    Ok(rows(list_held(store, number, name)?))
+}
+
+// Whether a scalar is a member of a list.
+#[inline(never)]
+fn has_scalar(alloc: Global, list: &List, x: Scalar) -> Result<Scalar, Stop>
+    ensures { GivesBy values.One result (Ok (meant.truth (meant.is_among (rows_in list.now) (meant.alone x)))) }
+{
+    Ok(Scalar::Bool(has_member(alloc, list, &[x])?))
 }
 
 // The scalar that a literal is.
@@ -215,9 +230,9 @@ fn contained(
 ) -> Result<Scalar, Stop>
     ensures { GivesBy values.One result (contained_in list_name.now (expression a.now) (world source.now) store.now) }
 {
-    let rows = list(store, source.numbers.at(*at), list_name)?;
+    let list = list_held(store, source.numbers.at(*at), list_name)?;
     let y = scalar(a, source, store)?;
-    Ok(Scalar::Bool(is_among(rows, &[y])))
+    has_scalar(source.alloc, list, y)
 }
 
 // The rows that an expression gives, each at its first place.

@@ -5,7 +5,8 @@ ghost use Rattle.java_mean.specs.Expression.{same_member};
 ghost use Rattle.java_steps.specs.Held.{rows_in};
 ghost use Rattle.java_steps.specs.Met.{Takes};
 
-use crate::held::{List, list_of, rows};
+use crate::held::{List, list_of_members, rows};
+use crate::members::Members;
 use crate::met::{Key, meet};
 use qbs_base::{NoMemory, Row, Rows, copy_row};
 use std::alloc::Global;
@@ -37,10 +38,11 @@ fn firsts_of(alloc: Global, rows: &[Row]) -> Result<Vec<Row>, NoMemory>
     Ok(list)
 }
 
-/// Each row once, in the order in which they occur first.
+/// Each row once, in the order in which they occur first, as a set that knows its members.
 #[inline(never)]
 pub fn first_rows<'a>(alloc: Global, list: &List) -> Result<List<'a>, NoMemory>
     ensures { IfOk result (λ l. rows_in l ≡ firsts same_member (rows_in list.now)) }
 {
-    list_of(alloc, Rows::from_vec(firsts_of(alloc, rows(list))?))
+    let rows = Rows::from_vec(firsts_of(alloc, rows(list))?);
+    list_of_members(alloc, Members::from_rows(alloc, rows)?)
 }

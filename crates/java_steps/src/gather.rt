@@ -15,7 +15,7 @@ fn in_expression<'a>(
     numbers: &mut Numbers<'a>,
     is_repeated: bool,
 ) -> Result<(), NoMemory>
-    ensures { queries.new ≡ queries.old }
+    ensures { queries.new.schema ≡ queries.old.schema }
 {
     match &e.node {
         ExprNode::Lit(_) => Ok(()),
@@ -65,7 +65,7 @@ fn in_expressions<'a>(
     numbers: &mut Numbers<'a>,
     is_repeated: bool,
 ) -> Result<(), NoMemory>
-    ensures { queries.new ≡ queries.old }
+    ensures { queries.new.schema ≡ queries.old.schema }
 {
     for e in es {
         in_expression(e, queries, numbers, is_repeated)?;
@@ -81,7 +81,7 @@ fn in_statement<'a>(
     numbers: &mut Numbers<'a>,
     is_repeated: bool,
 ) -> Result<(), NoMemory>
-    ensures { queries.new ≡ queries.old }
+    ensures { queries.new.schema ≡ queries.old.schema }
 {
     match &s.node {
         StmtNode::Declare { name, value, .. } => {
@@ -141,7 +141,7 @@ pub fn gather<'a>(
     numbers: &mut Numbers<'a>,
     is_repeated: bool,
 ) -> Result<(), NoMemory>
-    ensures { queries.new ≡ queries.old }
+    ensures { queries.new.schema ≡ queries.old.schema }
 {
     for s in block {
         in_statement(s, queries, numbers, is_repeated)?;

@@ -1,13 +1,14 @@
 // Query texts that were read.
-ghost use Rattle.std.specs.Prelude.{◌≡◌, IfOk, IfSome, box_value};
+ghost use Rattle.std.specs.Prelude.{◌≡◌, ◌&&◌, IfOk, OnOk, IfSome, is_some, true, box_value, nat_eq};
+ghost use Rattle.std.specs.List.{list_any};
 ghost use Rattle.std.specs.Option.{option_map};
 ghost use Rattle.sql_ast.specs.Reading.{query};
 ghost use Rattle.java_types.specs.Texts.{read_by};
-ghost use Rattle.java_steps.specs.IsRead.{IsRead};
+ghost use Rattle.java_steps.specs.IsRead.{IsRead, marked, unread};
 
 use crate::placed::at_place;
 use crate::tables::Tables;
-use indexmap::IndexMap;
+use indexmap::{IndexMap, IndexSet};
 use qbs_base::{Db, Fail, NoMemory, Text};
 use schema::Schema;
 use sql_ast::Query;
@@ -33,23 +34,23 @@ pub fn read_query(
     }
 }
 
-/// The queries of texts under a schema, as which contracts see it: each text is read once. Which of
-/// them are repeated says only how their answers are found, so nothing is promised of it.
+/// The queries of texts under a schema, each text read once, and the numbers of those that may be
+/// asked many times.
 #[derive(Drop)]
 pub struct Queries<'a> {
     alloc: Global,
     schema: &'a Schema,
     known: IndexMap<&'a [u8], Box<Query>>,
-    repeated: Vec<bool>,
+    repeated: IndexSet<usize>,
 }
 
 impl<'a> Model for Queries<'a> {
-    ghost use Rattle.qbs_base.specs.Values as values;
+    ghost use Rattle.java_steps.specs.IsRead as texts;
     ghost use Rattle.java_steps.specs.IsRead.{AreRead, unboxed};
 
-    ghost Value = { values.Schema };
+    ghost Value = { texts.Queries };
 
-    ghost view = { λ q. q.schema.now };
+    ghost view = { λ q. record { schema = q.schema.now; repeated = q.repeated.keys } };
 
     ghost invariant = { λ q. AreRead q.schema.now (unboxed q.known.entries) };
 }
@@ -57,26 +58,26 @@ impl<'a> Model for Queries<'a> {
 impl<'a> Queries<'a> {
     /// No texts were read.
     pub fn new(alloc: Global, schema: &'a Schema) -> Queries<'a>
-        ensures { result ≡ schema.now }
+        ensures { result ≡ unread schema.now }
     {
         Queries {
             alloc,
             schema,
             known: IndexMap::new(alloc),
-            repeated: Vec::new(alloc),
+            repeated: IndexSet::new(alloc),
         }
     }
 
     /// The schema.
     pub fn schema(&self) -> &Schema
-        ensures { result.now ≡ self.now }
+        ensures { result.now ≡ self.now.schema }
     {
         self.schema
     }
 
     /// The query of a text that was read and has one, which is looked for by its number first.
     pub fn find(&self, number: usize, text: &Text) -> Option<&Query>
-        ensures { IfSome result (λ q. IsRead self.now text.now (query q.now)) }
+        ensures { IfSome result (λ q. IsRead self.now.schema text.now (query q.now)) }
     {
         match at_place(&self.known, number, text.as_slice()) {
             Some(q) => Some(q),
@@ -85,7 +86,7 @@ impl<'a> Queries<'a> {
     }
 
     fn keep(&mut self, text: &'a Text, q: Box<Query>) -> Result<usize, NoMemory>
-        requires { IsRead self.old text.now (query q.value) }
+        requires { IsRead self.old.schema text.now (query q.value) }
         ensures { self.new ≡ self.old }
     {
         match self.known.insert_full(text.as_slice(), q) {
@@ -96,26 +97,30 @@ impl<'a> Queries<'a> {
 
     // Notes that a query is repeated, or nothing.
     fn note(&mut self, number: usize, is_repeated: bool) -> Result<(), NoMemory>
-        ensures { self.new ≡ self.old }
+        ensures schema { self.new.schema ≡ self.old.schema }
+        ensures repeated { OnOk result (self.new.repeated ≡ marked is_repeated self.old.repeated number) }
     {
-        if !is_repeated {
-            return Ok(());
-        }
-        if number >= self.repeated.len() {
-            self.repeated.resize(number.saturating_add(1), false)?;
-        }
-        if number < self.repeated.len() {
-            self.repeated[number] = true;
+        if is_repeated {
+            self.repeated.insert(number)?;
         }
         Ok(())
     }
 
+    // The number of a text that was read and has a query.
+    fn number_of(&self, text: &Text) -> Option<usize>
+        ensures { IfSome result (λ number. is_some (read_by self.now.schema text.now) ≡ true) }
+    {
+        self.known.get_index_of(text.as_slice())
+    }
+
     /// Reads a text, where it wasn't read before or has no query, and gives its number, which means
     /// nothing where it has none. The query is repeated where it is so at one place at least.
+    #[tactic(auto, using(crate::proofs::Readings::marked_known, crate::proofs::Readings::marked_read, crate::proofs::Readings::unmarked))]
     pub fn read(&mut self, text: &'a Text, is_repeated: bool) -> Result<usize, NoMemory>
-        ensures { self.new ≡ self.old }
+        ensures schema { self.new.schema ≡ self.old.schema }
+        ensures repeated { IfOk result (λ number. self.new.repeated ≡ marked (is_repeated && is_some (read_by self.old.schema text.now)) self.old.repeated number) }
     {
-        if let Some(number) = self.known.get_index_of(text.as_slice()) {
+        if let Some(number) = self.number_of(text) {
             self.note(number, is_repeated)?;
             return Ok(number);
         }
@@ -130,11 +135,10 @@ impl<'a> Queries<'a> {
     }
 
     /// Whether the query with this number may be asked many times.
-    pub fn is_repeated(&self, number: usize) -> bool {
-        match self.repeated.get(number) {
-            Some(is_repeated) => *is_repeated,
-            None => false,
-        }
+    pub fn is_repeated(&self, number: usize) -> bool
+        ensures { result ≡ list_any (nat_eq number) self.now.repeated }
+    {
+        self.repeated.contains(&number)
     }
 
     // The same tables, with lookups for the query with this number where it is repeated.
@@ -155,7 +159,7 @@ impl<'a> Queries<'a> {
         ensures { IfOk result (λ t. t ≡ db.now) }
     {
         let mut tables = Tables::new(self.alloc, db);
-        for number in 0..self.repeated.len() {
+        for number in 0..self.known.len() {
             tables = self.add_lookups(tables, number)?;
         }
         Ok(tables)

@@ -1,9 +1,11 @@
 // Sets that know their members.
 ghost use Rattle.std.specs.Prelude.{◌≡◌, true, IfOk};
+ghost use Rattle.std.specs.List.{list_any};
+ghost use Rattle.qbs_base.specs.Scalar.{same_cells};
 ghost use Rattle.java_mean.specs.Statement.{added};
 
-use crate::met::{Key, meet, met_rows};
-use qbs_base::{NoMemory, Row, Rows};
+use crate::met::{Key, meet, met_rows, was_met};
+use qbs_base::{NoMemory, Row, Rows, Scalar};
 use std::alloc::Global;
 use std::collections::BTreeSet;
 use std::marker::Model;
@@ -43,6 +45,13 @@ impl Members {
         ensures { result.now ≡ self.now }
     {
         self.rows.as_slice()
+    }
+
+    /// Whether a row with these cells is among them, by one look-up and no walk.
+    pub fn contains(&self, alloc: Global, cells: &[Scalar]) -> Result<bool, NoMemory>
+        ensures { IfOk result (λ found. found ≡ list_any (λ row. same_cells cells.now row.cells) self.now) }
+    {
+        was_met(alloc, &self.met, cells)
     }
 
     /// The rows alone. It takes no memory.

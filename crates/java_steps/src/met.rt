@@ -1,6 +1,6 @@
 // Rows that were met, by their cells.
 ghost use Rattle.std.specs.Prelude.{◌≡◌, IfOk};
-ghost use Rattle.java_steps.specs.Met.{atom_in, cells_in, AreMet, Meets};
+ghost use Rattle.java_steps.specs.Met.{atom_in, cells_in, AreMet, IsMet, Meets};
 
 use qbs_base::{NoMemory, Row, Scalar, Text};
 use std::alloc::Global;
@@ -44,6 +44,14 @@ pub fn meet(alloc: Global, met: &mut BTreeSet<Key>, row: &Row) -> Result<bool, N
 {
     let key = key_of(alloc, row.cells.as_slice())?;
     Ok(met.insert(key)?)
+}
+
+/// Whether a row with these cells was met. It takes one look-up in the set and no walk over the rows.
+pub fn was_met(alloc: Global, met: &BTreeSet<Key>, cells: &[Scalar]) -> Result<bool, NoMemory>
+    ensures { IfOk result (IsMet met.now cells.now) }
+{
+    let key = key_of(alloc, cells)?;
+    Ok(met.contains(&key))
 }
 
 /// The set of what the cells of some rows are.

@@ -1,5 +1,5 @@
 // Values under keys, where the place of a key is mostly known.
-ghost use Rattle.std.specs.Prelude.{◌≡◌, IsTrue, IfOk, IfSome, OnOk, Some};
+ghost use Rattle.std.specs.Prelude.{◌≡◌, IsTrue, IfOk, IfSome, IfNone, OnOk, Some};
 ghost use Rattle.std.specs.Map.{lookup};
 ghost use Rattle.std.specs.Option.{option_copied};
 ghost use Rattle.indexmap.specs.IndexMap.{insert_entry};
@@ -37,7 +37,8 @@ pub fn at_place<'b, 'a, V>(
 
 /// The value at a place, where the key stands there.
 pub fn there<'b, 'a, V>(map: &'b IndexMap<&'a [u8], V>, place: usize, key: &[u8]) -> Option<&'b V>
-    ensures { IfSome result (λ v. IsAt map.now.entries place key.now v.now) }
+    ensures found { IfSome result (λ v. IsAt map.now.entries place key.now v.now) }
+    ensures none { IfNone result (Stands map.now.entries place key.now → ⊥) }
 {
     match map.get_index(place) {
         Some((found, value)) => {

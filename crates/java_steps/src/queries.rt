@@ -40,7 +40,7 @@ fn answer_of<'a>(
     args: &Scalars,
     is_repeated: bool,
 ) -> Result<Held<'a>, Stop>
-    requires { IsRead source.now.queries text.now (query q.now) }
+    requires { IsRead source.now.queries.schema text.now (query q.now) }
     ensures { GivesBy value_in result (meant.answered at ((world source.now).ask text.now args.now)) }
 {
     value_of(

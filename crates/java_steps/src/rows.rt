@@ -71,8 +71,8 @@ pub fn same_cells(a: &[Scalar], b: &[Scalar]) -> bool
     true
 }
 
-/// Whether a row with these cells is a member of a list.
-pub fn is_among(rows: &[Row], cells: &[Scalar]) -> bool
+// Whether a row with these cells is one of these.
+fn is_among(rows: &[Row], cells: &[Scalar]) -> bool
     ensures { result ≡ list_any (λ b. scalars.same_cells cells.now b.cells) rows.now }
 {
     for row in rows {
@@ -81,6 +81,18 @@ pub fn is_among(rows: &[Row], cells: &[Scalar]) -> bool
         }
     }
     false
+}
+
+/// Whether a row with these cells is a member of a list. In a set that knows its members it is looked
+/// up, and no row is walked over.
+pub fn has_member(alloc: Global, list: &List, cells: &[Scalar]) -> Result<bool, NoMemory>
+    ensures { IfOk result (λ found. found ≡ list_any (λ b. scalars.same_cells cells.now b.cells) (rows_in list.now)) }
+{
+    match list {
+        List::Lent(rows) => Ok(is_among(rows, cells)),
+        List::Shared(rows) => Ok(is_among(rows.as_slice(), cells)),
+        List::Distinct(members) => members.contains(alloc, cells),
+    }
 }
 
 /// The row at a place of a list.

@@ -1,6 +1,8 @@
 // What statements that hold no others do, and what those that do ask first.
-ghost use Rattle.std.specs.Prelude.{◌≡◌, IfOk, OnOk, IsTrue, IsFalse, Ok, option_map};
-ghost use Rattle.java_ast.specs.Reading.{expression, spelled, statement};
+ghost use Rattle.std.specs.Prelude.{◌≡◌, IfOk, OnOk, option_map};
+ghost use Rattle.qbs_base.specs.declared.scalar.Scalar.TheVariants.{Long};
+ghost use Rattle.qbs_base.specs.declared.scalar.Value.TheVariants.{One};
+ghost use Rattle.java_ast.specs.Reading.{expression, spelled};
 ghost use Rattle.java_mean.specs.Expression.{value_of as meant_value};
 ghost use Rattle.java_mean.specs.Statement as meant;
 ghost use Rattle.java_mean.specs.Statement.{test_of};
@@ -18,7 +20,7 @@ use crate::sorting::sorted;
 use crate::source::Source;
 use crate::stop::Stop;
 use crate::store::Store;
-use java_ast::{Expr, JTy, Stmt, StmtNode};
+use java_ast::{Expr, JTy};
 use java_mean::Ending;
 use qbs_base::{Name, NoMemory, Row, Scalar, Text, copy_text};
 use std::alloc::Global;
@@ -103,7 +105,19 @@ fn put_value<'a>(
     Ok(())
 }
 
-/// Puts the value of an expression in a variable.
+// Puts a number in a variable.
+#[tactic(auto, using(crate::proofs::Quickly::written_over, crate::proofs::Quickly::not_there))]
+fn put_long<'a>(number: usize, name: &'a Name, n: i64, m: &mut Machine<'a>) -> Result<(), Stop>
+    ensures { Goes result (state m.new) (assigned (state m.old) name.now (One (Long n))) }
+{
+    if m.store.set_long(number, name, n) {
+        return Ok(());
+    }
+    Err(Stop::Ends(Ending::Stuck))
+}
+
+/// Puts the value of an expression in a variable. Most turns of a loop count, so that for a number
+/// nothing else is made on the way.
 #[inline(never)]
 pub fn assign<'a>(
     source: &Source<'a>,
@@ -114,23 +128,10 @@ pub fn assign<'a>(
 ) -> Result<(), Stop>
     ensures { Goes result (state m.new) (assigns name.now (expression value.now) (world source.now) (state m.old)) }
 {
-    put_value(number, name, eval(value, source, &m.store)?, m)
-}
-
-/// Does what a statement does, where it puts a number in a variable and no fault comes, and says
-/// whether it did. Most turns of a loop count, so that nothing else is made for them.
-#[tactic(auto, using(crate::proofs::Quickly::written_over))]
-pub fn counts<'a>(source: &Source<'a>, s: &'a Stmt, m: &mut Machine<'a>) -> bool
-    ensures does { IsTrue result → meant.meaning (statement s.now) (world source.now) (state m.old) ≡ Ok (meant.GoesOn (state m.new)) }
-    ensures kept { IsFalse result → state m.new ≡ state m.old }
-{
-    let StmtNode::Assign { name, value } = &s.node else {
-        return false;
-    };
-    let Some(n) = long(value, source, &m.store) else {
-        return false;
-    };
-    m.store.set_long(source.numbers.at(s.span), name, n)
+    match long(value, source, &m.store) {
+        Some(n) => put_long(number, name, n, m),
+        None => put_value(number, name, eval(value, source, &m.store)?, m),
+    }
 }
 
 // A list that holds nothing, in place of one that is being changed.
@@ -197,7 +198,7 @@ pub fn sort<'a>(
     down: &[bool],
     m: &mut Machine<'a>,
 ) -> Result<(), Stop>
-    ensures { Goes result (state m.new) (sorts source.now.queries name.now keys.now down.now (state m.old)) }
+    ensures { Goes result (state m.new) (sorts source.now.queries.schema name.now keys.now down.now (state m.old)) }
 {
     let Some(old) = m.store.replace(number, name, nothing())? else {
         return Err(Stop::Ends(Ending::Stuck));

@@ -1,11 +1,12 @@
 // The variables of a run.
-ghost use Rattle.std.specs.Prelude.{◌≡◌, [], IfOk, OnOk, IsTrue, IsFalse, Some};
+ghost use Rattle.std.specs.Prelude.{◌≡◌, [], IfOk, OnOk, IsTrue, IsFalse, Some, None};
 ghost use Rattle.std.specs.Option.{option_copied, option_map};
 ghost use Rattle.qbs_base.specs.Named.{at_name};
 ghost use Rattle.java_mean.specs.Store.{put};
 ghost use Rattle.qbs_base.specs.declared.scalar.Scalar.TheVariants.{Long};
 ghost use Rattle.qbs_base.specs.declared.scalar.Value.TheVariants.{One};
 ghost use Rattle.java_steps.specs.Held.{seen, value_in, variable_in};
+ghost use Rattle.java_steps.specs.Placed.{Stands};
 ghost use Rattle.java_steps.specs.Quick.{written};
 
 use crate::held::{Held, Variable};
@@ -59,6 +60,7 @@ fn put_held<'a>(
 ) -> bool
     ensures set { IsTrue result → Some (seen variables.new.entries) ≡ written (seen variables.old.entries) name.now (value_in held.entry) }
     ensures kept { IsFalse result → variables.new ≡ variables.old }
+    ensures away { IsFalse result → Stands variables.old.entries place name.now → ⊥ }
 {
     let Some(variable) = there(variables, place, name) else {
         return false;
@@ -66,6 +68,12 @@ fn put_held<'a>(
     let is_set = variable.is_set;
     put_there(variables, place, name, Variable { held, is_set });
     true
+}
+
+fn long_held<'a>(n: i64) -> Held<'a>
+    ensures { value_in result ≡ One (Long n) }
+{
+    Held::One(Scalar::Long(n))
 }
 
 impl<'a> Store<'a> {
@@ -108,14 +116,24 @@ impl<'a> Store<'a> {
         Ok(put.1)
     }
 
-    /// Puts a number in the variable of this name, which stays a set or none, and says whether it did:
-    /// it does where the variable stands at the place of its number.
+    /// Puts a number in the variable of this name, which stays a set or none, and says whether there is
+    /// one. It is looked for by its number first.
     pub fn set_long(&mut self, number: usize, name: &'a Name, n: i64) -> bool
         ensures set { IsTrue result → Some self.new ≡ written self.old name.now (One (Long n)) }
+        ensures none { IsFalse result → at_name self.old name.now ≡ None }
         ensures kept { IsFalse result → self.new ≡ self.old }
     {
         let place = place_of(self.places.as_slice(), number);
-        let held = Held::One(Scalar::Long(n));
-        put_held(&mut self.variables, place, name.as_slice(), held)
+        let name = name.as_slice();
+        if put_held(&mut self.variables, place, name, long_held(n)) {
+            return true;
+        }
+        match self.variables.get_index_of(name) {
+            Some(place) => {
+                note(&mut self.places, number, place);
+                put_held(&mut self.variables, place, name, long_held(n))
+            }
+            None => false,
+        }
     }
 }
