@@ -14,7 +14,7 @@ use java_steps::machine::Machine;
 use java_steps::numbers::Slot;
 use java_steps::rows::member;
 use java_steps::source::Source;
-use java_steps::steps::{add, assign, counts, declare, give_back, print, rows_of, sort, test};
+use java_steps::steps::{add, assign, declare, give_back, print, rows_of, sort, test};
 use java_steps::stop::Stop;
 
 /// Runs statements one after the other, as long as they go on.
@@ -41,21 +41,10 @@ pub fn run_block<'a>(
 }
 
 // Runs a statement.
-#[cycle(run)]
-fn run_statement<'a>(s: &'a Stmt, source: &Source<'a>, m: &mut Machine<'a>) -> Result<Way, Stop>
-    ensures { Passes result m.new (meaning (statement s.now) (world source.now) (state m.old)) }
-{
-    if counts(source, s, m) {
-        return Ok(Way::On);
-    }
-    run_any(s, source, m)
-}
-
-// Runs any statement.
 #[inline(never)]
 #[cycle(run)]
 #[tactic(auto, using(java_ast::proofs::Nodes::nodes, crate::proofs::Branches::if_true, crate::proofs::Branches::if_false, crate::proofs::Branches::for_each_over))]
-fn run_any<'a>(s: &'a Stmt, source: &Source<'a>, m: &mut Machine<'a>) -> Result<Way, Stop>
+fn run_statement<'a>(s: &'a Stmt, source: &Source<'a>, m: &mut Machine<'a>) -> Result<Way, Stop>
     ensures { Passes result m.new (meaning (statement s.now) (world source.now) (state m.old)) }
 {
     match &s.node {

@@ -11,18 +11,18 @@ use Rattle.java_interp.proofs.Passing.{each_left, each_on, each_out, each_return
 use Rattle.java_interp.proofs.Turns.{repeat_stops}
 use Rattle.java_interp.proofs.running.+run.Goals as goal
 
-pub run_any-returns-then-branch : goal.run_any-returns-then-branch
-run_any-returns-then-branch t c =
+pub run_statement-returns-then-branch : goal.run_statement-returns-then-branch
+run_statement-returns-then-branch t c =
     if_true c.args.s.now c.in-If.cond c.in-If.yes c.in-If.other c.deref.result.now (world c.args.source.now) (state c.args.m.now) c.run_block.result c.run_block.new.m
     c.in-If.is c.deref.ensures.value (c.in_ok-test-in-If.ensures ∙ ap Ok c.if-branch.true) c.run_block.ensures
 
-pub run_any-returns-in-Some : goal.run_any-returns-in-Some
-run_any-returns-in-Some t c =
+pub run_statement-returns-in-Some : goal.run_statement-returns-in-Some
+run_statement-returns-in-Some t c =
     if_false c.args.s.now c.in-If.cond c.in-If.yes c.in-Some.other c.in-If.other c.deref-in-Some.result.now (world c.args.source.now) (state c.args.m.now) c.run_block-in-Some.result c.run_block-in-Some.new.m
     c.in-If.is c.in-Some.is c.deref-in-Some.ensures.value (c.in_ok-test-in-If.ensures ∙ ap Ok c.if-branch.false) c.run_block-in-Some.ensures
 
-pub run_any-returns-in_ok-rows-in-ForEach : goal.run_any-returns-in_ok-rows-in-ForEach
-run_any-returns-in_ok-rows-in-ForEach t c =
+pub run_statement-returns-in_ok-rows-in-ForEach : goal.run_statement-returns-in_ok-rows-in-ForEach
+run_statement-returns-in_ok-rows-in-ForEach t c =
     for_each_over c.args.s.now c.in-ForEach.ty c.in-ForEach.name c.in-ForEach.list c.in-ForEach.body c.deref-in-ForEach.result.now (rows_in c.in_ok-rows-in-ForEach.rows) (world c.args.source.now) (state c.args.m.now) c.run_each.result c.run_each.new.m
     c.in-ForEach.is c.deref-in-ForEach.ensures.value c.in_ok-rows-in-ForEach.ensures c.run_each.ensures
 
