@@ -1,4 +1,5 @@
 pub mod Bare
+pub mod Computed
 pub mod Kept
 pub mod Ruled
 pub mod Seen
