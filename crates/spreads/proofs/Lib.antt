@@ -1,0 +1,15 @@
+pub mod Chosen
+pub mod Computed
+pub mod Covering
+pub mod Itself
+pub mod Known
+pub mod Named
+pub mod Passing
+pub mod Repeated
+pub mod Selected
+pub mod Spreading
+pub mod Stated
+pub mod Transfer
+pub mod Truth
+pub mod Typed
+pub mod Typings

@@ -1,0 +1,9 @@
+pub mod Alone
+pub mod Conditions
+pub mod Covers
+pub mod Narrowed
+pub mod Passing
+pub mod Spread
+pub mod Staying
+pub mod Worked
+pub mod WorkedNarrow
