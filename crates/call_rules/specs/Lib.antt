@@ -1,0 +1,4 @@
+pub mod Faults
+pub mod Noted
+pub mod Cycles
+pub mod Candidates
