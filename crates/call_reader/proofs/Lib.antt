@@ -1,0 +1,5 @@
+pub mod Answered
+pub mod Computed
+pub mod Places
+pub mod Pushed
+pub mod Without

@@ -1,0 +1,4 @@
+pub mod Seen
+pub mod SpelledOut
+pub mod WithCalls
+pub mod Worked
