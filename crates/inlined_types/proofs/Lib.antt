@@ -1,0 +1,4 @@
+pub mod Computed
+pub mod Typed
+pub mod Ends
+pub mod Fit

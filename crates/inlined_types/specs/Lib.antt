@@ -1,0 +1,2 @@
+pub mod PlainTypes
+pub mod Worked
