@@ -1,0 +1,5 @@
+pub mod ExactChoices
+pub mod ExactChars
+pub mod ExactTexts
+pub mod ExactScalars
+mod CharLoops
