@@ -1,0 +1,3 @@
+pub mod ExactParts
+pub mod Onto
+pub mod Stored

@@ -1,0 +1,14 @@
+use Rattle.std.proofs.Common.{subst, sym, ◌∙◌}
+use Rattle.std.proofs.lemmas.Result.{err_from_is_err_and}
+use Rattle.readers.specs.Reading.{Fails}
+use Rattle.store_readers.specs.Reading.{times, list_at}
+use Rattle.store_readers.proofs.Onto.{fresh}
+use Rattle.store_readers.proofs.lists.lists.Goals as goal
+
+pub returns-in_err-rest : goal.returns-in_err-rest
+returns-in_err-rest c =
+    let p = err_from_is_err_and c.from_residual.result c.from_residual.ensures.1 in
+    rw (p.1, p.2) (subst (Fails c.in_err-rest.field-0.0) (fresh (times c.args.count list_at c.args.bytes.now)) (rw c.new-lists.ensures.items at c.in_err-rest.ensures))
+
+pub returns : goal.returns
+returns c = sym (fresh (times c.args.count list_at c.args.bytes.now)) ∙ (rw c.new-lists.ensures.items at c.in_ok-rest.ensures)
