@@ -21,7 +21,7 @@ use Rattle.words.specs.declared.command.Options.{Options}
 use Rattle.words.specs.Plain.{HasWords}
 use Rattle.words.specs.Reading.{plain}
 use Rattle.words.proofs.Exact.{reads_plain_words}
-use Rattle.deliveries.specs.Limits.{most_schema, most_source, most_bundle, most_tables}
+use Rattle.deliveries.specs.Limits.{most_schema, most_source, most_bundle, most_tables, most_dump}
 use Rattle.deliveries.specs.declared.plan.Plan.{Plan}
 use Rattle.plans.specs.Calls.{Call, Called, Calls, CallsNothing, arguments, word_refusal}
 use Rattle.plans.specs.Opening.{BreaksBundle, bundle_refusal, has_bundle, IsSchemaOf, BreaksSchema, schema_refusal, IsProgramOf, HasNoProgram, has_schema, has_program}
@@ -33,6 +33,7 @@ use Rattle.plans.specs.Tables.{table_file, AreRead, AreNotRead, reads_tables, Is
 use Rattle.qbs.specs.Check.{tells, checks, check_of, check}
 use Rattle.qbs.specs.Commands.{is_built, built, where_built, command, IsDue}
 use Rattle.qbs.specs.Complete.{HasFile, HaveTexts, HasSchema, HasSource, HasTables, HasCall, IsRight, IsEnd, IsEndWhere, IsListed, IsComplete}
+use Rattle.qbs.specs.Draw.{Draws, draw}
 use Rattle.qbs.specs.Make.{IsResult, IsNotDone, method_text, outcome_over, runs, make_of, make}
 use Rattle.qbs.specs.Pruners.{May}
 use Rattle.qbs.specs.Prove.{Proves, prove_of, prove}
@@ -229,6 +230,11 @@ make_listed : (n : ℕ) (plan : Plan) → make n plan → (plan.status ≡ statu
 make_listed n plan (inl h) = absurd h
 make_listed n plan (inr h) = runs_listed _ _ _ _ plan h.2
 
+-- ---- `schema`
+
+draw_listed : (files : Given) → ((name : List ℕ) → files.failed name → ⊥) → (o : Options) (dump : List ℕ) (plan : Plan) → HasFile files.told dump most_dump (λ bytes. Unit {0}) → draw files o dump plan → plan.status ≡ statuses.Ok
+draw_listed files calm o dump plan right h = (opens files calm dump most_dump (codes "dump") right.bytes (λ bytes. Draws o bytes) right.has right.within plan h).status
+
 -- ---- the whole
 
 built_ends : (files : Given) → ((name : List ℕ) → files.failed name → ⊥) → (may : May) (c : Command) (plan : Plan) → IsRight files.told c → built files may c plan → IsEnd c plan.status
@@ -242,7 +248,7 @@ built_ends files calm may (commands.Unnest o s t) plan right h = ap (λ (x : Pla
 built_ends files calm may (commands.Narrow o s t) plan right h = ap (λ (x : Plan). x.status) h
 built_ends files calm may (commands.Inline s t) plan right h = ap (λ (x : Plan). x.status) h
 built_ends files calm may (commands.Gather o s t) plan right h = ap (λ (x : Plan). x.status) h
-built_ends files calm may (commands.Schema o d) plan right h = ap (λ (x : Plan). x.status) h
+built_ends files calm may (commands.Schema o d) plan right h = draw_listed files calm o d plan right h
 built_ends files calm may (commands.View m s t) plan right h = ap (λ (x : Plan). x.status) h
 built_ends files calm may (commands.Map es) plan right h = ap (λ (x : Plan). x.status) h
 built_ends files calm may (commands.CheckMap m s) plan right h = ap (λ (x : Plan). x.status) h

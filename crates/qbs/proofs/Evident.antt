@@ -34,7 +34,7 @@ use Rattle.qbs.proofs.Checked.{all_same}
 use Rattle.qbs.proofs.Promised.{command_is, none_dropped, rewrite_drops_none, unread, no_program, where_ends}
 
 -- the plan of words that name a command, where its status is neither want of memory nor of words
-due_for : (files : Given) (may : May) (words : List (List ℕ)) (named : Command) (plan : Plan) → HasWords words named → IsDue files may words plan → (plan.status ≡ statuses.NoMemory → ⊥) → command files may named plan
+pub due_for : (files : Given) (may : May) (words : List (List ℕ)) (named : Command) (plan : Plan) → HasWords words named → IsDue files may words plan → (plan.status ≡ statuses.NoMemory → ⊥) → command files may named plan
 due_for files may words named plan has (inl memory) other = absurd (other (ap (λ (p : Plan). p.status) memory))
 due_for files may words named plan has (inr (inl bad)) other = absurd (bad.0 named has)
 due_for files may words named plan has (inr (inr (c, is, h))) other =
@@ -42,14 +42,14 @@ due_for files may words named plan has (inr (inr (c, is, h))) other =
     subst (λ (d : Command). command files may d plan) same h
 
 -- what is written where no write failed
-record IsWritten (files : Given) (may : May) (words : List (List ℕ)) (out rep : Change) (result : Status) : Type 0 where
-  plan : Plan
-  due : IsDue files may words plan
-  status : plan.status ≡ result
-  wrote_text : Appends out.old out.new plan.out
-  wrote_lines : Appends rep.old rep.new plan.rep
+pub record IsWritten (files : Given) (may : May) (words : List (List ℕ)) (out rep : Change) (result : Status) : Type 0 where
+  pub plan : Plan
+  pub due : IsDue files may words plan
+  pub status : plan.status ≡ result
+  pub wrote_text : Appends out.old out.new plan.out
+  pub wrote_lines : Appends rep.old rep.new plan.rep
 
-written : (files : Given) (may : May) (words : List (List ℕ)) (out rep : Change) (result : Status) → IsDone files may words out rep result → (result ≡ statuses.WriteFault → ⊥) → IsWritten files may words out rep result
+pub written : (files : Given) (may : May) (words : List (List ℕ)) (out rep : Change) (result : Status) → IsDone files may words out rep result → (result ≡ statuses.WriteFault → ⊥) → IsWritten files may words out rep result
 written files may words out rep result done other =
     elim done.delivered [
       | inl all ↦ record { plan = done.plan; due = done.due; status = sym all.0; wrote_text = all.1; wrote_lines = all.2 }

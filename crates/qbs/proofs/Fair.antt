@@ -19,7 +19,7 @@ use Rattle.sql_ast.specs.Meaning.{Answered, query_answer}
 use Rattle.words.specs.declared.command.Command.{Command}
 use Rattle.words.specs.declared.command.Command.TheVariants as commands
 use Rattle.words.specs.declared.command.Options.{Options}
-use Rattle.deliveries.specs.Limits.{most_schema, most_source, most_bundle}
+use Rattle.deliveries.specs.Limits.{most_schema, most_source, most_bundle, most_dump}
 use Rattle.deliveries.specs.declared.plan.Plan.{Plan}
 use Rattle.plans.specs.Calls.{Call}
 use Rattle.plans.specs.Opening.{IsSchemaOf, HasNoProgram}
@@ -30,6 +30,7 @@ use Rattle.plans.specs.Tables.{AreNotRead, IsFileOf, IsTableFile}
 use Rattle.qbs.specs.Check.{tells, check_of, check}
 use Rattle.qbs.specs.Commands.{is_built, built, where_built, command}
 use Rattle.qbs.specs.Top.{MayRead, ReadFailed}
+use Rattle.qbs.specs.Draw.{draw}
 use Rattle.qbs.specs.Make.{loops_text, method_text, IsNotDone, outcome_over, runs, make}
 use Rattle.qbs.specs.Pruners.{May}
 use Rattle.qbs.specs.Prove.{prove_of, prove}
@@ -183,6 +184,12 @@ module _ (files : Given) (Names : List ℕ → Type 0) where
   sql_fair schema folder query first tables_named plan (inr (s, read, inr (tables, is, inl h))) = not_texts_fair folder tables _ plan (tables_named s tables read is) h
   sql_fair schema folder query first tables_named plan (inr (s, read, inr (tables, is, inr (texts, are, h)))) = sql_of_fair tables query texts plan h
 
+  -- ---- `schema`
+
+  draw_fair : (o : Options) (dump : List ℕ) → Names dump → (plan : Plan) → draw files o dump plan → IsFair files Names plan
+  draw_fair o dump named plan (inl h) = not_read_fair dump most_dump (codes "dump") plan named h
+  draw_fair o dump named plan (inr (bytes, read, h)) = done_fair plan h.status
+
   -- ---- the whole
 
   unbuilt_fair : (plan : Plan) → plan ≡ not_yet → IsFair files Names plan
@@ -211,7 +218,7 @@ module _ (files : Given) (may : May) where
   built_fair (commands.Narrow o s t) plan h = unbuilt_fair files (MayRead files.told (commands.Narrow o s t)) plan h
   built_fair (commands.Inline s t) plan h = unbuilt_fair files (MayRead files.told (commands.Inline s t)) plan h
   built_fair (commands.Gather o s t) plan h = unbuilt_fair files (MayRead files.told (commands.Gather o s t)) plan h
-  built_fair (commands.Schema o d) plan h = unbuilt_fair files (MayRead files.told (commands.Schema o d)) plan h
+  built_fair (commands.Schema o d) plan h = draw_fair files (MayRead files.told (commands.Schema o d)) o d refl plan h
   built_fair (commands.View m s t) plan h = unbuilt_fair files (MayRead files.told (commands.View m s t)) plan h
   built_fair (commands.Map es) plan h = unbuilt_fair files (MayRead files.told (commands.Map es)) plan h
   built_fair (commands.CheckMap m s) plan h = unbuilt_fair files (MayRead files.told (commands.CheckMap m s)) plan h

@@ -2,6 +2,7 @@ pub mod AlikeRuns
 pub mod Asked
 pub mod Checked
 pub mod Completing
+pub mod Drawn
 pub mod Evident
 pub mod Fair
 pub mod Going

@@ -3,6 +3,7 @@ use Rattle.std.proofs.Common.{◌≡◌, ℕ, inl, inr, Bool, true, false, List,
 use Rattle.std.specs.Prelude.{IsSome}
 use Rattle.std.specs.List.{flat_map}
 use Rattle.qbs_base.specs.declared.scalar.Value.{Value}
+use Rattle.qbs_base.specs.declared.status.Status.{Status}
 use Rattle.qbs_base.specs.Values.{Schema, Database}
 use Rattle.java_ast.specs.Tree.{PlainMethod, PlainProgram}
 use Rattle.java_mean.specs.Outcome.{Outcome, Done, Faulted, OutOfTurns, Stuck, outcome, world_with}
@@ -22,7 +23,7 @@ use Rattle.words.specs.declared.command.Options.{Options}
 use Rattle.words.specs.Plain.{HasWords}
 use Rattle.words.specs.Reading.{plain}
 use Rattle.words.proofs.Exact.{reads_plain_words}
-use Rattle.deliveries.specs.Limits.{most_schema, most_source, most_bundle, most_tables}
+use Rattle.deliveries.specs.Limits.{most_schema, most_source, most_bundle, most_tables, most_dump}
 use Rattle.deliveries.specs.declared.plan.Plan.{Plan}
 use Rattle.plans.specs.Calls.{Call, Calls, CallsNothing, word_refusal}
 use Rattle.plans.specs.Opening.{BreaksBundle, bundle_refusal, has_bundle, IsSchemaOf, BreaksSchema, schema_refusal, IsProgramOf, HasNoProgram, has_schema, has_program}
@@ -31,6 +32,7 @@ use Rattle.plans.specs.Results.{names_of}
 use Rattle.deliveries.specs.Steps.{Ends, ends, refused, IsRead, IsNotRead, reads}
 use Rattle.plans.specs.Tables.{AreRead, AreNotRead, reads_tables, IsFileOf, IsTableFile, HasRows, LacksRows, data_refusal, has_rows}
 use Rattle.qbs.specs.Check.{tells, checks, check_of, check}
+use Rattle.qbs.specs.Draw.{Draws, draw}
 use Rattle.qbs.specs.Commands.{is_built, built, where_built, command, AreRefused}
 use Rattle.verdicts.specs.Reports.{verdict_line}
 use Rattle.qbs.specs.Make.{loops_text, method_text, summary, IsResult, IsNotDone, outcome_over, runs, make}
@@ -199,6 +201,23 @@ sql_one files schema folder query has_schema_file told calm =
     (λ texts. sql_of tables query texts) (tables_one files folder tables most_tables (table_files files schema folder s tables read is told) calm)
     (λ texts are. sql_of_one tables query texts)))
 
+-- ---- `schema`
+
+abbrev plan_with : Status → List ℕ → List ℕ → Plan
+plan_with status out rep = record { status = status; out = out; rep = rep }
+
+plans_one : (p q : Plan) → p.status ≡ q.status → p.out ≡ q.out → p.rep ≡ q.rep → p ≡ q
+plans_one p q x y z =
+    ap (λ (s : Status). plan_with s p.out p.rep) x ∙ (ap (λ (text : List ℕ). plan_with q.status text p.rep) y ∙ ap (λ (lines : List ℕ). plan_with q.status q.out lines) z)
+
+draws_alike : (o : Options) (dump : List ℕ) (p q : Plan) → Draws o dump p → Draws o dump q → Alike p q
+draws_alike o dump p q a b = inl (plans_one p q (a.status ∙ sym b.status) (a.is.text ∙ sym b.is.text) (a.is.report ∙ sym b.is.report))
+
+draw_one : (files : Given) (o : Options) (dump : List ℕ) → IsSome (files.told dump) → ((name : List ℕ) → files.failed name → ⊥) → HasOne (draw files o dump)
+draw_one files o dump has_dump calm =
+    step_one (IsRead files dump most_dump) (IsNotRead files dump most_dump (codes "dump")) (λ bytes. Draws o bytes) (read_one files dump most_dump (codes "dump") has_dump calm)
+    (λ bytes is. record { alike = draws_alike o bytes })
+
 -- ---- the whole
 
 built_one : (is : Bool) (next : Ends) → HasOne next → HasOne (where_built is next)
@@ -223,7 +242,7 @@ command_one files may (commands.Unnest o s t) told calm = record { alike = unbui
 command_one files may (commands.Narrow o s t) told calm = record { alike = unbuilt_one.alike }
 command_one files may (commands.Inline s t) told calm = record { alike = unbuilt_one.alike }
 command_one files may (commands.Gather o s t) told calm = record { alike = unbuilt_one.alike }
-command_one files may (commands.Schema o d) told calm = record { alike = unbuilt_one.alike }
+command_one files may (commands.Schema o d) told calm = record { alike = (draw_one files o d (told d refl) calm).alike }
 command_one files may (commands.View m s t) told calm = record { alike = unbuilt_one.alike }
 command_one files may (commands.Map es) told calm = record { alike = unbuilt_one.alike }
 command_one files may (commands.CheckMap m s) told calm = record { alike = unbuilt_one.alike }

@@ -117,7 +117,7 @@ none_read l (commands.Unnest o s t) files = reads_none l [] files
 none_read l (commands.Narrow o s t) files = reads_none l [] files
 none_read l (commands.Inline s t) files = reads_none l [] files
 none_read l (commands.Gather o s t) files = reads_none l [] files
-none_read l (commands.Schema o d) files = reads_none l [] files
+none_read l (commands.Schema o d) files = reads_none l (d ∷ []) files
 none_read l (commands.View m s t) files = reads_none l [] files
 none_read l (commands.Map es) files = reads_none l [] files
 none_read l (commands.CheckMap m s) files = reads_none l [] files
@@ -141,21 +141,22 @@ pub other_due : (files : Given) (may : May) (c : Command) (stop : Stop) →
     ((o : Options) (s t d m : List ℕ) (ws : List (List ℕ)) → c ≡ commands.Run o s t d m ws → ⊥) →
     ((s d q : List ℕ) → c ≡ commands.Sql s d q → ⊥) →
     ((n : ℕ) → c ≡ commands.Make n → ⊥) →
+    ((o : Options) (d : List ℕ) → c ≡ commands.Schema o d → ⊥) →
     StopsFor Status.NotYet (codes "qbs: not yet") [] stop → OrMemory (Err stop) (built files may c)
-other_due files may (commands.Rewrite o s t) stop rewrite prove check run sql make due = absurd (rewrite o s t refl)
-other_due files may (commands.Prove o s t) stop rewrite prove check run sql make due = absurd (prove o s t refl)
-other_due files may (commands.Check o s t b) stop rewrite prove check run sql make due = absurd (check o s t b refl)
-other_due files may (commands.Run o s t d method words) stop rewrite prove check run sql make due = absurd (run o s t d method words refl)
-other_due files may (commands.Sql s d q) stop rewrite prove check run sql make due = absurd (sql s d q refl)
-other_due files may (commands.Make n) stop rewrite prove check run sql make due = absurd (make n refl)
-other_due files may (commands.Unnest o s t) stop rewrite prove check run sql make due = refused_due stop due
-other_due files may (commands.Narrow o s t) stop rewrite prove check run sql make due = refused_due stop due
-other_due files may (commands.Inline s t) stop rewrite prove check run sql make due = refused_due stop due
-other_due files may (commands.Gather o s t) stop rewrite prove check run sql make due = refused_due stop due
-other_due files may (commands.Schema o d) stop rewrite prove check run sql make due = refused_due stop due
-other_due files may (commands.View m s t) stop rewrite prove check run sql make due = refused_due stop due
-other_due files may (commands.Map es) stop rewrite prove check run sql make due = refused_due stop due
-other_due files may (commands.CheckMap m s) stop rewrite prove check run sql make due = refused_due stop due
+other_due files may (commands.Rewrite o s t) stop rewrite prove check run sql make schema due = absurd (rewrite o s t refl)
+other_due files may (commands.Prove o s t) stop rewrite prove check run sql make schema due = absurd (prove o s t refl)
+other_due files may (commands.Check o s t b) stop rewrite prove check run sql make schema due = absurd (check o s t b refl)
+other_due files may (commands.Run o s t d method words) stop rewrite prove check run sql make schema due = absurd (run o s t d method words refl)
+other_due files may (commands.Sql s d q) stop rewrite prove check run sql make schema due = absurd (sql s d q refl)
+other_due files may (commands.Make n) stop rewrite prove check run sql make schema due = absurd (make n refl)
+other_due files may (commands.Unnest o s t) stop rewrite prove check run sql make schema due = refused_due stop due
+other_due files may (commands.Narrow o s t) stop rewrite prove check run sql make schema due = refused_due stop due
+other_due files may (commands.Inline s t) stop rewrite prove check run sql make schema due = refused_due stop due
+other_due files may (commands.Gather o s t) stop rewrite prove check run sql make schema due = refused_due stop due
+other_due files may (commands.Schema o d) stop rewrite prove check run sql make schema due = absurd (schema o d refl)
+other_due files may (commands.View m s t) stop rewrite prove check run sql make schema due = refused_due stop due
+other_due files may (commands.Map es) stop rewrite prove check run sql make schema due = refused_due stop due
+other_due files may (commands.CheckMap m s) stop rewrite prove check run sql make schema due = refused_due stop due
 
 -- a plan that is due and delivered
 pub done_by : (files : Given) (may : May) (words : List (List ℕ)) (out rep : Change) (status : Status) (result : Result Plan Stop) (plan : Plan) →

@@ -7,6 +7,7 @@ use Rattle.words.specs.Plain.{HasWords}
 use Rattle.deliveries.specs.Plan.{Given, no_memory, not_yet, bad_words}
 use Rattle.deliveries.specs.Steps.{Ends, ends, step}
 use Rattle.qbs.specs.Check.{check}
+use Rattle.qbs.specs.Draw.{draw}
 use Rattle.qbs.specs.Pruners.{May}
 use Rattle.qbs.specs.Prove.{prove}
 use Rattle.qbs.specs.Make.{make}
@@ -26,6 +27,7 @@ is_built (commands.Check o schema source bundle) = is_plain o
 is_built (commands.Run o schema source folder method words) = true
 is_built (commands.Sql schema folder query) = true
 is_built (commands.Make n) = true
+is_built (commands.Schema o dump) = true
 is_built _ = false
 
 -- what is due for a command that is built
@@ -36,6 +38,7 @@ built files may (commands.Check o schema source bundle) plan = check files schem
 built files may (commands.Run o schema source folder method words) plan = run files o schema source folder (record { method = method; words = words }) plan
 built files may (commands.Sql schema folder query) plan = sql files schema folder query plan
 built files may (commands.Make n) plan = make n plan
+built files may (commands.Schema o dump) plan = draw files o dump plan
 built files may _ plan = ends not_yet plan
 
 abbrev pub where_built : Bool → Ends → Ends

@@ -14,7 +14,7 @@ use Rattle.words.specs.declared.command.Command.TheVariants as commands
 use Rattle.words.specs.Plain.{HasWords}
 use Rattle.plans.specs.Calls.{Call, Called, Calls}
 use Rattle.plans.specs.Opening.{IsSchemaOf, IsProgramOf}
-use Rattle.deliveries.specs.Limits.{most_schema, most_source, most_bundle, most_tables}
+use Rattle.deliveries.specs.Limits.{most_schema, most_source, most_bundle, most_tables, most_dump}
 use Rattle.deliveries.specs.Plan.{Given}
 use Rattle.plans.specs.Tables.{table_file, HasRows}
 use Rattle.qbs.specs.Commands.{is_built}
@@ -65,6 +65,7 @@ IsRight told (commands.Run o schema source folder method words) =
     HasSchema told schema (λ tables. HasSource told source tables (λ p. HasCall p (record { method = method; words = words })) × HasTables told folder tables)
 IsRight told (commands.Sql schema folder query) =
     HasSchema told schema (λ tables. ((q : PlainQuery) × IsAsked tables query q) × HasTables told folder tables)
+IsRight told (commands.Schema o dump) = HasFile told dump most_dump (λ bytes. Unit {0})
 IsRight told _ = Unit {0}
 
 -- ---- The statuses
@@ -77,6 +78,7 @@ IsEnd (commands.Check o schema source bundle) status = (status ≡ Status.Ok) �
 IsEnd (commands.Run o schema source folder method words) status = (status ≡ Status.Ok) ⊎ (status ≡ Status.Faulted) ⊎ (status ≡ Status.Turns)
 IsEnd (commands.Sql schema folder query) status = (status ≡ Status.Ok) ⊎ (status ≡ Status.Faulted)
 IsEnd (commands.Make n) status = (status ≡ Status.Ok) ⊎ (status ≡ Status.Faulted) ⊎ (status ≡ Status.Turns)
+IsEnd (commands.Schema o dump) status = status ≡ Status.Ok
 IsEnd _ status = status ≡ Status.NotYet
 
 abbrev pub IsEndWhere : Bool → Command → Status → Type 0

@@ -2,6 +2,7 @@ pub mod Check
 pub mod Code
 pub mod Commands
 pub mod Complete
+pub mod Draw
 pub mod Evidence
 pub mod Headline
 pub mod Make

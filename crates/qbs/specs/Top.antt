@@ -38,6 +38,7 @@ MayRead told (commands.Prove o schema source) name = (name ≡ schema) ⊎ (name
 MayRead told (commands.Check o schema source bundle) name = (name ≡ schema) ⊎ (name ≡ source) ⊎ (name ≡ bundle)
 MayRead told (commands.Run o schema source folder method words) name = (name ≡ schema) ⊎ (name ≡ source) ⊎ IsTableFile told schema folder name
 MayRead told (commands.Sql schema folder query) name = (name ≡ schema) ⊎ IsTableFile told schema folder name
+MayRead told (commands.Schema o dump) name = name ≡ dump
 MayRead told _ name = ⊥
 
 -- they are told, and none of the reads failed
@@ -103,6 +104,7 @@ ReadsBuilt l (commands.Prove o schema source) old new = OnlyReads l (schema ∷ 
 ReadsBuilt l (commands.Check o schema source bundle) old new = OnlyReads l (schema ∷ source ∷ bundle ∷ []) old new
 ReadsBuilt l (commands.Run o schema source folder method words) old new = ReadsTables l (schema ∷ source ∷ []) folder schema old new
 ReadsBuilt l (commands.Sql schema folder query) old new = ReadsTables l (schema ∷ []) folder schema old new
+ReadsBuilt l (commands.Schema o dump) old new = OnlyReads l (dump ∷ []) old new
 ReadsBuilt l _ old new = OnlyReads l [] old new
 
 -- none are read for what isn't built

@@ -3,6 +3,7 @@
 
 mod check;
 mod clean;
+mod draw;
 pub mod laws;
 mod make;
 mod prove;

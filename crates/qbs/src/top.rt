@@ -8,6 +8,7 @@ ghost use Rattle.deliveries.specs.Plan.{given};
 ghost use Rattle.deliveries.specs.Reads.{looks};
 ghost use Rattle.qbs.specs.Commands.{HasNoWords, program, command as command_ends, built, is_built as built_with, is_plain as plain_options};
 ghost use Rattle.qbs.specs.Complete.{IsComplete};
+ghost use Rattle.qbs.specs.Draw.{HasDrawn};
 ghost use Rattle.qbs.specs.Evidence.{HasProof, HasCheck};
 ghost use Rattle.qbs.specs.Headline.{HasHeadline, DropsNone};
 ghost use Rattle.qbs.specs.Pruners.{may};
@@ -15,6 +16,7 @@ ghost use Rattle.qbs.specs.Top.{IsDone, CutShort, HasOnePlan, HasReadFault, Read
 ghost use Rattle.qbs.specs.Within.{IsWithin};
 
 use crate::check::plan_check;
+use crate::draw::plan_schema;
 use crate::make::plan_make;
 use crate::prove::plan_prove;
 use crate::rewrite::plan_rewrite;
@@ -65,6 +67,9 @@ pub fn qbs_main<F: Files, O: Sink, E: Sink>(
     // Where `check` ends well, all entries of the bundle read are accepted, and the program that they make does what the program read does.
     // Where it refuses, the line names the first entry that isn't accepted.
     ensures checked { HasCheck (given F.told F.faults F.may_fail files.old files.new) words.now (change O.told O.faults O.by_write out.old out.new) (change E.told E.faults E.by_write rep.old rep.new) result }
+
+    // Where `schema` ends well, the bytes written are a schema with exactly the tables that are drawn from the dump read.
+    ensures drawn { HasDrawn (given F.told F.faults F.may_fail files.old files.new) words.now (change O.told O.faults O.by_write out.old out.new) (change E.told E.faults E.by_write rep.old rep.new) result }
 
     // Where words are plain and all that is read is right, it ends as the command may end then.
     ensures complete { IsComplete (given F.told F.faults F.may_fail files.old files.new) words.now result }
@@ -144,6 +149,7 @@ fn is_built(command: &Command) -> bool
         Command::Run { .. } => true,
         Command::Sql { .. } => true,
         Command::Make { .. } => true,
+        Command::Schema { .. } => true,
         _ => false,
     }
 }
@@ -206,6 +212,7 @@ fn plan_built<F: Files>(
             ..
         } => plan_check(alloc, files, schema, source, bundle),
         Command::Make { count } => plan_make(alloc, *count),
+        Command::Schema { options, dump } => plan_schema(alloc, files, options, dump),
         Command::Sql {
             schema,
             folder,

@@ -39,8 +39,14 @@ returns-in-Make-clause-due g c = as_due _ _ c.args.command.now _ c.plan_make.res
 pub returns-in-Make-clause-reads : goal.returns-in-Make-clause-reads
 returns-in-Make-clause-reads g c = none_read (looks g.F.Files.told g.F.Files.faults g.F.Files.may_fail g.F.Files.by_read) c.args.command.now c.args.files.now
 
+pub returns-in-Schema-clause-due : goal.returns-in-Schema-clause-due
+returns-in-Schema-clause-due g c = as_due _ _ c.args.command.now _ c.plan_schema.result c.in-Schema.is c.plan_schema.ensures.due
+
+pub returns-in-Schema-clause-reads : goal.returns-in-Schema-clause-reads
+returns-in-Schema-clause-reads g c = as_read _ c.args.command.now _ _ _ c.in-Schema.is c.plan_schema.ensures.reads
+
 pub returns-in_default : goal.returns-in_default
 returns-in_default g c = record {
-  due = other_due (given g.F.Files.told g.F.Files.faults g.F.Files.may_fail c.args.files.now c.args.files.now) _ c.args.command.now c.refused.result c.in_default.not-Rewrite c.in_default.not-Prove c.in_default.not-Check c.in_default.not-Run c.in_default.not-Sql c.in_default.not-Make c.refused.ensures;
+  due = other_due (given g.F.Files.told g.F.Files.faults g.F.Files.may_fail c.args.files.now c.args.files.now) _ c.args.command.now c.refused.result c.in_default.not-Rewrite c.in_default.not-Prove c.in_default.not-Check c.in_default.not-Run c.in_default.not-Sql c.in_default.not-Make c.in_default.not-Schema c.refused.ensures;
   reads = none_read (looks g.F.Files.told g.F.Files.faults g.F.Files.may_fail g.F.Files.by_read) c.args.command.now c.args.files.now;
 }

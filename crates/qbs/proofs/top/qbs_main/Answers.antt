@@ -1,5 +1,6 @@
 use Rattle.qbs.proofs.Evident.{proved, checked, drops_none}
 use Rattle.qbs.proofs.Completing.{complete}
+use Rattle.qbs.proofs.Drawn.{drawn}
 use Rattle.qbs.proofs.OnePlan.{one_plan}
 use Rattle.qbs.proofs.Promised.{promised, headline, no_one}
 use Rattle.qbs.proofs.top.qbs_main.Goals as goal
@@ -15,6 +16,9 @@ returns-clause-proved g c = proved _ _ _ _ _ _ c.carry_out.ensures.done
 
 pub returns-clause-checked : goal.returns-clause-checked
 returns-clause-checked g c = checked _ _ _ _ _ _ c.carry_out.ensures.done
+
+pub returns-clause-drawn : goal.returns-clause-drawn
+returns-clause-drawn g c = drawn _ _ _ _ _ _ c.carry_out.ensures.done
 
 pub returns-clause-words : goal.returns-clause-words
 returns-clause-words g c = record {
