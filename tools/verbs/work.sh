@@ -115,11 +115,40 @@ take_schemas() {
         set_for "$number" schema ''
         [ -n "$value" ] || refuse "no schema for ${files[$number]}"
         [ ! -e "$schema_read" ] || continue
-        if ! take "$value" 262145 "$schema_read"; then
+        if ! take "$value" 16777217 "$schema_read"; then
             say "$verb: read $value"
             exit 2
         fi
+        draw "$value" "$schema_read"
     done
+}
+
+# draw NAME READ: where a file is no schema of the language, as the dump of a database isn't, what is read in its place is the schema that the program
+# draws from it. A line says so, and how much of it was taken. Where no table is taken the file stays, and its fault is told.
+draw() {
+    local counts
+    "$program" rewrite -- "$2" /dev/null >/dev/null 2>&1
+    case $? in 5 | 13) ;; *) return 0 ;; esac
+    "$program" schema -- "$2" >"$2.drawn" 2>"$2.counts" || return 0
+    grep -q '^CREATE TABLE ' "$2.drawn" || return 0
+    if grep -q '^-- table .*: left out, more than 64 tables' "$2.drawn"; then draw_named "$2" || return 0; fi
+    # (what is left out would count for the size of a schema)
+    grep -v '^ *--' "$2.drawn" >"$2.bare" || broken grep
+    mv "$2.bare" "$2.drawn"
+    counts=$(awk '{ printf "%s%s %s", (NR > 1 ? ", " : ""), $2 " of " $4, $1 }' "$2.counts") || broken awk
+    mv "$2.drawn" "$2" || broken mv
+    say "$verb: $1 is read as a dump: $counts are taken; qbs schema says of each why not"
+}
+
+# draw_named READ: of more tables than a schema has, those that a file names.
+draw_named() {
+    local number named
+    sed -nE 's/^(CREATE TABLE|-- table) ([A-Za-z0-9_]+)( \(|: left out, more than 64 tables.*)$/\2/p' "$1.drawn" | sort -u >"$1.tables" || broken sed
+    for number in "${!files[@]}"; do
+        if [ "$number" = "${stdin_number:-}" ]; then cat "$room/stdin"; else cat -- "${files[$number]}" 2>/dev/null; fi
+    done | grep -aoE '[A-Za-z_][A-Za-z0-9_]*' | sort -u | comm -12 - "$1.tables" | paste -sd , >"$1.named"
+    named=$(<"$1.named")
+    [ -z "$named" ] || "$program" schema --tables="$named" -- "$1" >"$1.drawn" 2>"$1.counts"
 }
 
 # try_all: every file, as many side by side as there are processors. On a terminal a line says how far it is.
