@@ -1,0 +1,14 @@
+pub mod Args
+pub mod Cases
+pub mod Computed
+pub mod Conjuncts
+pub mod Fine
+pub mod Loop
+pub mod Numbers
+pub mod Parts
+pub mod Places
+pub mod Program
+pub mod Query
+pub mod Truth
+pub mod Typed
+pub mod Walk
