@@ -1,0 +1,5 @@
+pub mod Ends
+pub mod Fresh
+pub mod Marks
+pub mod Noted
+pub mod Parts
