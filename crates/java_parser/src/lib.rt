@@ -3,6 +3,7 @@
 
 mod bounds;
 mod fault;
+mod key;
 mod once;
 mod parser;
 

@@ -1,5 +1,5 @@
 // The public readers: whole texts, and the faults that are kept.
-ghost use Rattle.std.specs.Prelude.{◌≡◌, ℕ, List, Ok, IfOk, IfErr, IfSome, IsSomeAnd, MatchResult};
+ghost use Rattle.std.specs.Prelude.{◌≡◌, ℕ, List, Ok, IfOk, IfErr, IsOkAnd, IfSome, IsSomeAnd, MatchResult};
 ghost use Rattle.readers.specs.Reading.{Gives, whole};
 ghost use Rattle.qbs_base.specs.Memory.{AnswersBy, IsNoMemory};
 ghost use Rattle.java_ast.specs.Reading.{spelled, expression as expression_of, program as program_of};
@@ -7,7 +7,7 @@ ghost use Rattle.java_ast.specs.Tree.{Spelled, Expression, PlainProgram};
 ghost use Rattle.java_grammar.specs.Marks.{all_strict};
 ghost use Rattle.java_grammar.specs.Types.{Spelling, Key};
 ghost use Rattle.java_grammar.specs.Expressions.{HasExpression};
-ghost use Rattle.java_grammar.specs.ReadingTypes.{spelling_at, key_at};
+ghost use Rattle.java_grammar.specs.ReadingTypes.{spelling_at};
 ghost use Rattle.java_grammar.specs.ReadingExpressions.{expression_at};
 ghost use Rattle.java_grammar.specs.Grammar.{HasProgram, IsProgram, IsReadable};
 ghost use Rattle.java_grammar.specs.ReadingPrograms.{program_in};
@@ -16,8 +16,9 @@ ghost use Rattle.java_parser.specs.Parsed.{parsed};
 
 use crate::bounds::fits_stack;
 use crate::fault::{ParseFault, ParseRule};
+use crate::key::whole_key;
 use java_ast::{Expr, JTy, Program};
-use java_grammar::{expression, key, program, spelling, unexpected};
+use java_grammar::{expression, program, spelling, unexpected};
 use java_lex::{Token, Tokens};
 use java_limits::DEEPEST;
 use qbs_base::{Fail, Name, NoMemory, Span};
@@ -46,18 +47,23 @@ fn fault(tokens: &Tokens, rule: ParseRule, left: usize) -> ParseFault
     }
 }
 
+/// What is wrong with these tokens.
+fn broken(tokens: &Tokens, error: Fault) -> ParseFault
+    ensures { Fail.Fault result ≡ kept tokens.now (ReadError.Fault error) }
+{
+    match error {
+        Fault::Unexpected(left) => fault(tokens, ParseRule::Unexpected, left),
+        Fault::TooDeep(left) => fault(tokens, ParseRule::TooDeep, left),
+    }
+}
+
 /// Why reading stopped, as a fault of these tokens.
 fn fail(tokens: &Tokens, error: ReadError) -> Fail<ParseFault>
     ensures { result ≡ kept tokens.now error }
 {
     match error {
         ReadError::Memory => Fail::NoMemory,
-        ReadError::Fault(Fault::Unexpected(left)) => {
-            Fail::Fault(fault(tokens, ParseRule::Unexpected, left))
-        }
-        ReadError::Fault(Fault::TooDeep(left)) => {
-            Fail::Fault(fault(tokens, ParseRule::TooDeep, left))
-        }
+        ReadError::Fault(fault) => Fail::Fault(broken(tokens, fault)),
     }
 }
 
@@ -69,16 +75,6 @@ fn whole_type(alloc: Global, tokens: &[Token]) -> Result<JTy, ReadError>
         return Err(unexpected(rest));
     }
     Ok(ty)
-}
-
-fn whole_key(tokens: &[Token]) -> Result<&Name, ReadError>
-    ensures { Gives (λ name. name.now) result (whole (key_at 64) (all_strict tokens.now)) }
-{
-    let (name, rest) = key(DEEPEST, tokens)?;
-    if !rest.is_empty() {
-        return Err(unexpected(rest));
-    }
-    Ok(name)
 }
 
 fn whole_expression(alloc: Global, tokens: &[Token]) -> Result<Expr, ReadError>
@@ -109,17 +105,17 @@ pub fn parse_type(alloc: Global, tokens: &Tokens) -> Result<JTy, Fail<ParseFault
 
 /// The column of the key of a sort that the tokens are, all of them. A fault stands at the first
 /// token with which no key goes on, or at the end.
-pub fn parse_key(tokens: &Tokens) -> Result<&Name, Fail<ParseFault>>
+pub fn parse_key(tokens: &Tokens) -> Result<&Name, ParseFault>
     // What is read has these tokens.
     ensures found { IfOk result (λ name. Key 64 (all_strict tokens.now.list) name.now) }
     // What has these tokens is read, and nothing else has them.
-    ensures only { (column : List ℕ) → Key 64 (all_strict tokens.now.list) column → MatchResult result (λ name. name.now ≡ column) IsNoMemory }
+    ensures only { (column : List ℕ) → Key 64 (all_strict tokens.now.list) column → IsOkAnd result (λ name. name.now ≡ column) }
     // A fault is the one that is kept.
-    ensures fault { IfErr result (IsKept (Key 64) tokens.now) }
+    ensures fault { IfErr result (λ f. IsKept (Key 64) tokens.now (Fail.Fault f)) }
 {
     match whole_key(tokens.list.as_slice()) {
         Ok(name) => Ok(name),
-        Err(error) => Err(fail(tokens, error)),
+        Err(error) => Err(broken(tokens, error)),
     }
 }
 

@@ -61,7 +61,7 @@ pub fn put_parsed_type(out: &mut String, alloc: Global, tokens: &Tokens) -> Resu
 pub fn put_key(out: &mut String, tokens: &Tokens) -> Result<(), NoMemory> {
     match parse_key(tokens) {
         Ok(column) => Ok(out.push_str(column.as_str())?),
-        Err(refusal) => put_refusal(out, &refusal),
+        Err(fault) => Ok(put_fault(out, &fault)?),
     }
 }
 
