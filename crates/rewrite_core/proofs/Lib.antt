@@ -26,6 +26,7 @@ pub mod HasAsks
 pub mod Keeping
 pub mod KeptFaultless
 pub mod Known
+pub mod KnownFound
 pub mod LoopOutcomes
 pub mod LoopPlaces
 pub mod LoopThere

@@ -1,8 +1,8 @@
 //! Laws of asks, for the crates above. They do nothing.
-ghost use Rattle.std.specs.Prelude.{◌≡◌, ℕ, Bool, true, false, ◌||◌, List, []};
+ghost use Rattle.std.specs.Prelude.{◌≡◌, ℕ, Bool, true, false, ◌||◌, List, [], map};
 ghost use Rattle.std.specs.List.{AllByRecursion};
 ghost use Rattle.std.specs.declared.option.Option.{Option};
-ghost use Rattle.std.specs.declared.option.Option.TheVariants.{None};
+ghost use Rattle.std.specs.declared.option.Option.TheVariants.{Some, None};
 ghost use Rattle.qbs_base.specs.Values.{Schema};
 ghost use Rattle.schema.specs.Rules.{IsSchema, AreNamed};
 ghost use Rattle.tor_axioms.specs.Accepts.{Proof};
@@ -49,6 +49,13 @@ pub fn whole_answers_are_given()
         → IsKernelLoop schema reader.read p path w
         → (here : MeansItsLoopThere schema reader.read p path w)
         → IsGivenThere (frame_of schema reader.read here.method) (seen_at schema here.method here.hole) w }
+{}
+
+/// At a loop of the kernel form the query of each known list is found, so that `queries_in` leaves none out.
+pub fn known_queries_are_found()
+    ensures { (schema : Schema) (read : List ℕ → Option PlainQuery) (p : PlainProgram) (path : List ℕ) (w : Setting)
+        → IsKernelLoop schema read p path w
+        → (lowering w).known ≡ map Some (queries_in (lowering w).known) }
 {}
 
 /// The asks that stand for a loop of the kernel form ask for what the loop makes: each is for the variable of a needed
