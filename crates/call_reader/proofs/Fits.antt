@@ -23,7 +23,7 @@ use Rattle.java_grammar.proofs.Fitting.{GoodToks, good_split, good_parts, NodeOf
 use Rattle.java_grammar.proofs.Fitted.{TypeFits, type_fits, StatementsFit, block_fits}
 use Rattle.call_reader.specs.SpelledOut.{spelled_out}
 use Rattle.call_reader.specs.WithCalls.{IsReadableWithCalls}
-use Rattle.call_grammar.proofs.Spelled.{spelled_out_good}
+use Rattle.call_reader.proofs.Spelled.{spelled_out_good}
 use Rattle.java_grammar.proofs.Programs.{word_no_star}
 
 -- ---- types
