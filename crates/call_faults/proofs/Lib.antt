@@ -1,0 +1,10 @@
+pub mod Calls
+pub mod Computed
+pub mod Faults
+pub mod Focus
+pub mod Goes
+pub mod Heads
+pub mod Inner
+pub mod Onward
+pub mod Positions
+pub mod Spelling

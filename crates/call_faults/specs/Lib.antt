@@ -1,0 +1,2 @@
+pub mod Larger
+pub mod Worked
