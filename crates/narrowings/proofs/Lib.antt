@@ -1,9 +1,12 @@
 pub mod Args
 pub mod Cases
 pub mod Computed
+pub mod ComputedTexts
 pub mod Conjuncts
+pub mod Filled
 pub mod Fine
 pub mod Loop
+pub mod Named
 pub mod Numbers
 pub mod Parts
 pub mod Places
@@ -12,3 +15,5 @@ pub mod Query
 pub mod Truth
 pub mod Typed
 pub mod Walk
+pub mod WrittenParts
+pub mod WrittenProgram

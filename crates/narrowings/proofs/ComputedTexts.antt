@@ -7,7 +7,7 @@ use Rattle.java_mean.specs.Queries.{Reader}
 use Rattle.spreads.specs.WorkedNarrow.{users, users_asked}
 use Rattle.narrowings.specs.Worked.{collecting}
 use Rattle.narrowings.proofs.Computed.{words, typed, numbers, narrowed}
-use Rattle.narrowings_written.proofs.Program.{narrowed_text}
+use Rattle.narrowings.proofs.WrittenProgram.{narrowed_text}
 
 grammar : IsInGrammar (collecting users)
 grammar = record {

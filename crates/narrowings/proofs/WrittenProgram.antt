@@ -40,8 +40,8 @@ use Rattle.narrowings.proofs.Parts.{both_so, PartIs}
 use Rattle.narrowings.proofs.Places.{Leads, leads_to, numbered_behind, rest_behind, none_first, one_first}
 use Rattle.narrowings.proofs.Program.{body_of, parts_in, read_in, IsQueryFor, IsBodyQuery, body_query, WalkIs, each_walk, pair_walk, var_is}
 use Rattle.narrowings.proofs.Query.{all_asked, asked_valid}
-use Rattle.narrowings_written.proofs.Filled.{program_in, program_written}
-use Rattle.narrowings_written.proofs.Parts.{taken_all, arguments_all, expressions_in, expressions_written, part_utf8}
+use Rattle.narrowings.proofs.Filled.{program_in, program_written}
+use Rattle.narrowings.proofs.WrittenParts.{taken_all, arguments_all, expressions_in, expressions_written, part_utf8}
 
 -- what holds of two lists' members, one by one
 both_each : (P Q R : Expression → Type 0) → ((e : Expression) → P e → Q e → R e) → (es : List Expression) → AllByRecursion P es → AllByRecursion Q es → AllByRecursion R es

@@ -1,5 +1,0 @@
-pub mod Computed
-pub mod Filled
-pub mod Named
-pub mod Parts
-pub mod Program

@@ -1,5 +1,0 @@
-use Rattle.narrowings_written.proofs.Named.{have_words}
-use Rattle.narrowings_written.proofs.laws.schemas_have_words.Goals as goal
-
-pub returns : goal.returns
-returns c = have_words
