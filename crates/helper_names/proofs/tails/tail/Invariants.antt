@@ -1,6 +1,0 @@
-use Rattle.std.proofs.Common.{◌≡◌, drop}
-use Rattle.helper_names.specs.Endings.{tail_from, tail_of}
-use Rattle.helper_names.proofs.tails.tail.Given as goal
-
-abbrev pub invariant-loop-i : goal.invariant-loop-i
-invariant-loop-i l = tail_from l.tail (drop l.i l.name) ≡ tail_of l.name

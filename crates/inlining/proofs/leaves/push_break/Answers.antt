@@ -1,0 +1,6 @@
+use Rattle.std.proofs.Common.{refl}
+use Rattle.inlining.proofs.Ones.{one_by}
+use Rattle.inlining.proofs.leaves.push_break.Goals as goal
+
+pub returns-in_ok-push-in-Pushed : goal.returns-in_ok-push-in-Pushed
+returns-in_ok-push-in-Pushed c = one_by c.args.counts.now c.spend.new.counts c.args.out.now.items c.push.new.self.items _ _ c.in_ok-push-in-Pushed.ensures.items refl c.in-Pushed.ensures

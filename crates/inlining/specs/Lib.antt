@@ -1,0 +1,4 @@
+pub mod Endings
+pub mod Inlined
+pub mod Walked
+pub mod Worked
