@@ -43,16 +43,37 @@ fn stop(alloc: Global, status: Status, line: String) -> Stop
     })
 }
 
+/// The refusal for a rule by its number and name, behind a text, at a place.
+pub fn rule_refused(
+    alloc: Global,
+    status: Status,
+    text: &str,
+    number: u64,
+    name: &str,
+    at: Span,
+) -> Stop
+    ensures { StopsWith (refusal status (text.now ++ rule_text number name.now at)) result }
+{
+    match rule_line(alloc, text, number, name, at) {
+        Ok(line) => stop(alloc, status, line),
+        Err(_) => Stop::Memory,
+    }
+}
+
 /// The refusal of a source without tokens.
 pub fn lex_refused(alloc: Global, fault: &LexFault) -> Stop
     ensures { StopsWith (lex_refusal fault.now) result }
 {
     let number = fault.rule.number();
     let name = fault.rule.name();
-    match rule_line(alloc, "qbs: source: lex ", number, name, fault.at) {
-        Ok(line) => stop(alloc, Status::Source, line),
-        Err(_) => Stop::Memory,
-    }
+    rule_refused(
+        alloc,
+        Status::Source,
+        "qbs: source: lex ",
+        number,
+        name,
+        fault.at,
+    )
 }
 
 /// The refusal of a text that is no schema.
@@ -61,10 +82,14 @@ pub fn schema_refused(alloc: Global, fault: &SchemaFault) -> Stop
 {
     let number = fault.rule.number();
     let name = fault.rule.name();
-    match rule_line(alloc, "qbs: schema: ", number, name, fault.at) {
-        Ok(line) => stop(alloc, Status::Schema, line),
-        Err(_) => Stop::Memory,
-    }
+    rule_refused(
+        alloc,
+        Status::Schema,
+        "qbs: schema: ",
+        number,
+        name,
+        fault.at,
+    )
 }
 
 /// The refusal of tokens without a program.
@@ -73,10 +98,14 @@ pub fn parse_refused(alloc: Global, fault: &ParseFault) -> Stop
 {
     let number = fault.rule.number();
     let name = fault.rule.name();
-    match rule_line(alloc, "qbs: source: parse ", number, name, fault.at) {
-        Ok(line) => stop(alloc, Status::Source, line),
-        Err(_) => Stop::Memory,
-    }
+    rule_refused(
+        alloc,
+        Status::Source,
+        "qbs: source: parse ",
+        number,
+        name,
+        fault.at,
+    )
 }
 
 /// The refusal of a program that breaks a type rule.
@@ -85,10 +114,7 @@ pub fn type_refused(alloc: Global, fault: &TypeFault) -> Stop
 {
     let number = fault.rule.number();
     let name = fault.rule.name();
-    match rule_line(alloc, "qbs: types: ", number, name, fault.at) {
-        Ok(line) => stop(alloc, Status::Types, line),
-        Err(_) => Stop::Memory,
-    }
+    rule_refused(alloc, Status::Types, "qbs: types: ", number, name, fault.at)
 }
 
 /// The place of what stands in no text that was read.

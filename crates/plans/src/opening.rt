@@ -42,8 +42,9 @@ pub fn open_schema(alloc: Global, bytes: &[u8]) -> Result<Schema, Stop>
     }
 }
 
+/// The tokens that bytes have, or the refusal of their first fault.
 #[tactic(auto, using(crate::proofs::Opened::tokens_stop))]
-fn open_tokens(alloc: Global, bytes: &[u8]) -> Result<Tokens, Stop>
+pub fn open_tokens(alloc: Global, bytes: &[u8]) -> Result<Tokens, Stop>
     ensures { Goes result (HasTokens bytes.now) (refused (LacksTokens bytes.now) lex_refusal) }
 {
     match lex(alloc, bytes) {
