@@ -24,7 +24,7 @@ use Rattle.words.proofs.Exact.{reads_plain_words}
 use Rattle.deliveries.specs.Limits.{most_schema, most_source, most_bundle, most_tables, most_dump}
 use Rattle.deliveries.specs.declared.plan.Plan.{Plan}
 use Rattle.plans.specs.Calls.{Call, Called, Calls, CallsNothing, arguments, word_refusal}
-use Rattle.plans.specs.Opening.{BreaksBundle, bundle_refusal, has_bundle, IsSchemaOf, BreaksSchema, schema_refusal, IsProgramOf, HasNoProgram, has_schema, has_program}
+use Rattle.plans.specs.Opening.{BreaksBundle, bundle_refusal, has_bundle, IsSchemaOf, BreaksSchema, schema_refusal, IsProgramOf, HasNoProgram, has_schema, has_program, HasLeast, type_refusal}
 use Rattle.deliveries.specs.Deliver.{Change}
 use Rattle.deliveries.specs.Plan.{Given, not_yet}
 use Rattle.plans.specs.Results.{names_of}
@@ -32,8 +32,13 @@ use Rattle.deliveries.specs.Steps.{Ends, step, refused, IsRead, IsNotRead, reads
 use Rattle.plans.specs.Tables.{table_file, AreRead, AreNotRead, reads_tables, IsFileOf, HasRows, LacksRows, data_refusal, has_rows}
 use Rattle.qbs.specs.Check.{tells, checks, check_of, check}
 use Rattle.qbs.specs.Commands.{is_built, built, where_built, command, IsDue}
-use Rattle.qbs.specs.Complete.{HasFile, HaveTexts, HasSchema, HasSource, HasTables, HasCall, IsRight, IsEnd, IsEndWhere, IsListed, IsComplete}
+use Rattle.qbs.specs.Complete.{HasFile, HaveTexts, HasSchema, HasSource, HasTables, HasCall, HasWhole, IsRight, IsEnd, IsEndWhere, IsListed, IsComplete}
+use Rattle.call_rules.specs.Faults.{IsFaultOf}
+use Rattle.inlining.specs.Inlined.{IsWhole}
+use Rattle.java_mean.specs.WellTyped.{IsWellTyped}
 use Rattle.qbs.specs.Draw.{Draws, draw}
+use Rattle.qbs.specs.Inline.{IsProgramWithCallsOf, HasNoProgramWithCalls, has_program_with_calls, helper_refusal, has_no_calls_left, types_and_writes, Inlines, inline_of, inline}
+use Rattle.qbs.specs.Narrow.{Narrows, narrow_of, narrow}
 use Rattle.qbs.specs.Make.{IsResult, IsNotDone, method_text, outcome_over, runs, make_of, make}
 use Rattle.qbs.specs.Pruners.{May}
 use Rattle.qbs.specs.Prove.{Proves, prove_of, prove}
@@ -42,6 +47,7 @@ use Rattle.qbs.specs.Run.{IsChosen, chooses, comes_to, comes, call_of, run_of, r
 use Rattle.qbs.specs.Sql.{IsAsked, AsksNothing, answer_plan, answers, sql_of, sql}
 use Rattle.qbs.specs.Top.{IsDone}
 use Rattle.qbs.proofs.AlikeRuns.{kept_named, some_named}
+use Rattle.qbs.proofs.Inlining.{calls_one, whole_one, typed_one}
 use Rattle.qbs.proofs.OneFound.{schema_one, program_one, bundle_one, rows_one, call_one, query_one}
 use Rattle.qbs.proofs.OnePlan.{chosen_one}
 use Rattle.qbs.proofs.OneRead.{read_one, tables_one}
@@ -235,6 +241,36 @@ make_listed n plan (inr h) = runs_listed _ _ _ _ plan h.2
 draw_listed : (files : Given) → ((name : List ℕ) → files.failed name → ⊥) → (o : Options) (dump : List ℕ) (plan : Plan) → HasFile files.told dump most_dump (λ bytes. Unit {0}) → draw files o dump plan → plan.status ≡ statuses.Ok
 draw_listed files calm o dump plan right h = (opens files calm dump most_dump (codes "dump") right.bytes (λ bytes. Draws o bytes) right.has right.within plan h).status
 
+-- ---- `narrow`
+
+narrow_listed : (files : Given) → ((name : List ℕ) → files.failed name → ⊥) → (schema source : List ℕ) (plan : Plan) → HasSchema files.told schema (λ tables. HasSource files.told source tables (λ p. Unit {0})) →
+    narrow files schema source plan → plan.status ≡ statuses.Ok
+narrow_listed files calm schema source plan right h =
+    let tables : Schema = right.is.0 in
+    let text = right.is.2 in
+    let read = opens files calm schema most_schema (codes "schema") right.bytes (λ s. reads files source most_source (codes "source") (λ t. narrow_of s t)) right.has right.within plan h in
+    let both = opens files calm source most_source (codes "source") text.bytes (λ t. narrow_of right.bytes t) text.has text.within plan read in
+    let opened = goes_schema right.bytes tables (λ ts. has_program ts text.bytes (λ p. Narrows ts text.bytes p)) right.is.1 plan both in
+    let done = goes_program tables text.bytes text.is.0 (λ p. Narrows tables text.bytes p) text.is.1 plan opened in
+    ap (λ (x : Plan). x.status) done.written
+
+-- ---- `inline`
+
+inline_listed : (files : Given) → ((name : List ℕ) → files.failed name → ⊥) → (schema source : List ℕ) (plan : Plan) → HasSchema files.told schema (λ tables. HasFile files.told source most_source (HasWhole tables)) →
+    inline files schema source plan → plan.status ≡ statuses.Ok
+inline_listed files calm schema source plan right h =
+    let tables : Schema = right.is.0 in
+    let text = right.is.2 in
+    let p : PlainProgram = text.is.program in
+    let q : PlainProgram = text.is.whole in
+    let read = opens files calm schema most_schema (codes "schema") right.bytes (λ s. reads files source most_source (codes "source") (λ t. inline_of s t)) right.has right.within plan h in
+    let both = opens files calm source most_source (codes "source") text.bytes (λ t. inline_of right.bytes t) text.has text.within plan read in
+    let opened = goes_schema right.bytes tables (λ ts. has_program_with_calls text.bytes (λ p. has_no_calls_left text.bytes p (λ q. types_and_writes ts text.bytes p q))) right.is.1 plan both in
+    let called = goes (IsProgramWithCallsOf text.bytes) (HasNoProgramWithCalls text.bytes) (λ p. has_no_calls_left text.bytes p (λ q. types_and_writes tables text.bytes p q)) (calls_one text.bytes) p text.is.is_program plan opened in
+    let whole = goes (IsWhole p) (refused (IsFaultOf p) (helper_refusal text.bytes)) (λ q. types_and_writes tables text.bytes p q) (whole_one text.bytes p) q text.is.is_whole plan called in
+    let typed = goes {B = Unit {0}} (λ u. IsWellTyped tables (read_by tables) q) (refused (HasLeast tables q) type_refusal) (λ u. Inlines tables text.bytes p q) (typed_one tables q) tt text.is.typed plan whole in
+    ap (λ (x : Plan). x.status) typed.written
+
 -- ---- the whole
 
 built_ends : (files : Given) → ((name : List ℕ) → files.failed name → ⊥) → (may : May) (c : Command) (plan : Plan) → IsRight files.told c → built files may c plan → IsEnd c plan.status
@@ -245,8 +281,8 @@ built_ends files calm may (commands.Prove o s t) plan right h = prove_listed fil
 built_ends files calm may (commands.Check o s t b) plan right h = check_listed files calm s t b plan right.0 right.1 h
 built_ends files calm may (commands.Make n) plan right h = make_listed n plan h
 built_ends files calm may (commands.Unnest o s t) plan right h = ap (λ (x : Plan). x.status) h
-built_ends files calm may (commands.Narrow o s t) plan right h = ap (λ (x : Plan). x.status) h
-built_ends files calm may (commands.Inline s t) plan right h = ap (λ (x : Plan). x.status) h
+built_ends files calm may (commands.Narrow o s t) plan right h = narrow_listed files calm s t plan right h
+built_ends files calm may (commands.Inline s t) plan right h = inline_listed files calm s t plan right h
 built_ends files calm may (commands.Gather o s t) plan right h = ap (λ (x : Plan). x.status) h
 built_ends files calm may (commands.Schema o d) plan right h = draw_listed files calm o d plan right h
 built_ends files calm may (commands.View m s t) plan right h = ap (λ (x : Plan). x.status) h

@@ -31,6 +31,8 @@ use Rattle.qbs.specs.Check.{tells, check_of, check}
 use Rattle.qbs.specs.Commands.{is_built, built, where_built, command}
 use Rattle.qbs.specs.Top.{MayRead, ReadFailed}
 use Rattle.qbs.specs.Draw.{draw}
+use Rattle.qbs.specs.Inline.{HasNoProgramWithCalls, inline_of, inline}
+use Rattle.qbs.specs.Narrow.{narrow_of, narrow}
 use Rattle.qbs.specs.Make.{loops_text, method_text, IsNotDone, outcome_over, runs, make}
 use Rattle.qbs.specs.Pruners.{May}
 use Rattle.qbs.specs.Prove.{prove_of, prove}
@@ -190,6 +192,36 @@ module _ (files : Given) (Names : List ℕ → Type 0) where
   draw_fair o dump named plan (inl h) = not_read_fair dump most_dump (codes "dump") plan named h
   draw_fair o dump named plan (inr (bytes, read, h)) = done_fair plan h.status
 
+  -- ---- `inline`
+
+  no_calls_fair : (bytes : List ℕ) (plan : Plan) → HasNoProgramWithCalls bytes plan → IsFair files Names plan
+  no_calls_fair bytes plan (inl h) = fair_as plan _ h.2 (refusal_fair statuses.Source _ (λ e. cc) (λ e. cc) (λ e. cc))
+  no_calls_fair bytes plan (inr h) = fair_as plan _ h.2 (refusal_fair statuses.Source _ (λ e. cc) (λ e. cc) (λ e. cc))
+
+  inline_of_fair : (s t : List ℕ) (plan : Plan) → inline_of s t plan → IsFair files Names plan
+  inline_of_fair s t plan (inl h) = fair_as plan _ h.2 (refusal_fair statuses.Schema _ (λ e. cc) (λ e. cc) (λ e. cc))
+  inline_of_fair s t plan (inr (tables, is, inl h)) = no_calls_fair t plan h
+  inline_of_fair s t plan (inr (tables, is, inr (p, read, inl h))) = fair_as plan _ h.2 (refusal_fair statuses.Types _ (λ e. cc) (λ e. cc) (λ e. cc))
+  inline_of_fair s t plan (inr (tables, is, inr (p, read, inr (q, whole, inl h)))) = fair_as plan _ h.2 (refusal_fair statuses.Types _ (λ e. cc) (λ e. cc) (λ e. cc))
+  inline_of_fair s t plan (inr (tables, is, inr (p, read, inr (q, whole, inr (u, typed, h))))) = done_fair plan (ap (λ (x : Plan). x.status) h.written)
+
+  inline_fair : (schema source : List ℕ) → Names schema → Names source → (plan : Plan) → inline files schema source plan → IsFair files Names plan
+  inline_fair schema source first second plan (inl h) = not_read_fair schema most_schema (codes "schema") plan first h
+  inline_fair schema source first second plan (inr (s, read, inl h)) = not_read_fair source most_source (codes "source") plan second h
+  inline_fair schema source first second plan (inr (s, read, inr (t, has, h))) = inline_of_fair s t plan h
+
+  -- ---- `narrow`
+
+  narrow_of_fair : (s t : List ℕ) (plan : Plan) → narrow_of s t plan → IsFair files Names plan
+  narrow_of_fair s t plan (inl h) = fair_as plan _ h.2 (refusal_fair statuses.Schema _ (λ e. cc) (λ e. cc) (λ e. cc))
+  narrow_of_fair s t plan (inr (tables, is, inl h)) = no_program_fair tables t plan h
+  narrow_of_fair s t plan (inr (tables, is, inr (p, read, h))) = done_fair plan (ap (λ (x : Plan). x.status) h.written)
+
+  narrow_fair : (schema source : List ℕ) → Names schema → Names source → (plan : Plan) → narrow files schema source plan → IsFair files Names plan
+  narrow_fair schema source first second plan (inl h) = not_read_fair schema most_schema (codes "schema") plan first h
+  narrow_fair schema source first second plan (inr (s, read, inl h)) = not_read_fair source most_source (codes "source") plan second h
+  narrow_fair schema source first second plan (inr (s, read, inr (t, has, h))) = narrow_of_fair s t plan h
+
   -- ---- the whole
 
   unbuilt_fair : (plan : Plan) → plan ≡ not_yet → IsFair files Names plan
@@ -215,8 +247,8 @@ module _ (files : Given) (may : May) where
       sql_fair files (MayRead files.told (commands.Sql s d q)) s d q (inl refl) (λ bytes tables read is name file. inr (tables_of files s d bytes tables read is name file)) plan h
   built_fair (commands.Make n) plan h = make_fair files (MayRead files.told (commands.Make n)) n plan h
   built_fair (commands.Unnest o s t) plan h = unbuilt_fair files (MayRead files.told (commands.Unnest o s t)) plan h
-  built_fair (commands.Narrow o s t) plan h = unbuilt_fair files (MayRead files.told (commands.Narrow o s t)) plan h
-  built_fair (commands.Inline s t) plan h = unbuilt_fair files (MayRead files.told (commands.Inline s t)) plan h
+  built_fair (commands.Narrow o s t) plan h = narrow_fair files (MayRead files.told (commands.Narrow o s t)) s t (inl refl) (inr refl) plan h
+  built_fair (commands.Inline s t) plan h = inline_fair files (MayRead files.told (commands.Inline s t)) s t (inl refl) (inr refl) plan h
   built_fair (commands.Gather o s t) plan h = unbuilt_fair files (MayRead files.told (commands.Gather o s t)) plan h
   built_fair (commands.Schema o d) plan h = draw_fair files (MayRead files.told (commands.Schema o d)) o d refl plan h
   built_fair (commands.View m s t) plan h = unbuilt_fair files (MayRead files.told (commands.View m s t)) plan h

@@ -6,8 +6,10 @@ pub mod Drawn
 pub mod Evident
 pub mod Fair
 pub mod Going
+pub mod Inlining
 pub mod Lined
 pub mod Made
+pub mod Narrowing
 pub mod OneFound
 pub mod OnePlan
 pub mod OneRead

@@ -44,6 +44,8 @@ use Rattle.qbs.specs.Sql.{IsAsked, AsksNothing, answer_plan, answers, sql_of, sq
 use Rattle.qbs.specs.Top.{MayRead, Alike, HasOnePlan}
 use Rattle.qbs.proofs.OneStep.{IsOne, HasOne, step_one, ends_one}
 use Rattle.qbs.proofs.OneRead.{read_one, tables_one}
+use Rattle.qbs.proofs.Inlining.{inline_one}
+use Rattle.qbs.proofs.Narrowing.{narrow_one}
 use Rattle.qbs.proofs.OneFound.{schema_one, program_one, bundle_one, rows_one, call_one, query_one}
 
 -- ---- `rewrite`
@@ -239,8 +241,8 @@ command_one files may (commands.Check o schema source bundle) told calm =
     record { alike = (check_one files schema source bundle (told schema (inl refl)) (told source (inr (inl refl))) (told bundle (inr (inr refl))) calm).alike }
 command_one files may (commands.Make n) told calm = record { alike = (make_one n).alike }
 command_one files may (commands.Unnest o s t) told calm = record { alike = unbuilt_one.alike }
-command_one files may (commands.Narrow o s t) told calm = record { alike = unbuilt_one.alike }
-command_one files may (commands.Inline s t) told calm = record { alike = unbuilt_one.alike }
+command_one files may (commands.Narrow o s t) told calm = record { alike = (narrow_one files s t (told s (inl refl)) (told t (inr refl)) calm).alike }
+command_one files may (commands.Inline s t) told calm = record { alike = (inline_one files s t (told s (inl refl)) (told t (inr refl)) calm).alike }
 command_one files may (commands.Gather o s t) told calm = record { alike = unbuilt_one.alike }
 command_one files may (commands.Schema o d) told calm = record { alike = (draw_one files o d (told d refl) calm).alike }
 command_one files may (commands.View m s t) told calm = record { alike = unbuilt_one.alike }

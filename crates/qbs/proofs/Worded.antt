@@ -114,8 +114,8 @@ none_read l (commands.Run o s t d method words) files = record { tables = []; of
 none_read l (commands.Sql s d q) files = record { tables = []; of_schema = inl refl; reads = reads_none l (s ∷ []) files }
 none_read l (commands.Make n) files = reads_none l [] files
 none_read l (commands.Unnest o s t) files = reads_none l [] files
-none_read l (commands.Narrow o s t) files = reads_none l [] files
-none_read l (commands.Inline s t) files = reads_none l [] files
+none_read l (commands.Narrow o s t) files = reads_none l (s ∷ t ∷ []) files
+none_read l (commands.Inline s t) files = reads_none l (s ∷ t ∷ []) files
 none_read l (commands.Gather o s t) files = reads_none l [] files
 none_read l (commands.Schema o d) files = reads_none l (d ∷ []) files
 none_read l (commands.View m s t) files = reads_none l [] files
@@ -142,21 +142,23 @@ pub other_due : (files : Given) (may : May) (c : Command) (stop : Stop) →
     ((s d q : List ℕ) → c ≡ commands.Sql s d q → ⊥) →
     ((n : ℕ) → c ≡ commands.Make n → ⊥) →
     ((o : Options) (d : List ℕ) → c ≡ commands.Schema o d → ⊥) →
+    ((s t : List ℕ) → c ≡ commands.Inline s t → ⊥) →
+    ((o : Options) (s t : List ℕ) → c ≡ commands.Narrow o s t → ⊥) →
     StopsFor Status.NotYet (codes "qbs: not yet") [] stop → OrMemory (Err stop) (built files may c)
-other_due files may (commands.Rewrite o s t) stop rewrite prove check run sql make schema due = absurd (rewrite o s t refl)
-other_due files may (commands.Prove o s t) stop rewrite prove check run sql make schema due = absurd (prove o s t refl)
-other_due files may (commands.Check o s t b) stop rewrite prove check run sql make schema due = absurd (check o s t b refl)
-other_due files may (commands.Run o s t d method words) stop rewrite prove check run sql make schema due = absurd (run o s t d method words refl)
-other_due files may (commands.Sql s d q) stop rewrite prove check run sql make schema due = absurd (sql s d q refl)
-other_due files may (commands.Make n) stop rewrite prove check run sql make schema due = absurd (make n refl)
-other_due files may (commands.Unnest o s t) stop rewrite prove check run sql make schema due = refused_due stop due
-other_due files may (commands.Narrow o s t) stop rewrite prove check run sql make schema due = refused_due stop due
-other_due files may (commands.Inline s t) stop rewrite prove check run sql make schema due = refused_due stop due
-other_due files may (commands.Gather o s t) stop rewrite prove check run sql make schema due = refused_due stop due
-other_due files may (commands.Schema o d) stop rewrite prove check run sql make schema due = absurd (schema o d refl)
-other_due files may (commands.View m s t) stop rewrite prove check run sql make schema due = refused_due stop due
-other_due files may (commands.Map es) stop rewrite prove check run sql make schema due = refused_due stop due
-other_due files may (commands.CheckMap m s) stop rewrite prove check run sql make schema due = refused_due stop due
+other_due files may (commands.Rewrite o s t) stop rewrite prove check run sql make schema inline narrow due = absurd (rewrite o s t refl)
+other_due files may (commands.Prove o s t) stop rewrite prove check run sql make schema inline narrow due = absurd (prove o s t refl)
+other_due files may (commands.Check o s t b) stop rewrite prove check run sql make schema inline narrow due = absurd (check o s t b refl)
+other_due files may (commands.Run o s t d method words) stop rewrite prove check run sql make schema inline narrow due = absurd (run o s t d method words refl)
+other_due files may (commands.Sql s d q) stop rewrite prove check run sql make schema inline narrow due = absurd (sql s d q refl)
+other_due files may (commands.Make n) stop rewrite prove check run sql make schema inline narrow due = absurd (make n refl)
+other_due files may (commands.Unnest o s t) stop rewrite prove check run sql make schema inline narrow due = refused_due stop due
+other_due files may (commands.Narrow o s t) stop rewrite prove check run sql make schema inline narrow due = absurd (narrow o s t refl)
+other_due files may (commands.Inline s t) stop rewrite prove check run sql make schema inline narrow due = absurd (inline s t refl)
+other_due files may (commands.Gather o s t) stop rewrite prove check run sql make schema inline narrow due = refused_due stop due
+other_due files may (commands.Schema o d) stop rewrite prove check run sql make schema inline narrow due = absurd (schema o d refl)
+other_due files may (commands.View m s t) stop rewrite prove check run sql make schema inline narrow due = refused_due stop due
+other_due files may (commands.Map es) stop rewrite prove check run sql make schema inline narrow due = refused_due stop due
+other_due files may (commands.CheckMap m s) stop rewrite prove check run sql make schema inline narrow due = refused_due stop due
 
 -- a plan that is due and delivered
 pub done_by : (files : Given) (may : May) (words : List (List ℕ)) (out rep : Change) (status : Status) (result : Result Plan Stop) (plan : Plan) →

@@ -8,6 +8,8 @@ use Rattle.deliveries.specs.Plan.{Given, no_memory, not_yet, bad_words}
 use Rattle.deliveries.specs.Steps.{Ends, ends, step}
 use Rattle.qbs.specs.Check.{check}
 use Rattle.qbs.specs.Draw.{draw}
+use Rattle.qbs.specs.Inline.{inline}
+use Rattle.qbs.specs.Narrow.{narrow}
 use Rattle.qbs.specs.Pruners.{May}
 use Rattle.qbs.specs.Prove.{prove}
 use Rattle.qbs.specs.Make.{make}
@@ -28,6 +30,8 @@ is_built (commands.Run o schema source folder method words) = true
 is_built (commands.Sql schema folder query) = true
 is_built (commands.Make n) = true
 is_built (commands.Schema o dump) = true
+is_built (commands.Inline schema source) = true
+is_built (commands.Narrow o schema source) = is_plain o
 is_built _ = false
 
 -- what is due for a command that is built
@@ -39,6 +43,8 @@ built files may (commands.Run o schema source folder method words) plan = run fi
 built files may (commands.Sql schema folder query) plan = sql files schema folder query plan
 built files may (commands.Make n) plan = make n plan
 built files may (commands.Schema o dump) plan = draw files o dump plan
+built files may (commands.Inline schema source) plan = inline files schema source plan
+built files may (commands.Narrow o schema source) plan = narrow files schema source plan
 built files may _ plan = ends not_yet plan
 
 abbrev pub where_built : Bool → Ends → Ends

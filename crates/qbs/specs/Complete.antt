@@ -18,6 +18,10 @@ use Rattle.deliveries.specs.Limits.{most_schema, most_source, most_bundle, most_
 use Rattle.deliveries.specs.Plan.{Given}
 use Rattle.plans.specs.Tables.{table_file, HasRows}
 use Rattle.qbs.specs.Commands.{is_built}
+use Rattle.inlining.specs.Inlined.{IsWhole}
+use Rattle.java_mean.specs.WellTyped.{IsWellTyped}
+use Rattle.java_types.specs.Texts.{read_by}
+use Rattle.qbs.specs.Inline.{IsProgramWithCallsOf}
 use Rattle.qbs.specs.Sql.{IsAsked}
 
 -- ---- What is right
@@ -55,6 +59,14 @@ pub record HasCall (p : PlainProgram) (call : Call) : Type 0 where
   pub called : Called
   pub calls : Calls p call called
 
+-- the bytes have a program with calls that breaks no rule of helpers, and the program in which no call is left is well typed
+pub record HasWhole (tables : Schema) (bytes : List ℕ) : Type 0 where
+  pub program : PlainProgram
+  pub whole : PlainProgram
+  pub is_program : IsProgramWithCallsOf bytes program
+  pub is_whole : IsWhole program whole
+  pub typed : IsWellTyped tables (read_by tables) whole
+
 -- all that the command reads is right
 abbrev pub IsRight : (List ℕ → Option (List ℕ)) → Command → Type 0
 IsRight told (commands.Rewrite o schema source) = HasSchema told schema (λ tables. HasSource told source tables (λ p. Unit {0}))
@@ -65,6 +77,8 @@ IsRight told (commands.Run o schema source folder method words) =
     HasSchema told schema (λ tables. HasSource told source tables (λ p. HasCall p (record { method = method; words = words })) × HasTables told folder tables)
 IsRight told (commands.Sql schema folder query) =
     HasSchema told schema (λ tables. ((q : PlainQuery) × IsAsked tables query q) × HasTables told folder tables)
+IsRight told (commands.Inline schema source) = HasSchema told schema (λ tables. HasFile told source most_source (HasWhole tables))
+IsRight told (commands.Narrow o schema source) = HasSchema told schema (λ tables. HasSource told source tables (λ p. Unit {0}))
 IsRight told (commands.Schema o dump) = HasFile told dump most_dump (λ bytes. Unit {0})
 IsRight told _ = Unit {0}
 
@@ -79,6 +93,8 @@ IsEnd (commands.Run o schema source folder method words) status = (status ≡ St
 IsEnd (commands.Sql schema folder query) status = (status ≡ Status.Ok) ⊎ (status ≡ Status.Faulted)
 IsEnd (commands.Make n) status = (status ≡ Status.Ok) ⊎ (status ≡ Status.Faulted) ⊎ (status ≡ Status.Turns)
 IsEnd (commands.Schema o dump) status = status ≡ Status.Ok
+IsEnd (commands.Inline schema source) status = status ≡ Status.Ok
+IsEnd (commands.Narrow o schema source) status = status ≡ Status.Ok
 IsEnd _ status = status ≡ Status.NotYet
 
 abbrev pub IsEndWhere : Bool → Command → Status → Type 0

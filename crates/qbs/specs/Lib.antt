@@ -5,7 +5,9 @@ pub mod Complete
 pub mod Draw
 pub mod Evidence
 pub mod Headline
+pub mod Inline
 pub mod Make
+pub mod Narrow
 pub mod Prove
 pub mod Pruners
 pub mod Reports

@@ -39,6 +39,8 @@ MayRead told (commands.Check o schema source bundle) name = (name ≡ schema) �
 MayRead told (commands.Run o schema source folder method words) name = (name ≡ schema) ⊎ (name ≡ source) ⊎ IsTableFile told schema folder name
 MayRead told (commands.Sql schema folder query) name = (name ≡ schema) ⊎ IsTableFile told schema folder name
 MayRead told (commands.Schema o dump) name = name ≡ dump
+MayRead told (commands.Inline schema source) name = (name ≡ schema) ⊎ (name ≡ source)
+MayRead told (commands.Narrow o schema source) name = (name ≡ schema) ⊎ (name ≡ source)
 MayRead told _ name = ⊥
 
 -- they are told, and none of the reads failed
@@ -105,6 +107,8 @@ ReadsBuilt l (commands.Check o schema source bundle) old new = OnlyReads l (sche
 ReadsBuilt l (commands.Run o schema source folder method words) old new = ReadsTables l (schema ∷ source ∷ []) folder schema old new
 ReadsBuilt l (commands.Sql schema folder query) old new = ReadsTables l (schema ∷ []) folder schema old new
 ReadsBuilt l (commands.Schema o dump) old new = OnlyReads l (dump ∷ []) old new
+ReadsBuilt l (commands.Inline schema source) old new = OnlyReads l (schema ∷ source ∷ []) old new
+ReadsBuilt l (commands.Narrow o schema source) old new = OnlyReads l (schema ∷ source ∷ []) old new
 ReadsBuilt l _ old new = OnlyReads l [] old new
 
 -- none are read for what isn't built

@@ -4,8 +4,10 @@
 mod check;
 mod clean;
 mod draw;
+mod inline;
 pub mod laws;
 mod make;
+mod narrow;
 mod prove;
 mod rewrite;
 mod run;

@@ -11,13 +11,17 @@ ghost use Rattle.qbs.specs.Complete.{IsComplete};
 ghost use Rattle.qbs.specs.Draw.{HasDrawn};
 ghost use Rattle.qbs.specs.Evidence.{HasProof, HasCheck};
 ghost use Rattle.qbs.specs.Headline.{HasHeadline, DropsNone};
+ghost use Rattle.qbs.specs.Inline.{HasInlining};
+ghost use Rattle.qbs.specs.Narrow.{HasNarrowing};
 ghost use Rattle.qbs.specs.Pruners.{may};
 ghost use Rattle.qbs.specs.Top.{IsDone, CutShort, HasOnePlan, HasReadFault, ReadsAsNamed, ReadsBuilt, ReadsInOrder, Refuses, IsSame};
 ghost use Rattle.qbs.specs.Within.{IsWithin};
 
 use crate::check::plan_check;
 use crate::draw::plan_schema;
+use crate::inline::plan_inline;
 use crate::make::plan_make;
+use crate::narrow::plan_narrow;
 use crate::prove::plan_prove;
 use crate::rewrite::plan_rewrite;
 use crate::run::{Asked, plan_run};
@@ -70,6 +74,14 @@ pub fn qbs_main<F: Files, O: Sink, E: Sink>(
 
     // Where `schema` ends well, the bytes written are a schema with exactly the tables that are drawn from the dump read.
     ensures drawn { HasDrawn (given F.told F.faults F.may_fail files.old files.new) words.now (change O.told O.faults O.by_write out.old out.new) (change E.told E.faults E.by_write rep.old rep.new) result }
+
+    // Where `inline` ends well, what is written has no calls and does what the program with calls read does. All bytes of the source outside of
+    // methods that call others stay, if that is a text of the inlined program.
+    ensures inlined { HasInlining (given F.told F.faults F.may_fail files.old files.new) words.now (change O.told O.faults O.by_write out.old out.new) (change E.told E.faults E.by_write rep.old rep.new) result }
+
+    // Where `narrow` ends well, what is written does what the program read does. All bytes of the source outside of fetches that became queries
+    // stay, if that is a text of the narrowed program.
+    ensures narrowed { HasNarrowing (given F.told F.faults F.may_fail files.old files.new) words.now (change O.told O.faults O.by_write out.old out.new) (change E.told E.faults E.by_write rep.old rep.new) result }
 
     // Where words are plain and all that is read is right, it ends as the command may end then.
     ensures complete { IsComplete (given F.told F.faults F.may_fail files.old files.new) words.now result }
@@ -150,6 +162,8 @@ fn is_built(command: &Command) -> bool
         Command::Sql { .. } => true,
         Command::Make { .. } => true,
         Command::Schema { .. } => true,
+        Command::Inline { .. } => true,
+        Command::Narrow { options, .. } => is_plain(options),
         _ => false,
     }
 }
@@ -213,6 +227,10 @@ fn plan_built<F: Files>(
         } => plan_check(alloc, files, schema, source, bundle),
         Command::Make { count } => plan_make(alloc, *count),
         Command::Schema { options, dump } => plan_schema(alloc, files, options, dump),
+        Command::Inline { schema, source } => plan_inline(alloc, files, schema, source),
+        Command::Narrow { schema, source, .. } => {
+            plan_narrow(alloc, files, schema, source, pruners)
+        }
         Command::Sql {
             schema,
             folder,

@@ -45,8 +45,20 @@ returns-in-Schema-clause-due g c = as_due _ _ c.args.command.now _ c.plan_schema
 pub returns-in-Schema-clause-reads : goal.returns-in-Schema-clause-reads
 returns-in-Schema-clause-reads g c = as_read _ c.args.command.now _ _ _ c.in-Schema.is c.plan_schema.ensures.reads
 
+pub returns-in-Inline-clause-due : goal.returns-in-Inline-clause-due
+returns-in-Inline-clause-due g c = as_due _ _ c.args.command.now _ c.plan_inline.result c.in-Inline.is c.plan_inline.ensures.due
+
+pub returns-in-Inline-clause-reads : goal.returns-in-Inline-clause-reads
+returns-in-Inline-clause-reads g c = as_read _ c.args.command.now _ _ _ c.in-Inline.is c.plan_inline.ensures.reads
+
+pub returns-in-Narrow-clause-due : goal.returns-in-Narrow-clause-due
+returns-in-Narrow-clause-due g c = as_due _ _ c.args.command.now _ c.plan_narrow.result c.in-Narrow.is c.plan_narrow.ensures.due
+
+pub returns-in-Narrow-clause-reads : goal.returns-in-Narrow-clause-reads
+returns-in-Narrow-clause-reads g c = as_read _ c.args.command.now _ _ _ c.in-Narrow.is c.plan_narrow.ensures.reads
+
 pub returns-in_default : goal.returns-in_default
 returns-in_default g c = record {
-  due = other_due (given g.F.Files.told g.F.Files.faults g.F.Files.may_fail c.args.files.now c.args.files.now) _ c.args.command.now c.refused.result c.in_default.not-Rewrite c.in_default.not-Prove c.in_default.not-Check c.in_default.not-Run c.in_default.not-Sql c.in_default.not-Make c.in_default.not-Schema c.refused.ensures;
+  due = other_due (given g.F.Files.told g.F.Files.faults g.F.Files.may_fail c.args.files.now c.args.files.now) _ c.args.command.now c.refused.result c.in_default.not-Rewrite c.in_default.not-Prove c.in_default.not-Check c.in_default.not-Run c.in_default.not-Sql c.in_default.not-Make c.in_default.not-Schema c.in_default.not-Inline c.in_default.not-Narrow c.refused.ensures;
   reads = none_read (looks g.F.Files.told g.F.Files.faults g.F.Files.may_fail g.F.Files.by_read) c.args.command.now c.args.files.now;
 }

@@ -1,6 +1,8 @@
 use Rattle.qbs.proofs.Evident.{proved, checked, drops_none}
 use Rattle.qbs.proofs.Completing.{complete}
 use Rattle.qbs.proofs.Drawn.{drawn}
+use Rattle.qbs.proofs.Inlining.{inlined}
+use Rattle.qbs.proofs.Narrowing.{narrowed}
 use Rattle.qbs.proofs.OnePlan.{one_plan}
 use Rattle.qbs.proofs.Promised.{promised, headline, no_one}
 use Rattle.qbs.proofs.top.qbs_main.Goals as goal
@@ -19,6 +21,12 @@ returns-clause-checked g c = checked _ _ _ _ _ _ c.carry_out.ensures.done
 
 pub returns-clause-drawn : goal.returns-clause-drawn
 returns-clause-drawn g c = drawn _ _ _ _ _ _ c.carry_out.ensures.done
+
+pub returns-clause-inlined : goal.returns-clause-inlined
+returns-clause-inlined g c = inlined _ _ _ _ _ _ c.carry_out.ensures.done
+
+pub returns-clause-narrowed : goal.returns-clause-narrowed
+returns-clause-narrowed g c = narrowed _ _ _ _ _ _ c.carry_out.ensures.done
 
 pub returns-clause-words : goal.returns-clause-words
 returns-clause-words g c = record {
