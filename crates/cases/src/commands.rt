@@ -10,6 +10,11 @@
 // - `command WORDS` carries out a command. The text, where there is one, is one word more.
 // - `clean WORDS` carries out a command over files and sinks that never fail.
 // - `prefixes NAME LESS STATUS` carries out the commands of the text, one a line, over the prefixes of that file that lack at least LESS bytes.
+ghost use Rattle.std.specs.Prelude.{◌≡◌, ◌++◌, [], ◌∷◌, ℕ, List, IfOk, OnOk, OnErr, codes, string_bytes};
+ghost use Rattle.cases.specs.Lines.{first_word, rest_of};
+ghost use Rattle.cases.specs.Files.{entries_of, entry_made, entries_added, bytes_made};
+ghost use Rattle.cases.specs.Answers.{whole_ends, IsShown, Extends, ends_after};
+
 use crate::calls::{Ends, failing, put_clean, put_command, whole};
 use crate::held::{File, filled, padded_of, repeated};
 use crate::prefixes::{Prefixes, put_prefixes};
@@ -31,7 +36,9 @@ fn bytes_by(
     kind: &str,
     rule: &str,
     text: &str,
-) -> Result<Vec<u8>, NoMemory> {
+) -> Result<Vec<u8>, NoMemory>
+    ensures { IfOk result (λ v. v.items ≡ bytes_made files.now kind.now rule.now text.now) }
+{
     match kind {
         "lines" => repeated(alloc, text, "\n"),
         "pieces" => repeated(alloc, text, ""),
@@ -50,7 +57,10 @@ fn hold(
     kind: &str,
     line: &str,
     text: &str,
-) -> Result<(), NoMemory> {
+) -> Result<(), NoMemory>
+    ensures ok { OnOk result (entries_of files.new.items ≡ entries_of files.old.items ++ entry_made files.old.items kind.now line.now text.now ∷ []) }
+    ensures err { OnErr result (files.new.items ≡ files.old.items) }
+{
     let (name, rule) = first_and_rest(line);
     let bytes = bytes_by(alloc, files.as_slice(), kind, rule, text)?;
     let name = String::from_str(alloc, name)?;
@@ -64,7 +74,11 @@ fn put_carried(
     held: &mut Held,
     line: &str,
     text: &str,
-) -> Result<(), NoMemory> {
+) -> Result<(), NoMemory>
+    ensures files { held.new.files ≡ held.old.files }
+    ensures ends { OnOk result (held.new.ends ≡ whole_ends) }
+    ensures text { OnOk result ((added : List ℕ) × IsShown added × (string_bytes out.new ≡ string_bytes out.old ++ added)) }
+{
     let words = words_of(alloc, line, text)?;
     put_command(out, alloc, held.files.as_slice(), held.ends, &words)?;
     held.ends = whole();
@@ -77,7 +91,9 @@ fn put_all_prefixes(
     files: &[File],
     line: &str,
     text: &str,
-) -> Result<(), NoMemory> {
+) -> Result<(), NoMemory>
+    ensures { OnOk result (Extends (string_bytes out.old ++ codes "==== prefixes\n") (string_bytes out.new)) }
+{
     let (name, rest) = first_and_rest(line);
     let (less, status) = first_and_rest(rest);
     let prefixes = Prefixes {
@@ -98,7 +114,11 @@ fn put_part(
     held: &mut Held,
     head: &str,
     text: &str,
-) -> Result<(), NoMemory> {
+) -> Result<(), NoMemory>
+    ensures files { OnOk result (entries_of held.new.files.items ≡ entries_of held.old.files.items ++ entries_added held.old.files.items head.now text.now) }
+    ensures ends { OnOk result (held.new.ends ≡ ends_after held.old.ends (first_word head.now) (rest_of head.now)) }
+    ensures text { OnOk result (Extends (string_bytes out.old) (string_bytes out.new)) }
+{
     let (kind, line) = first_and_rest(head);
     match kind {
         "fails" => {

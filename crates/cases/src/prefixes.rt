@@ -1,6 +1,14 @@
 // A command over each prefix of one of its files.
+ghost use Rattle.std.specs.Prelude.{◌≡◌, ◌++◌, ◌≤◌, ◌+◌, ◌-◌, IfOk, OnOk, length, min, nat_eq, string_bytes};
+ghost use Rattle.std.specs.List.{ends_with};
+ghost use Rattle.qbs_base.specs.declared.status.Status.{Status};
+ghost use Rattle.qbs_base.specs.Status.{code_of};
+ghost use Rattle.cases.specs.declared.prefixes.Count.{Count};
+ghost use Rattle.cases.specs.Files.{bytes_under};
+ghost use Rattle.cases.specs.Answers.{number_end, counted_by, IsCounted, prefixes_line};
+
 use crate::calls::{Came, came_of, whole};
-use crate::held::{File, bytes_of, files_of, named};
+use crate::held::{File, bytes_of, files_with};
 use crate::split::words_of;
 use qbs_base::{NoMemory, Words};
 use std::alloc::Global;
@@ -23,7 +31,9 @@ struct Count {
 }
 
 // Whether the report's line ends with this number.
-fn ends_with_number(alloc: Global, rep: &[u8], number: usize) -> Result<bool, NoMemory> {
+fn ends_with_number(alloc: Global, rep: &[u8], number: usize) -> Result<bool, NoMemory>
+    ensures { IfOk result (λ b. b ≡ ends_with nat_eq rep.now (number_end number)) }
+{
     let mut end = String::new(alloc);
     write!(end, " {number}\n")?;
     Ok(rep.ends_with(end.as_bytes()))
@@ -35,7 +45,9 @@ fn counted(
     came: &Came,
     status: u64,
     length: usize,
-) -> Result<Count, NoMemory> {
+) -> Result<Count, NoMemory>
+    ensures { IfOk result (λ c. c ≡ counted_by count came.now.code came.now.out.bytes came.now.rep.bytes status length) }
+{
     let is_refused = came.code as u64 == status && came.out.bytes().is_empty();
     let is_placed = is_refused && ends_with_number(alloc, came.rep.bytes(), length)?;
     Ok(Count {
@@ -52,10 +64,10 @@ fn came_over(
     name: &str,
     bytes: &[u8],
     words: &Words,
-) -> Result<Came, NoMemory> {
-    let mut files = files_of(alloc, held)?;
-    let (name, bytes) = named(alloc, name, bytes)?;
-    files.put(name, bytes)?;
+) -> Result<Came, NoMemory>
+    ensures { IfOk result (λ c. (s : Status) × (c.code ≡ code_of s)) }
+{
+    let mut files = files_with(alloc, held, name, bytes)?;
     came_of(alloc, words, &mut files, whole())
 }
 
@@ -64,7 +76,9 @@ fn count_of(
     held: &[File],
     prefixes: &Prefixes,
     words: &Words,
-) -> Result<Count, NoMemory> {
+) -> Result<Count, NoMemory>
+    ensures { IfOk result (λ c. IsCounted (length (bytes_under held.now prefixes.now.name.now)) prefixes.now.less c) }
+{
     let bytes = bytes_of(held, prefixes.name);
     let less = prefixes.less as usize;
     let mut count = Count {
@@ -89,7 +103,10 @@ pub fn put_prefixes(
     held: &[File],
     prefixes: &Prefixes,
     command: &str,
-) -> Result<(), NoMemory> {
+) -> Result<(), NoMemory>
+    ensures { OnOk result ((count : Count) × IsCounted (length (bytes_under held.now prefixes.now.name.now)) prefixes.now.less count
+        × (string_bytes out.new ≡ string_bytes out.old ++ prefixes_line command.now prefixes.now.status count)) }
+{
     let words = words_of(alloc, command, "")?;
     let count = count_of(alloc, held, prefixes, &words)?;
     let Count {

@@ -1,0 +1,10 @@
+use Rattle.std.proofs.Common.{◌≡◌, ℕ, List, [], take}
+use Rattle.qbs_base.specs.Named.{at_name}
+use Rattle.cases.specs.Files.{last_under}
+use Rattle.cases.proofs.held.files_of.Given as goal
+
+abbrev pub invariant-loop-file : goal.invariant-loop-file
+invariant-loop-file l = record {
+  fresh : l.files ≡ record l.files { failing = []; calls = 0; faults = 0 };
+  held : (name : List ℕ) → at_name l.files.files name ≡ last_under (take l.file-index l.held) name;
+}
