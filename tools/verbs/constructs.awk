@@ -138,6 +138,7 @@ function of_words(at, begins) {
 function of_calls(at,    name, front) {
     name = token[at]
     front = at - 1
+    if (ENVIRON["INLINE"] != "" && name == "(" && word(at - 1) && token[at - 2] == "=") return "helper"
     if (name == "(" && word(at - 1)) {
         name = token[at - 1]
         front = at - 2

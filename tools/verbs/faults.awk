@@ -14,7 +14,7 @@ FILENAME == ARGV[2] {
     next
 }
 FILENAME == ARGV[3] {
-    if (!match($0, /(schema|types|lex|parse):? [0-9]+ [A-Za-z0-9]+ at [0-9]+:[0-9]+$/)) next
+    if (!match($0, /(schema|types|lex|parse|helpers):? [0-9]+ [A-Za-z0-9]+ at [0-9]+:[0-9]+$/)) next
     text = substr($0, RSTART)
     gsub(/:? +/, " ", text)
     split(text, field, " ")
@@ -45,6 +45,8 @@ function tell(number,    line, column, at, end, id, from, to, end_line) {
     line = fault_line[number]
     column = fault_column[number]
     at = token_at(line, column)
+    # (a method that was made blank is no fault of those that call it)
+    if (rule[number] ~ /NoMethod/ && is_method(token[at])) return
     end_line = line
     end = at <= total && token_line[at] == line && token_column[at] == column && kind[number] != "lex" ? token_end[at] : column + 1
     while (substr(source[line], end, 1) ~ /^[\200-\277]$/) end++
@@ -57,6 +59,11 @@ function tell(number,    line, column, at, end, id, from, to, end_line) {
     sub(/\r$/, "", text)
     gsub(/\t/, "\374", text)
     print line "\t" column "\terror\t" rule[number] "\t" line "\t" column "\t" said[number] "\t" line "\t" end "\t\t\t\t\t\t\t\t\t\t" name_of[id] "\t" cure_of[id] "\t" text "\373" (column - from + 1 + (from > 1 ? 3 : 0)) "\373" (to - column) "\t" characters_of(line, column) " " characters_of(line, end)
+}
+function is_method(name,    number, at) {
+    for (number = 1; number <= members; number++)
+        for (at = member_first[number]; at < member_last[number] && token[at] != "{"; at++) if (token[at] == name && token[at + 1] == "(") return 1
+    return 0
 }
 function characters_of(line, column,    text) {
     text = substr(source[line], 1, column - 1)

@@ -186,3 +186,25 @@ function between(from_line, from, to_line, to,    at, text) {
     for (at = from_line + 1; at < to_line; at++) text = text "\n" source[at]
     return text "\n" substr(source[to_line], 1, to - 1)
 }
+
+# Columns counted in characters. (where it stands is remembered, so that long lines take no longer than short ones)
+function character_at(line, column,    text, from) {
+    if (!(line in odd_line)) odd_line[line] = source[line] ~ /[\200-\377]/
+    if (!odd_line[line]) return column
+    from = 1
+    if (line == known_line && column >= known_column) from = known_column
+    else known_characters = 1
+    text = substr(source[line], from, column - from)
+    known_line = line
+    known_column = column
+    gsub(/[\200-\277]/, "", text)
+    return known_characters += length(text)
+}
+# A text in one line of findings.awk.
+function packed(text) {
+    if (text !~ /[\n\t\r]/) return text
+    gsub(/\n/, "\373", text)
+    gsub(/\t/, "\374", text)
+    gsub(/\r/, "\375", text)
+    return text
+}

@@ -37,7 +37,7 @@ function goes_on(from_line, from, to_line, to,    at, column, piece) {
     text_column = column + length(piece)
     return 1
 }
-# The statement with which the text goes on where it was read to; it is read to behind that.
+# The statement with which the text goes on where it was read to; it is read to behind that. Where there is none, `lost` is 1.
 function next_statement(    at, character, quoted, begins) {
     if (text_column > length(text[text_at])) {
         text_at++
@@ -54,18 +54,42 @@ function next_statement(    at, character, quoted, begins) {
             return substr(text[text_at], begins, at + 1 - begins)
         }
     }
-    exit 2
+    lost = 1
 }
-# The statements of each stretch: statement_text[g, 1] to statement_text[g, answers[g]].
-function find_answers(    g, line, column) {
-    text_at = text_column = line = column = 1
-    if (!stretches) return
-    for (g = 1; g <= stretches; g++) {
-        if (g == 1 && !goes_on(1, 1, token_line[stretch_first[1]], token_column[stretch_first[1]])) exit 2
-        do statement_text[g, ++answers[g]] = next_statement()
-        while (!goes_on(token_last[stretch_last[g]], token_end[stretch_last[g]], g < stretches ? token_line[stretch_first[g + 1]] : lines, g < stretches ? token_column[stretch_first[g + 1]] : length(source[lines]) + 1))
+# In the same way all to the `)` or the `}` that closes what is opened first.
+function next_closed(closer,    at, begins, character, quoted, depth, out) {
+    for (; text_at <= texts; text_at++) {
+        begins = text_column
+        for (at = begins; at <= length(text[text_at]); at++) {
+            character = substr(text[text_at], at, 1)
+            if (quoted && character == "\\") at++
+            else if (character == "\"") quoted = !quoted
+            else if (quoted) continue
+            else if (character == (closer == ")" ? "(" : "{")) depth++
+            else if (character == closer && !--depth) {
+                text_column = at + 1
+                return out substr(text[text_at], begins, at + 1 - begins)
+            }
+        }
+        out = out substr(text[text_at], begins) "\n"
+        text_column = 1
     }
-    if (text_at < texts || text_column <= length(text[texts])) exit 2
+    lost = 1
+}
+# What came in place of each stretch: statements, statement_text[g, 1] to statement_text[g, answers[g]], or, with a closer, one thing that it closes. Whether the text
+# is the source with these.
+function find_answers(closer,    g) {
+    text_at = text_column = 1
+    lost = 0
+    for (g = 1; g <= stretches; g++) {
+        if (g == 1 && !goes_on(1, 1, token_line[stretch_first[1]], token_column[stretch_first[1]])) return 0
+        do {
+            if (closer != "" && answers[g]) return 0
+            statement_text[g, ++answers[g]] = closer == "" ? next_statement() : next_closed(closer)
+            if (lost) return 0
+        } while (!goes_on(token_last[stretch_last[g]], token_end[stretch_last[g]], g < stretches ? token_line[stretch_first[g + 1]] : lines, g < stretches ? token_column[stretch_first[g + 1]] : length(source[lines]) + 1))
+    }
+    return !stretches || text_at >= texts && text_column > length(text[texts])
 }
 
 # Whether the answer of this number gives a variable of this loop its value.
@@ -136,19 +160,36 @@ function loop_of_comment(g, comment) {
     return loop[comment_loop]
 }
 
-# The file with each stretch in the place of its bytes, without an end behind its last line where it has none.
-function write_text(to,    g, line, column) {
-    line = column = 1
+# The file with each stretch in the place of its bytes, without an end behind its last line where it has none. A stretch that `stays` has its bytes. The file MOVES has a
+# line for each other one: where it began and ended, where what came does, and printed[g], the method that was printed anew.
+function write_text(to,    g, line, column, new_line, new_column, begins, ends, part) {
+    line = column = new_line = new_column = 1
     ORS = ""
+    printf "" >ENVIRON["MOVES"]
     for (g = 1; g <= stretches; g++) {
+        if (stays[g]) continue
         write_bytes(line, column, token_line[stretch_first[g]], token_column[stretch_first[g]], to)
-        print stretch_text[g] >to
+        new_column = token_column[stretch_first[g]] + (token_line[stretch_first[g]] > line ? 0 : new_column - column)
+        new_line += token_line[stretch_first[g]] - line
+        print stretch_front[g] stretch_text[g] >to
         line = token_last[stretch_last[g]]
         column = token_end[stretch_last[g]]
+        begins = further_on(new_line, new_column, stretch_front[g])
+        split(begins, part, " ")
+        ends = further_on(part[1], part[2], stretch_text[g])
+        print token_line[stretch_first[g]], token_column[stretch_first[g]], line, column, begins, ends, printed[g] "\n" >ENVIRON["MOVES"]
+        split(ends, part, " ")
+        new_line = part[1]
+        new_column = part[2]
     }
     write_bytes(line, column, lines, length(source[lines]) + 1, to)
     ORS = "\n"
     close(to)
+}
+# The place behind a text that begins at this one.
+function further_on(line, column, text,    count, piece) {
+    count = split(text, piece, "\n")
+    return count < 2 ? line " " column + length(text) : line + count - 1 " " length(piece[count]) + 1
 }
 function write_bytes(line, column, to_line, to_column, to) {
     for (; line < to_line; line++) {
@@ -158,3 +199,8 @@ function write_bytes(line, column, to_line, to_column, to) {
     print substr(bytes_of(line), column, to_column - column) >to
 }
 function bytes_of(line) { return originals ? original[line] : source[line] }
+# The columns of a loop and its stretch, counted in characters.
+function characters(self, g) {
+    if (ENVIRON["CHARACTERS"] == "") return ""
+    return character_at(token_line[first[self]], token_column[first[self]]) " " character_at(token_last[last[self]], token_end[last[self]]) (g ? " " character_at(token_line[stretch_first[g]], token_column[stretch_first[g]]) " " character_at(token_last[stretch_last[g]], token_end[stretch_last[g]]) : "")
+}

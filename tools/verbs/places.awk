@@ -2,7 +2,9 @@
 # the program read it, the text that came, and the source as it stands in its file (each source as take_line() wants it).
 FILENAME == ARGV[1] {
     split($0, field, "\t")
-    if (field[1] == "kernel") sentence[field[3]] = field[4]
+    if (field[1] != "kernel" && field[1] != "narrow") next
+    sentence[field[3]] = field[4]
+    id_of[field[3]] = field[1] == "kernel" ? field[3] : field[1] " " field[2] " " field[3]
     next
 }
 FILENAME == ARGV[2] {
@@ -15,6 +17,9 @@ FILENAME == ARGV[2] {
     if ($3 == "outside") {
         rule[loops] = $4
         split($6, part, ":")
+        message[loops] = sentence[$4]
+    } else if ($3 == "stays") {
+        rule[loops] = id_of[$4]
         message[loops] = sentence[$4]
     } else if ($3 == "none") message[loops] = "none of " $5 " candidates does what the loop does" further("")
     else if ($3 == "budget") message[loops] = $4 " of " $6 " candidates were tried" further($6)

@@ -6,8 +6,15 @@ $3 == "found" {
     casts += $11
     if ($13 != "") gone = gone " " $13
 }
+$3 == "narrowed" { narrowed++ }
+$3 == "anew" {
+    anew = anew ", " $7
+    if ($13 != "") gone = gone " " $13
+}
 END {
-    if (all) said = ", " found (found == 1 ? " loop" : " loops") " gave way"
+    if (all && (found || !narrowed)) said = ", " found (found == 1 ? " loop" : " loops") " gave way"
+    if (all && narrowed) said = said ", " narrowed (narrowed == 1 ? " loop was" : " loops were") " narrowed"
+    if (all && anew != "") said = said ", printed anew: " substr(anew, 3)
     if (casts) said = said ", (int) stands before " casts (casts == 1 ? " query" : " queries") ", as javac wants it"
     count = split(gone, line, " ")
     if (count) {

@@ -28,9 +28,9 @@ begin() {
             shift
             break
             ;;
-        --all | --keep-comments) option "$1" yes ;;
+        --all | --keep-comments | --inline) option "$1" yes ;;
         --*=*) option "${1%%=*}" "${1#*=}" ;;
-        --size | --candidates | --format | --fail-on | --stdin-name | --schema)
+        --only | --size | --candidates | --format | --fail-on | --stdin-name | --schema)
             [ "$#" -gt 1 ] || refuse "$1 has no value"
             option "$1" "$2"
             shift
@@ -61,6 +61,8 @@ begin() {
         options+=("--size=$value")
         set_for 0 candidates 1000000
         options+=("--candidates=$value")
+        set_for 0 only ''
+        [ -z "$value" ] || options+=("--only=$value")
     fi
     [ "$left_out" = 0 ] || say "$verb: files that qbs.conf leaves out: $left_out"
 }
@@ -70,9 +72,9 @@ is_source() { [ "$1" = - ] || [ -d "$1" ] || [[ $1 == *.java ]]; }
 option() {
     local name=${1#--}
     case $verb,$name in
-    *,size | *,candidates | *,stdin-name | *,schema | *,keep-comments) ;;
-    lint,format | lint,fail-on | lint,all) ;;
-    *,format | *,fail-on | *,all) refuse "$1 is no option of it" ;;
+    *,only | *,size | *,candidates | *,stdin-name | *,schema | *,keep-comments) ;;
+    lint,format | lint,fail-on | lint,all | lint,inline | diff,inline | apply,inline) ;;
+    *,format | *,fail-on | *,all | *,inline) refuse "$1 is no option of it" ;;
     *) refuse "an option that it doesn't have" ;;
     esac
     [ -z "${says["0 $name"]+x}" ] || refuse "$1 stands twice"
@@ -91,11 +93,18 @@ fits() {
     schema | stdin-name) [ -n "$2" ] || why="--$1 names a file" ;;
     fail-on)
         for kind in ${2//,/ }; do
-            case $kind in found | outside | none | budget | error) ;; *) why="--fail-on has found, outside, none, budget and error, parted by commas" ;; esac
+            case $kind in found | narrowed | outside | none | budget | stays | error) ;; *) why="--fail-on has found, narrowed, outside, none, budget, stays and error, parted by commas" ;; esac
         done
-        case $2 in *[!a-z,]*) why="--fail-on has found, outside, none, budget and error, parted by commas" ;; esac
+        case $2 in *[!a-z,]*) why="--fail-on has found, narrowed, outside, none, budget, stays and error, parted by commas" ;; esac
         ;;
-    all) [ "$2" = yes ] || why="--all has no value" ;;
+    all | inline) [ "$2" = yes ] || why="--$1 has no value" ;;
+    only)
+        for kind in ${2//,/ }; do
+            case $kind in rewrite | narrow) ;; unnest) why="--only: unnest isn't built" ;; *) why=${why:-"--only has rewrite and narrow, parted by commas"} ;; esac
+        done
+        case $2 in *[a-z]*) ;; *) why="--only has rewrite and narrow, parted by commas" ;; esac
+        case $2 in *[!a-z,]*) why="--only has rewrite and narrow, parted by commas" ;; esac
+        ;;
     esac
     [ -z "$why" ]
 }
@@ -202,10 +211,10 @@ read_conf() {
             says["$confs leave-out"]=${says["$confs leave-out"]:-}$value$'\n'
             continue
             ;;
-        schema | size | candidates | fail-on | keep-comments) ;;
-        *) wrong_conf "$1/qbs.conf:$at: its names are schema, size, candidates, fail-on, keep-comments and leave-out" ;;
+        schema | size | candidates | only | fail-on | keep-comments) ;;
+        *) wrong_conf "$1/qbs.conf:$at: its names are schema, size, candidates, only, fail-on, keep-comments and leave-out" ;;
         esac
-        [ "$name" != fail-on ] || value=${value//[$blank]/}
+        case $name in fail-on | only) value=${value//[$blank]/} ;; esac
         [ -z "${says["$confs $name"]+x}" ] || wrong_conf "$1/qbs.conf:$at: $name stands twice"
         fits "$name" "$value" || wrong_conf "$1/qbs.conf:$at: ${why#--}"
         [ "$name" != schema ] || case $value in /*) ;; *) value=$1/$value ;; esac

@@ -6,12 +6,47 @@ take() {
     [ -r "$1" ] && [ ! -d "$1" ] && head -c "$2" <"$1" >"$3" 2>/dev/null
 }
 
-# outputs AT READ: what the program makes of a source: a text (AT.made), a report (AT.report) and its status (AT.status). Each step that makes a text of a text, or
-# reads it by other rules, has its place here.
+# outputs AT READ: what the pass at hand makes of a source: a text (AT.made), a report (AT.report) and its status (AT.status).
 outputs() {
-    "$program" rewrite --size="$size" --candidates="$candidates" -- "$schema_read" "$2" >"$1.made" 2>"$1.report"
+    local limits=()
+    [ "$pass" != rewrite ] || limits=("--size=$size" "--candidates=$candidates")
+    "$program" "$pass" ${limits[@]+"${limits[@]}"} -- "$schema_read" "$2" >"$1.made" 2>"$1.report"
     status=$?
     echo "$status" >"$1.status"
+}
+# knows COMMAND: whether the program has the command. One that hasn't ends with 14.
+knows() {
+    "$program" "$1" -- /dev/null /dev/null >/dev/null 2>&1
+    [ $? != 14 ]
+}
+# probe_passes: where narrow is one of the passes whether the program has it, asked once for all files.
+probe_passes() {
+    local number
+    knows_narrow=
+    if [ -n "${says['0 inline']:-}" ] && ! knows inline; then
+        say "$verb: the program has no inline"
+        exit 2
+    fi
+    for number in "${!files[@]}"; do
+        set_for "$number" only rewrite,narrow
+        case ,$value, in *,narrow,*) ;; *) continue ;; esac
+        [ -n "$knows_narrow" ] || ! knows narrow || knows_narrow=yes
+        [ -z "$knows_narrow" ] || return 0
+        set_for "$number" only ''
+        [ -n "$value" ] || continue
+        say "$verb: the program has no narrow"
+        exit 2
+    done
+}
+# passes_of N: the passes that a file goes through, in `passes`. Where there is but one, and nobody chose it, `passes_said` is empty: nothing says which it is.
+passes_of() {
+    passes=()
+    set_for "$1" only "$knows_narrow"
+    passes_said=${value:+rewrite}
+    [ -z "${says['0 inline']:-}" ] || passes=(inline)
+    set_for "$1" only rewrite,narrow
+    case ,$value, in *,rewrite,*) passes+=(rewrite) ;; esac
+    case ,$value, in *,narrow,*) [ -z "$knows_narrow" ] || passes+=(narrow) ;; esac
 }
 
 # whole FILE: its bytes for java.awk, which shows whether a line end stands last. (no byte of a source that is read is 255, and awk wants none that is 0)
@@ -21,7 +56,7 @@ whole() {
 
 # try NUMBER: takes one file, and leaves its new text (.text), what there is to say of it (.findings), and the diff of both (.diff).
 try() {
-    local at=$room/$1 name=${files[$1]} size candidates keep value schema_read
+    local at=$room/$1 name=${files[$1]} size candidates keep value schema_read passes passes_said
     [ "$1" != "${stdin_number:-}" ] || name=$room/stdin
     if ! take "$name" 1048577 "$at.java"; then
         echo read >"$at.status"
@@ -34,36 +69,66 @@ try() {
     set_for "$1" keep-comments yes
     keep=$value
     schema_of "$1"
+    passes_of "$1"
     : >"$at.findings"
     : >"$at.diff"
     cp "$at.java" "$at.text"
-    if ! as_read "$at" || ! { outputs "$at" "$at.read" && told "$at"; }; then echo broken >"$at.status"; fi
+    go_through "$at" || echo broken >"$at.status"
 }
-# told AT: what there is to say of what came.
-told() {
-    case $status in
-    0) loops "$1" || return ;;
-    5 | 6 | 7) faults "$1" || return ;;
-    esac
-    [ "$status" = 0 ] || return 0
+# go_through AT: the passes, each on what the one before it wrote (.before), with what it did (.PASS.moves). One that ends with another status than 0 is the last.
+go_through() {
+    local pass status
+    for pass in "${passes[@]}"; do
+        cp "$1.text" "$1.before" && as_read "$1" || return
+        outputs "$1" "$1.read"
+        case $status in
+        0) "told_by_$pass" "$1" || return ;;
+        # (what a pass wrote is read by the next one)
+        5 | 6 | 7) if [ "$pass" != "${passes[0]}" ] || ! faults "$1"; then return 1; fi ;;
+        esac
+        [ "$(<"$1.status")" = 0 ] || return 0
+    done
+    [ "${passes[*]}" = rewrite ] || joined "$1" || return
     diff -a "$1.java" "$1.text" >"$1.diff" || [ $? = 1 ]
 }
 
 # as_read AT: the (int) that stand where apply writes them are blank to the program.
 as_read() {
-    cp "$1.java" "$1.read" || return
-    grep -aqE '\([[:space:]]*int[[:space:]]*\)' "$1.java" || return 0
-    whole "$1.java" | awk -f "$verbs/java.awk" -f "$verbs/casts.awk" | tr '\377' '\000' >"$1.read"
+    cp "$1.before" "$1.read" || return
+    grep -aqE '\([[:space:]]*int[[:space:]]*\)' "$1.before" || return 0
+    whole "$1.before" | awk -f "$verbs/java.awk" -f "$verbs/casts.awk" | tr '\377' '\000' >"$1.read"
 }
 
-# loops AT: what the report says of the loops, and the text with what stands in their place.
-loops() {
+# told_by_inline AT: the text with the methods in which a call stood as they came.
+told_by_inline() {
+    cmp -s "$1.read" "$1.made" && return
+    MOVES=$1.inline.moves TO=$1.new awk -f "$verbs/java.awk" -f "$verbs/places.awk" -f "$verbs/patches.awk" -f "$verbs/anew.awk" /dev/null /dev/null <(whole "$1.read") <(whole "$1.made") <(whole "$1.before") || return
+    tr '\377' '\000' <"$1.new" >"$1.text"
+}
+# told_by_narrow AT: what the report says of the for-eachs, and the text with queries in place of their fetches.
+told_by_narrow() {
+    local sole=
+    grep -q '^loop ' "$1.report" || return 0
+    case " ${passes[*]} " in *' rewrite '*) ;; *) sole=yes ;; esac
+    SOLE=$sole MOVES=$1.narrow.moves TO=$1.new SILENCED=$1.silenced awk -f "$verbs/java.awk" -f "$verbs/places.awk" -f "$verbs/patches.awk" -f "$verbs/narrowed.awk" "$rules" "$1.report" <(whole "$1.read") <(whole "$1.made") <(whole "$1.before") >>"$1.findings" || return
+    tr '\377' '\000' <"$1.new" >"$1.text"
+}
+# joined AT: the findings of all passes at places of the file, each fix as what becomes of bytes of the file. A method that was printed anew stands as it was where
+# nothing in it gave way.
+joined() {
+    [ -s "$1.findings" ] || [ -s "$1.inline.moves" ] || return 0
+    AT=$1 TO=$1.new ANEW=$1.anew awk -f "$verbs/java.awk" -f "$verbs/joined.awk" <(whole "$1.java") <(whole "$1.text") "$1.findings" >"$1.joined" || return
+    mv "$1.joined" "$1.findings" && tr '\377' '\000' <"$1.new" >"$1.text"
+}
+
+# told_by_rewrite AT: what the report says of the loops, and the text with what stands in their place.
+told_by_rewrite() {
     local mark=
     grep -q '^loop ' "$1.report" || return 0
     silence "$1" || return
     [ "$(<"$1.status")" = 0 ] || return 0
-    MARK=${mark:+"System.out.println(\"$mark\");"} END_MARK=${mark:+"/*$mark*/"} SHIFTS=${mark:+"$1.shifts"} TO=$1.new SILENCED=$1.silenced KEEP=$keep SIZE=$size CANDIDATES=$candidates \
-        awk -f "$verbs/java.awk" -f "$verbs/places.awk" -f "$verbs/patches.awk" -f "$verbs/findings.awk" "$rules" "$1.report" <(whole "$1.read") <(whole "$1.made") <(whole "$1.java") >"$1.findings" || return
+    PASS=$passes_said MOVES=$1.rewrite.moves MARK=${mark:+"System.out.println(\"$mark\");"} END_MARK=${mark:+"/*$mark*/"} SHIFTS=${mark:+"$1.shifts"} TO=$1.new SILENCED=$1.silenced KEEP=$keep SIZE=$size CANDIDATES=$candidates \
+        awk -f "$verbs/java.awk" -f "$verbs/places.awk" -f "$verbs/patches.awk" -f "$verbs/findings.awk" "$rules" "$1.report" <(whole "$1.read") <(whole "$1.made") <(whole "$1.before") >"$1.findings" || return
     tr '\377' '\000' <"$1.new" >"$1.text"
 }
 
@@ -83,7 +148,9 @@ silence() {
 
 # faults AT: the fault, and those of other members. Each member with one is made blank, and the program reads what is left, until it finds none.
 faults() {
-    local first=$status left=$1.read turns=0
+    local first=$status left=$1.read turns=0 by_inline=
+    # (a class that is read where calls give way to the methods' bodies)
+    if [ "$first" = 6 ] && [ "$pass" != inline ] && grep -q ' parse 1 ' "$1.report" && "$program" inline -- "$schema_read" "$1.read" >/dev/null 2>&1; then by_inline=yes; fi
     while [ "$status" = 6 ] || [ "$status" = 7 ]; do
         cat "$1.report" >>"$1.faults"
         turns=$((turns + 1))
@@ -99,7 +166,7 @@ faults() {
     [ "$first" != 5 ] || cp "$1.report" "$1.faults"
     echo "$first" >"$1.status"
     if [ "$first" = 5 ]; then left=$schema_read; else left=$1.java; fi
-    CHARACTERS=yes awk -f "$verbs/java.awk" -f "$verbs/faults.awk" -f "$verbs/constructs.awk" "$rules" "$verbs/../cures.tsv" "$1.faults" <(whole "$left") >"$1.findings"
+    INLINE=$by_inline CHARACTERS=yes awk -f "$verbs/java.awk" -f "$verbs/faults.awk" -f "$verbs/constructs.awk" "$rules" "$verbs/../cures.tsv" "$1.faults" <(whole "$left") >"$1.findings"
 }
 
 # schema_of N: the copy of the schema of a file, in `schema_read`.
@@ -155,6 +222,7 @@ draw_named() {
 try_all() {
     local number running=0 most
     take_schemas
+    probe_passes
     most=$(nproc 2>/dev/null || echo 2)
     if [ -t 2 ]; then
         progress &
