@@ -15,11 +15,7 @@ END {
     write_text(ENVIRON["TO"])
     for (number = 1; number <= loops; number++) {
         self = loop[number]
-        if (is_silent(number)) {
-            if (over_table(self) && first[self] > silent_to) silenced++
-            if (last[self] > silent_to) silent_to = last[self]
-            continue
-        }
+        if (passed_over(number)) continue
         g = kind[number] == "narrowed" ? stretch_of[self] : 0
         if (!g && ENVIRON["SOLE"] == "") continue
         place = g ? token_line[stretch_first[g]] "\t" token_column[stretch_first[g]] "\t" token_last[stretch_last[g]] "\t" token_end[stretch_last[g]] "\t" packed(stretch_text[g]) : "\t\t\t\t"

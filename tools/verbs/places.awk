@@ -158,3 +158,11 @@ function is_silent(number,    off, at, self) {
     }
     return 0
 }
+# Whether the loop of this number is silenced; it counts those over a table that stand in no other one. To be asked once for each loop, in the order of the file.
+function passed_over(number,    self) {
+    if (!is_silent(number)) return 0
+    self = loop[number]
+    if (over_table(self) && first[self] > silent_to) silenced++
+    if (last[self] > silent_to) silent_to = last[self]
+    return 1
+}
