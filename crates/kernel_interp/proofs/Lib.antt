@@ -12,3 +12,4 @@ pub mod Visited
 pub mod Tupled
 pub mod Claimed
 pub mod EndGiven
+pub mod Fitting

@@ -3,3 +3,4 @@ pub mod Marking
 pub mod Ends
 pub mod Members
 pub mod Claiming
+pub mod Fits

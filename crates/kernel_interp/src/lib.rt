@@ -5,6 +5,7 @@ mod atom;
 mod choice;
 mod claim;
 mod claims;
+mod fits;
 mod flag;
 mod fragment;
 mod given;
@@ -21,5 +22,6 @@ mod truth;
 mod visit;
 
 pub use claim::ends_as_claimed;
+pub use fits::parts_fit;
 pub use fragment::run_fragment;
 pub use kernel_steps::FragmentEnd;

@@ -12,8 +12,8 @@ use qbs_base::{Db, NoMemory, Row};
 use std::alloc::{AllocError, Global};
 use std::cmp::Ordering;
 
-// The rows of a table; none where there is no such table.
-fn table_rows(db: &Db, table: u32) -> &[Row]
+/// The rows of a table; none where there is no such table.
+pub fn table_rows(db: &Db, table: u32) -> &[Row]
     ensures { result.now ≡ rows_of db.now table }
 {
     match db.rows(table) {
