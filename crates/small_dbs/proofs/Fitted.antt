@@ -157,7 +157,7 @@ at_typed P (x ∷ xs) k h n = all_get P (x ∷ xs) (k % length (x ∷ xs)) x h h
 abbrev pub IsChoice : Choice → Type 0
 IsChoice v = (ty : Ty) (k : ℕ) → HasTy ty (value_at (v ty) k)
 
-is_choice : (f : Fragment) → IsChoice (values f)
+pub is_choice : (f : Fragment) → IsChoice (values f)
 is_choice f ty k = at_typed (HasTy ty) (values f ty) k (values_typed f ty) (values_there f ty)
 
 -- ---- what is made of them
@@ -188,7 +188,7 @@ module _ (v : Choice) (chosen : IsChoice v) where
   are_entries k [] = tt
   are_entries k (ty ∷ rest) = (chosen ty k, are_entries (k + 2) rest)
 
-  members_typed : (ty : Ty) (k n : ℕ) → AllByRecursion (HasTy ty) (members (v ty) k n)
+  pub members_typed : (ty : Ty) (k n : ℕ) → AllByRecursion (HasTy ty) (members (v ty) k n)
   members_typed ty k zero = tt
   members_typed ty k (suc n) = (chosen ty k, members_typed ty (k + 1) n)
 

@@ -15,7 +15,7 @@ mod tables;
 mod values;
 
 pub use fitting::fits;
-pub use made::small_dbs;
+pub use made::{small_db_at, small_dbs};
 pub use pruning::prune;
 pub use refute::refutes;
 pub use small::{SmallDb, SmallDbs};

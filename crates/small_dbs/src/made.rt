@@ -20,7 +20,42 @@ use qbs_base::{Items, NoMemory};
 use schema::Schema;
 use std::alloc::Global;
 
-// Pushes small database number d.
+// Small database number d.
+fn small_of(
+    alloc: Global,
+    schema: &Schema,
+    frag: &KFragment,
+    values: &Values,
+    d: usize,
+) -> Result<SmallDb, NoMemory>
+    requires low { d < 8 }
+    requires own { held values.now ≡ literals.values (fragment_of frag.now) }
+    ensures { IfOk result (λ small. small ≡ spec.small schema.now (fragment_of frag.now) d) }
+{
+    let db = small_db(alloc, values, d, schema)?;
+    let mut own = Items::new(alloc);
+    push_entries(alloc, values, d, frag.entries.as_slice(), &mut own)?;
+    let known = known_lists(alloc, schema.tables(), frag, values, d)?;
+    Ok(SmallDb {
+        db,
+        entry: Entry { values: own, known },
+    })
+}
+
+/// Small database number `d` alone, as `small_dbs` has it. It fails only by want of memory.
+pub fn small_db_at(
+    alloc: Global,
+    schema: &Schema,
+    frag: &KFragment,
+    d: usize,
+) -> Result<SmallDb, NoMemory>
+    requires { d < 8 }
+    ensures { IfOk result (λ small. small ≡ spec.small schema.now (fragment_of frag.now) d) }
+{
+    let values = values_of(alloc, frag)?;
+    small_of(alloc, schema, frag, &values, d)
+}
+
 fn push_small(
     alloc: Global,
     schema: &Schema,
@@ -33,14 +68,7 @@ fn push_small(
     requires own { held values.now ≡ literals.values (fragment_of frag.now) }
     ensures { OnOk result (all.new ≡ all.old ++ spec.small schema.now (fragment_of frag.now) d ∷ []) }
 {
-    let db = small_db(alloc, values, d, schema)?;
-    let mut own = Items::new(alloc);
-    push_entries(alloc, values, d, frag.entries.as_slice(), &mut own)?;
-    let known = known_lists(alloc, schema.tables(), frag, values, d)?;
-    all.push(SmallDb {
-        db,
-        entry: Entry { values: own, known },
-    })
+    all.push(small_of(alloc, schema, frag, values, d)?)
 }
 
 fn push_smalls(
