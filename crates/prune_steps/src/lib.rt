@@ -1,6 +1,8 @@
-//! What a pruner answers of a candidate.
+//! What a pruner answers of a candidate, and how much evidence is held.
 #![tactic(auto)]
 
 mod answer;
+mod room;
 
 pub use answer::answered;
+pub use room::is_full;
