@@ -5,7 +5,7 @@ use Rattle.qbs_base.specs.declared.span.Span.{Span}
 use Rattle.verdicts.specs.declared.verdict.LoopVerdict.{LoopVerdict}
 use Rattle.verdicts.specs.declared.verdict.Said.TheVariants as says
 use Rattle.verdicts.specs.Lines.{line, place_text}
-use Rattle.verdicts.specs.Reports.{said_text, verdict_line, pruned_line}
+use Rattle.verdicts.specs.Reports.{said_text, verdict_line, pruned_line, unnested_line}
 
 pub place_lined : (at : Span) → decimal at.line ++ (codes ":" ++ decimal at.column) ≡ place_text at
 place_lined at = simp append_assoc
@@ -36,3 +36,6 @@ verdict_lined v place said is kept =
 
 pub pruned_lined : (n : ℕ) → codes "pruned " ++ (decimal n ++ codes "\n") ≡ pruned_line n
 pruned_lined n = simp append_assoc
+
+pub unnested_lined : (n : ℕ) → codes "unnested " ++ (decimal n ++ codes "\n") ≡ unnested_line n
+unnested_lined n = simp append_assoc

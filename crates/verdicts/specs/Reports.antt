@@ -18,3 +18,7 @@ verdict_line v = line (codes "loop " ++ place_text v.at ++ codes " " ++ said_tex
 
 abbrev pub pruned_line : ℕ → List ℕ
 pruned_line n = line (codes "pruned " ++ decimal n)
+
+-- how many loops were unnested
+abbrev pub unnested_line : ℕ → List ℕ
+unnested_line n = line (codes "unnested " ++ decimal n)

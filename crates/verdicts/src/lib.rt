@@ -4,5 +4,5 @@
 mod lines;
 mod verdict;
 
-pub use lines::report;
+pub use lines::{report, unnest_report};
 pub use verdict::{LoopVerdict, Said, Verdicts};

@@ -1,9 +1,9 @@
 // The lines of a report.
-ghost use Rattle.std.specs.Prelude.{◌≡◌, ◌++◌, IfOk, OnOk, string_bytes};
+ghost use Rattle.std.specs.Prelude.{◌≡◌, ◌++◌, IfOk, OnOk, length, string_bytes};
 ghost use Rattle.std.specs.List.{flat_map};
 ghost use Rattle.verdicts.specs.declared.verdict.Said.{Said};
 ghost use Rattle.verdicts.specs.Lines.{place_text};
-ghost use Rattle.verdicts.specs.Reports.{said_text, verdict_line, pruned_line};
+ghost use Rattle.verdicts.specs.Reports.{said_text, verdict_line, pruned_line, unnested_line};
 
 use crate::verdict::{LoopVerdict, Said};
 use qbs_base::{Bytes, NoMemory, Span};
@@ -110,5 +110,30 @@ pub fn report(alloc: Global, verdicts: &[LoopVerdict], dropped: u64) -> Result<B
     let mut out = Vec::new(alloc);
     push_verdicts(alloc, &mut out, verdicts)?;
     push_pruned(alloc, &mut out, dropped)?;
+    Ok(Bytes::from_vec(out))
+}
+
+fn unnested(alloc: Global, n: u64) -> Result<String, AllocError>
+    ensures { IfOk result (λ s. string_bytes s ≡ unnested_line n) }
+{
+    let text = format!(in alloc; "unnested {n}\n")?;
+    Ok(text)
+}
+
+fn push_unnested(alloc: Global, out: &mut Vec<u8>, n: u64) -> Result<(), NoMemory>
+    ensures { OnOk result (out.new.items ≡ out.old.items ++ unnested_line n) }
+{
+    let text = unnested(alloc, n)?;
+    out.extend_from_slice(text.as_bytes())?;
+    Ok(())
+}
+
+/// A line for each loop that was unnested, and how many they are.
+pub fn unnest_report(alloc: Global, verdicts: &[LoopVerdict]) -> Result<Bytes, NoMemory>
+    ensures { IfOk result (λ bytes. bytes ≡ flat_map verdict_line verdicts.now ++ unnested_line (length verdicts.now)) }
+{
+    let mut out = Vec::new(alloc);
+    push_verdicts(alloc, &mut out, verdicts)?;
+    push_unnested(alloc, &mut out, verdicts.len() as u64)?;
     Ok(Bytes::from_vec(out))
 }
