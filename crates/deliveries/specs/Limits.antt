@@ -18,5 +18,9 @@ abbrev pub most_tables : ℕ
 most_tables = 33554432
 
 -- 16 MiB
+abbrev pub most_store : ℕ
+most_store = 16777216
+
+-- 16 MiB
 abbrev pub most_dump : ℕ
 most_dump = 16777216

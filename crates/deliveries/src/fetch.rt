@@ -21,6 +21,9 @@ pub const MOST_SOURCE: u64 = 1048576;
 /// The most bytes of a bundle.
 pub const MOST_BUNDLE: u64 = 16777216;
 
+/// The most bytes of a store.
+pub const MOST_STORE: u64 = 16777216;
+
 /// The most bytes of all tables together.
 pub const MOST_TABLES: u64 = 33554432;
 
