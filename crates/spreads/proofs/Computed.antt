@@ -15,15 +15,18 @@ use Rattle.java_ast.specs.Tree.{Expression, Statement, PlainMethod, Statements, 
 use Rattle.java_mean.specs.declared.types.JavaType.TheVariants.{Of, Listed}
 use Rattle.java_mean.specs.declared.types.Single.TheVariants.{ScalarOf, RowOf}
 use Rattle.java_mean.specs.Asks.{type_of_found, frame_of}
+use Rattle.java_mean.specs.Numbers.{NumbersFit}
 use Rattle.java_mean.specs.Queries.{Reader}
 use Rattle.java_mean.specs.Types.{Types, with_type}
 use Rattle.java_mean.specs.Typing.{QueryType, Frame, HasType, var, field, fetch, query, no_more, and, listed, TypedStatement, add, for_each, TypedStatements, done as nothing, next}
+use Rattle.java_mean.specs.WellTyped.{IsWellTyped}
 use Rattle.java_mean.specs.Worked.{somewhere, User, Role, u, out}
 use Rattle.spreads.specs.Covers.{Covers}
 use Rattle.spreads.specs.Narrowed.{narrowed_at}
 use Rattle.spreads.specs.Spread.{Reads, value_declared, spread_in, spread_among, selects_in, selects_among, spread_of}
-use Rattle.spreads.specs.Worked.{r, by_id, by_id_text, asked, add_label, each_user, asking, declare_roles, walk_roles, declaring, walk_out, spread_out, with_out}
+use Rattle.spreads.specs.Worked.{r, by_id, by_id_text, asked, add_label, each_user, asking, declare_roles, walk_roles, declaring, walk_out, spread_out, with_out, labelling}
 use Rattle.spreads.specs.WorkedNarrow.{program_of, walking, declaring as declaring_users, users, users_asked}
+use Rattle.spreads.proofs.Sound as sound
 use Rattle.spreads.proofs.Spreading.{spread_covers}
 
 has_query : HasQuery staff_schema by_id_text by_id
@@ -99,6 +102,25 @@ module _ (reader : Reader staff_schema) (m : PlainMethod) where
 
   pub covered : Covers frame None with_out with_out (Then asking Nothing) (Then spread_out Nothing)
   covered = spread_covers staff_schema reader m None with_out with_out asking spread_out typed (direct reader)
+
+-- ---- Programs with the loop
+
+asking_typed : (read : Reads) → read by_id_text ≡ Some by_id → IsWellTyped staff_schema read (labelling asking)
+asking_typed read e = rw e refl
+
+declaring_typed : (read : Reads) → read by_id_text ≡ Some by_id → IsWellTyped staff_schema read (labelling declaring)
+declaring_typed read e = rw e refl
+
+pub direct_program : (reader : Reader staff_schema) → IsWellTyped staff_schema reader.read (labelling asking) × NumbersFit (labelling asking)
+direct_program reader = (asking_typed reader.read (read_is reader), refl)
+
+pub declared_program : (reader : Reader staff_schema) → IsWellTyped staff_schema reader.read (labelling declaring) × NumbersFit (labelling declaring)
+declared_program reader = (declaring_typed reader.read (read_is reader), refl)
+
+pub after_program : (reader : Reader staff_schema) → IsWellTyped staff_schema reader.read (labelling spread_out) × NumbersFit (labelling spread_out)
+after_program reader =
+    let before = declared_program reader in
+    (sound.typed staff_schema reader (labelling declaring) (0 ∷ 1 ∷ []) declaring spread_out before.0 refl (declared reader), sound.numbers staff_schema reader (labelling declaring) (0 ∷ 1 ∷ []) declaring spread_out before.1 refl (declared reader))
 
 -- ---- Walks that are narrowed
 

@@ -7,10 +7,10 @@ use Rattle.qbs_base.specs.declared.span.Span.{Span}
 use Rattle.java_ast.specs.Names.{Names, names_in, names_among, mentioned_in, mentioned_among}
 use Rattle.java_ast.specs.Tree as tree
 use Rattle.java_ast.specs.Tree.{Spelled, Expression, Expressions, Statement, Statements, Nothing, Then}
-use Rattle.java_mean.specs.Mentions.{EachIn, EachAmong, EachMentionedIn, EachMentioned}
+use Rattle.java_mean.specs.Mentions.{EachIn, EachAmong, EachMentionedIn, EachMentioned, EachDeclaredIn, EachDeclared}
 use Rattle.java_mean.proofs.Puts.{name_same}
 use Rattle.sql_ast.proofs.Tools.{all_parts}
-use Rattle.spreads.specs.Alone.{all_declared_within, times_named}
+use Rattle.spreads.specs.Alone.{declared_within, all_declared_within, times_named}
 
 module _ (P : List ℕ → Type 0) where
   mutual
@@ -58,6 +58,24 @@ module _ (P : List ℕ → Type 0) where
     each_mentioned Nothing h = tt
     each_mentioned (Then a p) h = (let q = all_parts P (mentioned_in a) (mentioned_among p) h in (each_mentioned_in a q.0, each_mentioned p q.1))
 
+  mutual
+    each_declared_in : (a : Statement) → AllByRecursion P (declared_within a) → EachDeclaredIn P a
+    each_declared_in (tree.Declare at ty x e) h = h.0
+    each_declared_in (tree.If at c a) h = each_declared a h
+    each_declared_in (tree.IfElse at c a b) h = (let p = all_parts P (all_declared_within a) (all_declared_within b) h in (each_declared a p.0, each_declared b p.1))
+    each_declared_in (tree.ForEach at ty x e body) h = (h.0, each_declared body h.1)
+    each_declared_in (tree.While at c body) h = each_declared body h
+    each_declared_in (tree.Assign at x e) h = tt
+    each_declared_in (tree.Add at x e) h = tt
+    each_declared_in (tree.Sort at x keys down) h = tt
+    each_declared_in (tree.Print at e) h = tt
+    each_declared_in (tree.Return at e) h = tt
+    each_declared_in (tree.Break at) h = tt
+
+    pub each_declared : (p : Statements) → AllByRecursion P (all_declared_within p) → EachDeclared P p
+    each_declared Nothing h = tt
+    each_declared (Then a p) h = (let q = all_parts P (declared_within a) (all_declared_within p) h in (each_declared_in a q.0, each_declared p q.1))
+
 abbrev pub Other : List ℕ → List ℕ → Type 0
 Other x z = bytes_eq x z ≡ false
 
@@ -80,6 +98,8 @@ pub record AreOthers (x y : List ℕ) (body p : Statements) : Type 0 where
   pub row : Other x y
   pub inside : EachMentioned (Other x) body
   pub behind : EachMentioned (Other x) p
+  pub declared_inside : EachDeclared (Other x) body
+  pub declared_behind : EachDeclared (Other x) p
 
 -- nothing else in the walk and behind it has the name
 pub others : (x : List ℕ) (at at' : Span) (ty : Spelled) (y : List ℕ) (body p : Statements) → times_named x (Then (tree.ForEach at ty y (tree.Var at' x) body) p) ≡ 1 → AreOthers x y body p
@@ -87,7 +107,8 @@ others x at at' ty y body p e =
     let rest = once_first x ((mentioned_among body ++ mentioned_among p) ++ ((y ∷ all_declared_within body) ++ all_declared_within p)) e in
     let a = all_parts (Other x) (mentioned_among body ++ mentioned_among p) ((y ∷ all_declared_within body) ++ all_declared_within p) rest in
     let b = all_parts (Other x) (mentioned_among body) (mentioned_among p) a.0 in
-    record { row = a.1.0; inside = each_mentioned (Other x) body b.0; behind = each_mentioned (Other x) p b.1 }
+    let d = all_parts (Other x) (all_declared_within body) (all_declared_within p) a.1.1 in
+    record { row = a.1.0; inside = each_mentioned (Other x) body b.0; behind = each_mentioned (Other x) p b.1; declared_inside = each_declared (Other x) body d.0; declared_behind = each_declared (Other x) p d.1 }
 
 pub once : (n : ℕ) → nat_eq n 1 ≡ true → n ≡ 1
 once n e = grind (arith, nat_tests)

@@ -35,14 +35,14 @@ use Rattle.java_mean.proofs.Simulates.{Holds}
 use Rattle.java_mean.proofs.TypedRuns.{extends_statement}
 use Rattle.java_mean.proofs.TypedValues.{rows_in, typed_value}
 use Rattle.sql_ast.proofs.Tools.{all_parts}
-use Rattle.spreads.specs.Alone.{times_named, is_variable, walks_alone}
+use Rattle.spreads.specs.Alone.{times_named, walks_alone}
 use Rattle.spreads.specs.Covers.{with_turns, Covered, Covers}
-use Rattle.spreads.specs.Spread.{Select, select_of, is_there, some_if, value_declared, walked, walked_or, spread_in, spread_among, selects_among, spread_of}
+use Rattle.spreads.specs.Spread.{Select, select_of, is_there, value_declared, walked, walked_or, spread_in, spread_among, selects_among, spread_of}
 use Rattle.spreads.specs.Staying.{assigned_in, assigned_among}
-use Rattle.spreads.proofs.Chosen.{both_so}
 use Rattle.spreads.proofs.Covering.{IsWalk, covered_same, covered_fewer, covered_done, covered_then, covered_branch, beside_alike, walk_covers}
 use Rattle.spreads.proofs.Itself.{covers_itself}
-use Rattle.spreads.proofs.Named.{Other, AreOthers, others, once}
+use Rattle.spreads.proofs.Named.{Other, AreOthers, others}
+use Rattle.spreads.proofs.Pairs.{IsPair, pair_if}
 use Rattle.spreads.proofs.Passing.{IsAmong, Untouched}
 use Rattle.spreads.proofs.Repeated.{covered_repeat}
 use Rattle.spreads.proofs.Selected.{found_select, SelectTyped, select_of_typed, chosen_rows, value_is, value_fails, select_walk}
@@ -198,31 +198,6 @@ module _ (schema : Schema) (reader : Reader schema) (m : PlainMethod) (assigned 
 
   -- ---- A select that is declared for a walk
 
-  record IsPair (x : List ℕ) (e : Expression) (at : Span) (ty : Spelled) (y : List ℕ) (e2 : Expression) (body p : Statements) (v : Expression) : Type 0 where
-    pub place : Span
-    pub walks : e2 ≡ tree.Var place x
-    pub once : times_named x (Then (tree.ForEach at ty y e2 body) p) ≡ 1
-    pub select : Select
-    pub selects : select_of schema reader.read assigned e ≡ Some select
-    pub value : e ≡ v
-
-  var_is : (x : List ℕ) (e : Expression) → is_variable x e ≡ true → (place : Span) × (e ≡ tree.Var place x)
-  var_is x (tree.Var at y) h = (at, ap (tree.Var at) (sym (names_equal x y h)))
-  var_is x e h = absurd cc
-
-  there_is : (o : Option Select) → is_there o ≡ true → (s : Select) × (o ≡ Some s)
-  there_is (Some s) h = (s, refl)
-  there_is None h = absurd cc
-
-  pair_if : (x : List ℕ) (e : Expression) (at : Span) (ty : Spelled) (y : List ℕ) (e2 : Expression) (body p : Statements) (v : Expression) (b : Bool) → (walks_alone x (Then (tree.ForEach at ty y e2 body) p) && is_there (select_of schema reader.read assigned e)) ≡ b → some_if b e ≡ Some v → IsPair x e at ty y e2 body p v
-  pair_if x e at ty y e2 body p v false h i = absurd cc
-  pair_if x e at ty y e2 body p v true h i =
-      let both = both_so (walks_alone x (Then (tree.ForEach at ty y e2 body) p)) (is_there (select_of schema reader.read assigned e)) h in
-      let alone = both_so (is_variable x e2) (nat_eq (times_named x (Then (tree.ForEach at ty y e2 body) p)) 1) both.0 in
-      let var = var_is x e2 alone.0 in
-      let sel = there_is (select_of schema reader.read assigned e) both.1 in
-      record { place = var.0; walks = var.1; once = once (times_named x (Then (tree.ForEach at ty y e2 body) p)) alone.1; select = sel.0; selects = sel.1; value = ap (λ (o : Option Expression). elim o as (λ _. Expression) [ Some z ↦ z | None ↦ e ]) i }
-
   same_beside : (x : List ℕ) (k : JavaType) (g : Types) → Same (Other x) g (with_type x (Some k) g)
   same_beside x k g z n = ap (λ b. cond b (Some k) (g z)) (sym n)
 
@@ -307,7 +282,7 @@ module _ (schema : Schema) (reader : Reader schema) (m : PlainMethod) (assigned 
       ]
 
   module _ (l : Option Types) (g h1 m1 : Types) (at : Span) (ty : Spelled) (x : List ℕ) (e : Expression) (at2 : Span) (ty2 : Spelled) (y : List ℕ) (e2 : Expression) (body p : Statements) (one : TypedStatement frame l g (tree.Declare at ty x e) h1) (rest : TypedStatements frame l h1 (Then (tree.ForEach at2 ty2 y e2 body) p) m1) (names : AllByRecursion (IsAmong assigned) (assigned_among body)) (names' : AllByRecursion (IsAmong assigned) (assigned_among p)) (seen : Seen l g) (c : BlockCovers body) (c' : BlockCovers p) (later : BlockCovers (Then (tree.ForEach at2 ty2 y e2 body) p)) (both : AllByRecursion (IsAmong assigned) (assigned_among (Then (tree.ForEach at2 ty2 y e2 body) p))) where
-    as_pair : (v : Expression) → IsPair x e at2 ty2 y e2 body p v → CoversBy l g g (meanings (Then (tree.Declare at ty x e) (Then (tree.ForEach at2 ty2 y e2 body) p)) w) (meanings (Then (walked_or schema at2 ty2 y e2 (select_of schema reader.read assigned v) (spread_block body)) (spread_block p)) w)
+    as_pair : (v : Expression) → IsPair schema reader assigned x e at2 ty2 y e2 body p v → CoversBy l g g (meanings (Then (tree.Declare at ty x e) (Then (tree.ForEach at2 ty2 y e2 body) p)) w) (meanings (Then (walked_or schema at2 ty2 y e2 (select_of schema reader.read assigned v) (spread_block body)) (spread_block p)) w)
     as_pair v pair =
         let d : DeclareTyped frame g ty x e h1 = typing frame l g (tree.Declare at ty x e) h1 one in
         let rest' : TypedStatements frame l (with_type x (Some d.type) g) (Then (tree.ForEach at2 ty2 y e2 body) p) m1 = subst (λ z. TypedStatements frame l z (Then (tree.ForEach at2 ty2 y e2 body) p) m1) d.end rest in
@@ -322,7 +297,7 @@ module _ (schema : Schema) (reader : Reader schema) (m : PlainMethod) (assigned 
         (subst (λ o. CoversBy l g g (meanings (Then (tree.Declare at ty x e) (Then (tree.ForEach at2 ty2 y (tree.Var pair.place x) body) p)) w) (meanings (Then (walked_or schema at2 ty2 y (tree.Var pair.place x) o (spread_block body)) (spread_block p)) w)) (sym there) covers)
 
     declared_covers : (o : Option Expression) → value_declared schema reader.read assigned (tree.Declare at ty x e) (Then (tree.ForEach at2 ty2 y e2 body) p) ≡ o → CoversBy l g g (meanings (Then (tree.Declare at ty x e) (Then (tree.ForEach at2 ty2 y e2 body) p)) w) (meanings (declared_spread o at ty x e at2 ty2 y e2 body p) w)
-    declared_covers (Some v) h = as_pair v (pair_if x e at2 ty2 y e2 body p v (walks_alone x (Then (tree.ForEach at2 ty2 y e2 body) p) && is_there (select_of schema reader.read assigned e)) refl h)
+    declared_covers (Some v) h = as_pair v (pair_if schema reader assigned x e at2 ty2 y e2 body p v (walks_alone x (Then (tree.ForEach at2 ty2 y e2 body) p) && is_there (select_of schema reader.read assigned e)) refl h)
     declared_covers None h = λ s t i. (
         let wider = extends_statement frame l g h1 (tree.Declare at ty x e) one in
         covered_then schema l h1 g s t (meaning (tree.Declare at ty x e) w s) (meaning (tree.Declare at ty x e) w) (meanings (Then (tree.ForEach at2 ty2 y e2 body) p) w) (meanings (spread_block (Then (tree.ForEach at2 ty2 y e2 body) p)) w) (λ k z. meaning_same k (tree.Declare at ty x e) w z) (λ u v a. covered_fewer schema l h1 g u v (meanings (Then (tree.ForEach at2 ty2 y e2 body) p) w u) (meanings (spread_block (Then (tree.ForEach at2 ty2 y e2 body) p)) w) wider (later l h1 m1 rest both (λ b q j k r. wider j k (seen b q j k r)) u v a)) (covers_itself frame l g (tree.Declare at ty x e) h1 one w world s t i))

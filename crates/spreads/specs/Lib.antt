@@ -1,8 +1,11 @@
 pub mod Alone
+pub mod Beside
 pub mod Conditions
 pub mod Covers
+pub mod Inner
 pub mod Narrowed
 pub mod Passing
+pub mod Selected
 pub mod Spread
 pub mod Staying
 pub mod Worked

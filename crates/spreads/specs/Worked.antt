@@ -9,11 +9,12 @@ use Rattle.sql_ast.specs.declared.tree.SqlItem.TheVariants as items
 use Rattle.sql_ast.specs.declared.tree.SqlOpnd.TheVariants as opnds
 use Rattle.sql_ast.specs.Tree.{Compare, Where, PlainQuery, Listing}
 use Rattle.java_ast.specs.declared.tree.Op.TheVariants as ops
-use Rattle.java_ast.specs.Tree.{Table, ListOf, Expression, Var, Binary, Fetch, Query, NoMore, And, Statement, Declare, Add, ForEach, If, Statements, Nothing, Then, Field}
+use Rattle.java_ast.specs.Tree.{Table, ListOf, String, Expression, Var, Binary, Fetch, Query, NewList, NoMore, And, Statement, Declare, Add, ForEach, If, Statements, Nothing, Then, PlainProgram, Field}
 use Rattle.java_mean.specs.declared.types.JavaType.TheVariants.{Listed}
 use Rattle.java_mean.specs.declared.types.Single.TheVariants.{ScalarOf}
 use Rattle.java_mean.specs.Types.{Types, with_type}
 use Rattle.java_mean.specs.Worked.{somewhere, User, Role, u, out}
+use Rattle.spreads.specs.WorkedNarrow.{program_of}
 
 abbrev pub r : List ℕ
 r = codes "r"
@@ -73,3 +74,7 @@ spread_out = each_user walk_out
 -- the list that the loop adds to is visible
 abbrev pub with_out : Types
 with_out = with_type out (Some (Listed (ScalarOf tys.Text))) (λ x. None)
+
+-- List<String> out = new ArrayList<>(); and then the loop
+abbrev pub labelling : Statement → PlainProgram
+labelling s = program_of (Then (Declare somewhere (ListOf String) out (NewList somewhere)) (Then s Nothing))

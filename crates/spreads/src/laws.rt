@@ -16,15 +16,18 @@ ghost use Rattle.sql_ast.specs.declared.tree.FromItem.{FromItem};
 ghost use Rattle.sql_ast.specs.Meaning.{Rows, query_answer};
 ghost use Rattle.sql_ast.specs.Tree.{Condition, Where, PlainListing, Listing};
 ghost use Rattle.java_ast.specs.Names.{Names, is_among};
-ghost use Rattle.java_ast.specs.Tree.{PlainMethod, Expression, Expressions, Fetch, Statement, Statements, Nothing, Then};
+ghost use Rattle.java_ast.specs.Path.{statement_at, last_of, replaced_at};
+ghost use Rattle.java_ast.specs.Tree.{PlainMethod, PlainProgram, Expression, Expressions, Fetch, Statement, Statements, Nothing, Then};
 ghost use Rattle.java_mean.specs.declared.types.JavaType.{JavaType};
 ghost use Rattle.java_mean.specs.Asks.{frame_of};
 ghost use Rattle.java_mean.specs.Expression.{value_of, scalars_of, element};
+ghost use Rattle.java_mean.specs.Numbers.{NumbersFit};
 ghost use Rattle.java_mean.specs.Queries.{Reader};
 ghost use Rattle.java_mean.specs.Statement.{State, GoesOn, test_of, meanings};
 ghost use Rattle.java_mean.specs.Store.{Store, plainly};
 ghost use Rattle.java_mean.specs.Types.{Types, IsTyped};
 ghost use Rattle.java_mean.specs.Typing.{Frame, IsWorld, HasType, HaveTypes, Extends, TypedStatement, TypedStatements};
+ghost use Rattle.java_mean.specs.WellTyped.{IsWellTyped};
 ghost use Rattle.java_mean.specs.World.{World};
 ghost use Rattle.java_loops.specs.Walks.Reads.{Set};
 ghost use Rattle.java_loops.specs.Walks.Replacing.{Ask, MayGiveWay};
@@ -109,4 +112,20 @@ pub fn loops_give_way_as_their_spreads()
         → AllByRecursion (λ (k : Ask). (ty : JavaType) × (z k.name ≡ Some ty)) ks
         → MayGiveWay c g m run spread r ks
         → MayGiveWay c g m run one r ks }
+{}
+
+/// A well-typed program stays well typed where the spread of a for-each stands in its place, and its literals have 64 bits if those of the
+/// program have.
+pub fn spread_programs_are_well_typed()
+    ensures typed { (schema : Schema) (reader : Reader schema) (p : PlainProgram) (path : List ℕ) (s z : Statement)
+        → IsWellTyped schema reader.read p
+        → statement_at path p ≡ Some s
+        → spread_of schema reader.read s ≡ Some z
+        → IsWellTyped schema reader.read (replaced_at path (last_of path) (Then z Nothing) p) }
+    ensures numbers { (schema : Schema) (reader : Reader schema) (p : PlainProgram) (path : List ℕ) (s z : Statement)
+        → IsWellTyped schema reader.read p
+        → NumbersFit p
+        → statement_at path p ≡ Some s
+        → spread_of schema reader.read s ≡ Some z
+        → NumbersFit (replaced_at path (last_of path) (Then z Nothing) p) }
 {}

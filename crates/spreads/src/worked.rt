@@ -4,12 +4,14 @@ ghost use Rattle.std.specs.declared.option.Option.TheVariants.{Some, None};
 ghost use Rattle.sql_ast.specs.Worked.{staff_schema};
 ghost use Rattle.java_ast.specs.Tree.{PlainMethod, Nothing, Then};
 ghost use Rattle.java_mean.specs.Asks.{frame_of};
+ghost use Rattle.java_mean.specs.Numbers.{NumbersFit};
 ghost use Rattle.java_mean.specs.Queries.{Reader};
 ghost use Rattle.java_mean.specs.Typing.{TypedStatement};
+ghost use Rattle.java_mean.specs.WellTyped.{IsWellTyped};
 ghost use Rattle.spreads.specs.Covers.{Covers};
 ghost use Rattle.spreads.specs.Narrowed.{narrowed_at};
 ghost use Rattle.spreads.specs.Spread.{spread_of};
-ghost use Rattle.spreads.specs.Worked.{asking, declaring, spread_out, with_out};
+ghost use Rattle.spreads.specs.Worked.{asking, declaring, spread_out, with_out, labelling};
 ghost use Rattle.spreads.specs.WorkedNarrow.{program_of, walking, declaring as declaring_users, users, users_asked};
 
 /// The worked loop is spread so, also where its list is declared before; the spread itself has no select.
@@ -25,6 +27,14 @@ pub fn worked_loops_are_covered()
         → TypedStatement (frame_of staff_schema reader.read m) None with_out asking with_out }
     ensures covered { (reader : Reader staff_schema) (m : PlainMethod)
         → Covers (frame_of staff_schema reader.read m) None with_out with_out (Then asking Nothing) (Then spread_out Nothing) }
+{}
+
+/// The program of the worked loop is well typed and its literals have 64 bits, also where the list is declared before, and so are they with the
+/// spread in the loop's place.
+pub fn worked_programs_stay_well_typed()
+    ensures direct { (reader : Reader staff_schema) → IsWellTyped staff_schema reader.read (labelling asking) × NumbersFit (labelling asking) }
+    ensures declared { (reader : Reader staff_schema) → IsWellTyped staff_schema reader.read (labelling declaring) × NumbersFit (labelling declaring) }
+    ensures after { (reader : Reader staff_schema) → IsWellTyped staff_schema reader.read (labelling spread_out) × NumbersFit (labelling spread_out) }
 {}
 
 /// The worked walk asks for the rows that the plain parts of its condition want, also where its list is declared before. What is narrowed
