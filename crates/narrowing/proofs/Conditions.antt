@@ -9,7 +9,7 @@ use Rattle.java_ast.specs.Reading.{expression}
 use Rattle.sql_ast.specs.Tree.{Condition, Both}
 use Rattle.spreads.specs.Narrowed.{Arguments, both_there, condition_of, conditions_of}
 use Rattle.narrowing.specs.Lent.{expressions_lent}
-use Rattle.narrowing.proofs.Items.{drop_item}
+use Rattle.spreads.proofs.Items.{drop_item}
 
 pub one_more : (held : List Column) (x : List ℕ) (args : Arguments) (xs : List (Bor Expr)) (i : ℕ) (y : Bor Expr) (c next both whole : Option Condition) → i < length xs → y ≡ get_or xs i y
     → next ≡ condition_of held x args (expression y.now) → both ≡ both_there Both c next

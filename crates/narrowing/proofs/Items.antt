@@ -1,5 +1,5 @@
 -- Items of lists, and lists that are lent.
-use Rattle.std.proofs.Common.{◌≡◌, ℕ, suc, ◌+◌, ◌<◌, ◌≤◌, Bool, true, false, List, [], ◌∷◌, ◌++◌, Bor, length, drop, take, map, get_or, add-one, drop-cons, nat_lt, arith, ap, sym, ◌∙◌}
+use Rattle.std.proofs.Common.{◌≡◌, ℕ, ◌+◌, ◌<◌, ◌≤◌, Bool, true, false, List, [], ◌∷◌, ◌++◌, Bor, length, take, map, nat_lt, arith, ap, sym, ◌∙◌}
 use Rattle.std.proofs.lemmas.Bool.Decides.{nat_tests}
 use Rattle.std.proofs.lemmas.List.{map-append, length-map, take-map}
 use Rattle.java_ast.specs.declared.tree.Expr.{Expr}
@@ -8,9 +8,6 @@ use Rattle.java_ast.specs.Reading.{expression}
 use Rattle.spreads.specs.Narrowed.{is_column, with_argument, with_operand, with_part}
 use Rattle.narrowing.proofs.Firsts.{part_grows, put_full, operand_none, part_none, all_fit, too_many, cut_back}
 use Rattle.narrowing.specs.Lent.{expressions_lent}
-
-pub drop_item : {X : Type 0} (xs : List X) (i : ℕ) (x : X) → i < length xs → x ≡ get_or xs i x → drop i xs ≡ x ∷ drop (i + 1) xs
-drop_item xs i x lt e = rw add-one (drop-cons xs i x lt ∙ ap (λ (y : _). y ∷ drop (suc i) xs) (sym e))
 
 pub lent_more : (xs new : List (Bor Expr)) (x : Bor Expr) → new ≡ xs ++ x ∷ [] → expressions_lent new ≡ expressions_lent xs ++ expression x.now ∷ []
 lent_more xs new x e = ap expressions_lent e ∙ map-append (λ (y : Bor Expr). expression y.now) xs (x ∷ [])

@@ -5,7 +5,6 @@ pub mod Firsts
 pub mod Items
 pub mod Made
 pub mod Members
-pub mod NamedOnce
 pub mod Numbers
 pub mod OuterBlocks
 pub mod Parts
@@ -15,4 +14,3 @@ pub mod Reasoned
 pub mod Replaced
 pub mod Reported
 pub mod Steps
-pub mod Targets

@@ -5,11 +5,10 @@ use Rattle.std.specs.declared.option.Option.{Option}
 use Rattle.std.specs.declared.option.Option.TheVariants.{Some, None}
 use Rattle.qbs_base.specs.declared.span.Span.{Span}
 use Rattle.qbs_base.specs.Values.{Schema}
-use Rattle.java_ast.specs.Names.{Names, mentioned_among}
 use Rattle.java_ast.specs.Path.{found_in, behind_of, last_of, replaced_at, statement_at}
 use Rattle.java_ast.specs.Reading.{statements}
 use Rattle.java_ast.specs.Tree.{Expression, Declare, ForEach, Statement, Statements, Nothing, Then, PlainProgram}
-use Rattle.spreads.specs.Alone.{all_declared_within, walks_alone}
+use Rattle.spreads.specs.Alone.{walks_alone}
 use Rattle.spreads.specs.Narrowed.{outer_block_at, query_of_body}
 use Rattle.text_patches.specs.declared.patch.TextPatch.{TextPatch}
 use Rattle.narrowing.specs.declared.instead.Instead.{Instead}
@@ -42,10 +41,6 @@ declared (Then s (Then t p)) q = Then (with_value q s) (Then t Nothing)
 declared p q = Nothing
 
 -- ---- One for-each
-
--- what a for-each with this variable and body names beside its list, and the statements behind it
-abbrev pub beside : List ℕ → Statements → Statements → Names
-beside y body p = (mentioned_among body ++ mentioned_among p) ++ ((y ∷ all_declared_within body) ++ all_declared_within p)
 
 -- the query for the first of these statements, where this value is declared for it under this name
 abbrev pub asked_for : Schema → List ℕ → Expression → Statements → Option Expression

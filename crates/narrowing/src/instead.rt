@@ -9,7 +9,6 @@ ghost use Rattle.narrowing.specs.Narrowing.{patch_of as text_of, asked_each, ask
 ghost use Rattle.narrowing.specs.Replacing as specs;
 ghost use Rattle.narrowing.specs.Replacing.{replacement};
 
-use crate::alone::walks_alone;
 use crate::blocks::{behind, last_number, outer_at};
 use crate::query::query_of_body;
 use java_ast::build::for_each;
@@ -18,6 +17,7 @@ use java_copies::{copy_expression, copy_statement};
 use java_text::print_statements;
 use qbs_base::{Name, NoMemory, Span, Text};
 use schema::Schema;
+use spreads::walks_alone;
 use std::alloc::Global;
 use text_patches::TextPatch;
 

@@ -1,9 +1,7 @@
 //! Walks over tables narrowed to the rows that they want: the for-eachs of a program in text order, and what is said of each.
 #![tactic(auto)]
 
-mod alone;
 mod arguments;
-mod assigned;
 mod blocks;
 mod condition;
 mod instead;

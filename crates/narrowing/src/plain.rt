@@ -3,27 +3,11 @@ ghost use Rattle.std.specs.Prelude.{◌≡◌};
 ghost use Rattle.java_ast.specs.Reading.{expression};
 ghost use Rattle.java_mean.specs.Visible.{names_seen};
 ghost use Rattle.spreads.specs.Narrowed as specs;
-ghost use Rattle.spreads.specs.Staying as staying;
 
 use java_ast::{Expr, ExprNode, Op};
 use java_mean::Scope;
 use qbs_base::Name;
-
-/// Whether a literal, a variable or a field of a row variable stays, where these variables are assigned.
-#[tactic(auto, using(java_mean::proofs::Sets::sets))]
-fn stays(assigned: &Scope, e: &Expr) -> bool
-    ensures { result ≡ staying.stays (names_seen assigned.now) (expression e.now) }
-{
-    match &e.node {
-        ExprNode::Lit(_) => true,
-        ExprNode::Var(x) => !assigned.has(x),
-        ExprNode::Field(row, _) => match &row.node {
-            ExprNode::Var(x) => !assigned.has(x),
-            _ => false,
-        },
-        _ => false,
-    }
-}
+use spreads::stays;
 
 /// Whether an expression is a column of the row that this variable is.
 pub fn is_column(x: &Name, e: &Expr) -> bool

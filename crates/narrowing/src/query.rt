@@ -1,7 +1,6 @@
 // The query in place of a fetch, with the parts of a condition that it can test.
-ghost use Rattle.std.specs.Prelude.{◌≡◌, [], IfOk, map};
+ghost use Rattle.std.specs.Prelude.{◌≡◌, IfOk, map};
 ghost use Rattle.std.specs.Option.{option_map, option_copied};
-ghost use Rattle.java_ast.specs.Names.{with_names};
 ghost use Rattle.java_ast.specs.Reading.{expression, expressions, statement, statements};
 ghost use Rattle.java_ast.specs.Tree as plain;
 ghost use Rattle.java_mean.specs.Visible.{names_seen};
@@ -11,12 +10,10 @@ ghost use Rattle.narrowing.specs.Rows.{condition_boxed};
 ghost use Rattle.qbs_base.specs.Columns.{columns_at};
 ghost use Rattle.spreads.specs.Narrowed as specs;
 ghost use Rattle.spreads.specs.Narrowed.{query_of_body as query_of_body_in};
-ghost use Rattle.spreads.specs.Staying.{assigned_among};
 ghost use Rattle.sql_ast.specs.Canonical.{canonical};
 ghost use Rattle.sql_ast.specs.Tree.{Listing};
 
 use crate::arguments::Arguments;
-use crate::assigned::put_all_assigned;
 use crate::condition::taken_condition;
 use crate::row::Row;
 use crate::taken::parts_taken;
@@ -26,6 +23,7 @@ use java_copies::copy_expression;
 use java_mean::Scope;
 use qbs_base::{Name, NoMemory, Span, Text, Tys, boxed};
 use schema::Schema;
+use spreads::names_assigned;
 use sql_ast::{Cond, FromItem, FromItems, ListQuery, Query, SqlItem, SqlKeys};
 use sql_build::keys::put_position;
 use sql_text::print_query;
@@ -67,14 +65,6 @@ fn only_condition(body: &[Stmt]) -> Option<&Expr>
         None => condition_in(s),
         Some(_) => None,
     }
-}
-
-fn assigned_in<'a>(alloc: Global, body: &'a [Stmt]) -> Result<Box<Scope<'a>>, NoMemory>
-    ensures { IfOk result (λ s. names_seen s.value ≡ with_names [] (assigned_among (statements body.now))) }
-{
-    let mut names = boxed(alloc, Scope::new(alloc))?;
-    put_all_assigned(&mut *names, body)?;
-    Ok(names)
 }
 
 /// SELECT t1.* FROM this table t1 WHERE this condition ORDER BY t1._pos.
@@ -175,6 +165,6 @@ pub fn query_of_body(
         table,
         variable,
     };
-    let assigned = assigned_in(alloc, body)?;
+    let assigned = names_assigned(alloc, body)?;
     query_for(alloc, fetch.0, fetch.1, &row, &assigned, c)
 }

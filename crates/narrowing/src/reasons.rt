@@ -5,11 +5,11 @@ ghost use Rattle.java_ast.specs.Tree as plain;
 ghost use Rattle.spreads.specs.Alone.{walks_alone as walks_it_alone};
 ghost use Rattle.narrowing.specs.Reasons as specs;
 
-use crate::alone::walks_alone;
 use crate::blocks::{behind, last_number, outer_at};
 use crate::walk::Reason;
 use java_ast::{Expr, ExprNode, Path, Program, Stmt, StmtNode};
 use qbs_base::Name;
+use spreads::walks_alone;
 
 fn is_fetch(e: &Expr) -> bool
     ensures { result ≡ specs.is_fetch (expression e.now) }
