@@ -1,0 +1,11 @@
+pub mod Asking
+pub mod Banked
+pub mod Equal
+pub mod ExactStores
+pub mod Gathered
+pub mod OneType
+pub mod Outcomes
+pub mod Printed
+pub mod Putting
+pub mod Stores
+pub mod UpTo

@@ -1,0 +1,12 @@
+pub mod Limits
+pub mod Texts
+pub mod Grammar
+pub mod Reading
+pub mod Readable
+pub mod Printing
+pub mod Banks
+pub mod Gathering
+pub mod Asked
+pub mod Same
+pub mod Marked
+pub mod Worked
