@@ -1,5 +1,5 @@
 -- What comes of all tries of a program's loops.
-use Rattle.std.proofs.Common.{◌≡◌, ℕ, ◌+◌, List, Result, Ok, Err, IfOk, sym, ap, ◌∙◌, subst, arith}
+use Rattle.std.proofs.Common.{◌≡◌, ℕ, Bool, ◌+◌, List, Result, Ok, Err, IfOk, sym, ap, ◌∙◌, subst, arith}
 use Rattle.qbs_base.specs.Values.{Schema}
 use Rattle.deriv_check.specs.declared.bundle.BundleEntry.{BundleEntry}
 use Rattle.deriv_check.specs.Bundles.{entries_of}
@@ -30,7 +30,7 @@ use Rattle.rewrite_core.proofs.Untried.{standing_tried, standing_in_place}
 
 -- ---- All tries
 
-module _ (D K : Fragment → List ℕ → Type 0) (schema : Schema) (size budget : ℕ) (source : List ℕ) (p : PlainProgram) (all : AllTried) (h : (n : ℕ) × Leads D K schema size source (all_tried schema size budget p) (starts_at p) (ends_with all n)) where
+module _ (D K : Fragment → List ℕ → Type 0) (schema : Schema) (size budget : ℕ) (source : List ℕ) (p : PlainProgram) (keep : Bool) (all : AllTried) (h : (n : ℕ) × Leads D K schema size source (all_tried schema size budget p) (starts_at p keep) (ends_with all n)) where
   -- ---- Without text
 
   left_exact : plain_program all.program ≡ rewritten schema size budget p
@@ -98,8 +98,8 @@ module _ (D K : Fragment → List ℕ → Type 0) (schema : Schema) (size budget
               (subst (λ (text : List ℕ). IsReadBack text (rewritten schema size budget p)) (sym written_out) (patched_back schema size budget source p src h.1.asked));
         }
 
-module _ (D K : Fragment → List ℕ → Type 0) (schema : Schema) (size budget : ℕ) (source : List ℕ) (p : PlainProgram) (all : AllTried) (h : (n : ℕ) × Leads D K schema size source (all_tried schema size budget p) (starts_at p) (ends_with all n)) where
+module _ (D K : Fragment → List ℕ → Type 0) (schema : Schema) (size budget : ℕ) (source : List ℕ) (p : PlainProgram) (keep : Bool) (all : AllTried) (h : (n : ℕ) × Leads D K schema size source (all_tried schema size budget p) (starts_at p keep) (ends_with all n)) where
   pub comes_of_all : {X : Type 0} (o : Result Rewritten X) → IfOk o (λ r. r.program ≡ all.program) → IfOk o (λ r. r.verdicts ≡ all.verdicts) → IfOk o (λ r. r.bundle ≡ all.bundle) → IfOk o (λ r. r.dropped ≡ all.dropped)
       → IfOk o (λ r. r.patches ≡ all.patches) → IfOk o (λ r. r.text ≡ with_patches source 0 (plain_patches all.patches)) → IsWellTyped schema (read_by schema) p → IsSourceOf source p → IfOk o (IsRewritingOf D K schema size budget source p)
-  comes_of_all (Ok r) same said entered counted laid out typed src = all_rewritten D K schema size budget source p all h r same said entered counted laid out typed src
+  comes_of_all (Ok r) same said entered counted laid out typed src = all_rewritten D K schema size budget source p keep all h r same said entered counted laid out typed src
   comes_of_all (Err x) same said entered counted laid out typed src = tt

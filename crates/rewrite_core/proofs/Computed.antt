@@ -80,7 +80,7 @@ derived_accepted (c ∷ cs) h =
     (d.0 ∷ ds.0, (derivation-accepted c d.0 d.1, ds.1))
 
 -- a loop whose candidate is derived may be asked for
-derived_may : (l : Place) → IsKernelLoop staff_schema (read_by staff_schema) l.program l.path l.setting → HasQueriesOf staff_schema (lowering l.setting) → AllByRecursion QueryIsCounted (queries_in (lowering l.setting).known) → IsHeld (lowering l.setting).fragment → list_all (λ c. is_some (derivation_of c)) (conditions (lowering l.setting).fragment l.candidate) ≡ true → MayBeAsked staff_schema (read_by staff_schema) l.program l.path l.setting l.candidate
+pub derived_may : (l : Place) → IsKernelLoop staff_schema (read_by staff_schema) l.program l.path l.setting → HasQueriesOf staff_schema (lowering l.setting) → AllByRecursion QueryIsCounted (queries_in (lowering l.setting).known) → IsHeld (lowering l.setting).fragment → list_all (λ c. is_some (derivation_of c)) (conditions (lowering l.setting).fragment l.candidate) ≡ true → MayBeAsked staff_schema (read_by staff_schema) l.program l.path l.setting l.candidate
 derived_may l loop known counted held derived =
     let d = derived_accepted (conditions (lowering l.setting).fragment l.candidate) derived in
     accepted_may staff_schema (read_by staff_schema) l.program l.path l.setting l.candidate d.0 loop known (emitted_valid staff_schema (read_by staff_schema) l.program l.path l.setting l.candidate is_schema named loop known counted held) d.1

@@ -1,5 +1,5 @@
 -- Tries, and the further ones behind them.
-use Rattle.std.proofs.Common.{◌≡◌, ℕ, zero, suc, ◌+◌, ◌-◌, ◌≤◌, List, [], ◌∷◌, ◌++◌, length, slice_get, Option, Some, None, Result, Ok, Err, IfOk, OnOk, refl, sym, ap, ap₂, ◌∙◌, subst, arith, append_assoc, append-nil}
+use Rattle.std.proofs.Common.{◌≡◌, ℕ, zero, suc, Bool, ◌+◌, ◌-◌, ◌≤◌, List, [], ◌∷◌, ◌++◌, length, slice_get, Option, Some, None, Result, Ok, Err, IfOk, OnOk, refl, sym, ap, ap₂, ◌∙◌, subst, arith, append_assoc, append-nil}
 use Rattle.std.proofs.lemmas.List.{map-append}
 use Rattle.qbs_base.specs.Values.{Schema}
 use Rattle.deriv_check.specs.declared.bundle.BundleEntry.{BundleEntry}
@@ -23,11 +23,14 @@ use Rattle.rewrite_core.specs.declared.progress.Report.{Report}
 use Rattle.rewrite_core.specs.Progress.{Progress, progress_in, starts_at, ends_with, Leads}
 use Rattle.rewrite_core.specs.Patches.{patches_by, patches_left}
 use Rattle.rewrite_core.specs.Pruned.{ArePruned}
+use Rattle.rewrite_core.specs.declared.searches.Search.{Search}
 use Rattle.rewrite_core.specs.declared.stage.Stage.{Stage}
 use Rattle.rewrite_core.specs.Rewriting.{verdict_of, verdicts_of, entry_for, bundle_of}
+use Rattle.rewrite_core.specs.Searches.{PlainSearch, search_by, searches_of, kept_searches, and_searched, none_searched}
 use Rattle.rewrite_core.specs.Stages.{IsStage, next_of}
 use Rattle.rewrite_core.specs.TriedAsking.{AllMayBeAsked, standing_left}
 use Rattle.rewrite_core.specs.Trying.{Tried, tried_in, tried_at, program_after, standing_after, and_further, trying, all_tried, left_of}
+use Rattle.rewrite_core.proofs.KeptSearches.{Notes, and_nothing, and_both, and_one, searches_joined}
 use Rattle.rewrite_core.proofs.Turns.{one_follows, all_follow}
 
 -- ---- Which they are
@@ -102,6 +105,7 @@ module _ (D K : Fragment → List ℕ → Type 0) (size : ℕ) (source : List �
           dropped = omega arith;
           asked = tt;
           patches = refl;
+          searches = and_nothing s.searches;
         }
 
     pub and_tries : (ts us : List Tried) (s t u : Progress) → Leads D K schema size source ts s t → Leads D K schema size source us t u → Leads D K schema size source (ts ++ us) s u
@@ -118,6 +122,9 @@ module _ (D K : Fragment → List ℕ → Type 0) (size : ℕ) (source : List �
           dropped = (let one : t.dropped ≡ s.dropped + h.pruned = h.dropped in let two : u.dropped ≡ t.dropped + k.pruned = k.dropped in omega arith);
           asked = all_asked schema ts us h.asked k.asked;
           patches = k.patches ∙ ap (λ (ps : List PlainPatch). patches_left source ps us) h.patches ∙ sym (patched_through source s.patches ts us);
+          searches =
+              k.searches ∙ ap (λ (o : Option (List PlainSearch)). and_searched o (searches_of us)) h.searches ∙ and_both s.searches (searches_of ts) (searches_of us)
+              ∙ ap (and_searched s.searches) (sym (searches_joined ts us));
         }
 
     -- some of so many tries, and then the others
@@ -141,8 +148,9 @@ module _ (D K : Fragment → List ℕ → Type 0) (schema : Schema) (size budget
   pub one_leads : (s u : Progress) (path : List ℕ) (w : Setting) (o : Outcome) → slice_get (loops_of s.program) s.standing ≡ Some path → setting_at schema (read_by schema) path s.program ≡ Some w
       → IsOutcomeOf D K schema size (try_with size budget s.program path w) o
       → u.program ≡ program_with o.way path s.program → u.standing ≡ standing_with s.standing o.way → u.verdicts ≡ s.verdicts ++ o.verdict ∷ [] → u.entries ≡ s.entries ++ entries_with o.verdict.at o.way → u.dropped ≡ s.dropped + o.dropped → u.patches ≡ patches_with source o.way path s.program s.patches
+      → u.searches ≡ and_searched s.searches (search_by (try_with size budget s.program path w).answer)
       → Leads D K schema size source (trying 1 schema size budget s.program s.standing) s u
-  one_leads s u path w o next there k program standing verdicts entries dropped patches =
+  one_leads s u path w o next there k program standing verdicts entries dropped patches searches =
       subst (λ (ts : List Tried). Leads D K schema size source ts s u)
       (sym (one_there schema size budget s.program s.standing (try_with size budget s.program path w) (ap (tried_at schema size budget s.program) next ∙ ap (tried_in size budget s.program path) there)))
       (record {
@@ -155,6 +163,7 @@ module _ (D K : Fragment → List ℕ → Type 0) (schema : Schema) (size budget
         dropped = dropped;
         asked = (k.asked, tt);
         patches = patches ∙ sym (k.patches source s.patches);
+        searches = searches ∙ and_one s.searches (try_with size budget s.program path w);
       })
 
   pub no_loop_left : (s : Progress) → slice_get (loops_of s.program) s.standing ≡ None → Leads D K schema size source (trying 1 schema size budget s.program s.standing) s s
@@ -218,7 +227,7 @@ module _ (D K : Fragment → List ℕ → Type 0) (schema : Schema) (size budget
       subst (λ (r : List ℕ). NumbersFit (program_with o.way r (plain_program v.typed.program))) (same_path (next_of v) path q there next)
       (subst NumbersFit here.2.program ((one_follows schema t t.answer here.2.asked).numbers v.typed.numbers))
 
-pub pass_leads : (D K : Fragment → List ℕ → Type 0) (schema : Schema) (size budget : ℕ) (source : List ℕ) {A E : Type 0} (r : Result A E) (u : A → Stage) (d v : Stage) (before after : Report) (path : List ℕ) (o : Outcome)
+pub pass_leads : (D K : Fragment → List ℕ → Type 0) (schema : Schema) (size budget : ℕ) (source : List ℕ) {A E : Type 0} (r : Result A E) (u : A → Stage) (d v : Stage) (before after : Report) (noted : Option (List Search)) (path : List ℕ) (o : Outcome)
     → d ≡ v → next_of v ≡ Some path → IsStage v
     → HasOutcome D K schema size budget d path o
     → IfOk r (λ x. (q : List ℕ) → next_of v ≡ Some q → plain_program (u x).typed.program ≡ program_with o.way q (plain_program v.typed.program))
@@ -227,11 +236,14 @@ pub pass_leads : (D K : Fragment → List ℕ → Type 0) (schema : Schema) (siz
     → OnOk r (entries_of after.bundle ≡ entries_of before.bundle ++ entries_with o.verdict.at o.way)
     → OnOk r (after.dropped ≡ before.dropped + o.dropped)
     → OnOk r ((q : List ℕ) → next_of v ≡ Some q → plain_patches after.patches ≡ patches_with source o.way q (plain_program v.typed.program) (plain_patches before.patches))
+    → after.searches ≡ noted
+    → Notes schema size budget (plain_program d.typed.program) path (kept_searches before.searches) (kept_searches noted)
     → IfOk r (λ x. Leads D K schema size source (trying 1 schema size budget (plain_program v.typed.program) v.standing) (progress_in v before) (progress_in (u x) after))
-pass_leads D K schema size budget source (Ok x) u d v before after path o same there listed outcome program standing verdicts entries dropped patches =
+pass_leads D K schema size budget source (Ok x) u d v before after noted path o same there listed outcome program standing verdicts entries dropped patches searches notes =
     let k : HasOutcome D K schema size budget v path o = subst (λ (s : Stage). HasOutcome D K schema size budget s path o) same outcome in
     one_leads D K schema size budget source (progress_in v before) (progress_in (u x) after) path k.0 o (next_listed v path listed there) k.1 k.2 (program path there) standing verdicts entries dropped (patches path there)
-pass_leads D K schema size budget source (Err e) u d v before after path o same there listed outcome program standing verdicts entries dropped patches = tt
+    (ap kept_searches searches ∙ subst (λ (s : Stage). Notes schema size budget (plain_program s.typed.program) path (kept_searches before.searches) (kept_searches noted)) same notes k.0 k.1)
+pass_leads D K schema size budget source (Err e) u d v before after noted path o same there listed outcome program standing verdicts entries dropped patches searches notes = tt
 
 pub pass_typed : (D K : Fragment → List ℕ → Type 0) (schema : Schema) (size budget : ℕ) (source : List ℕ) {A E : Type 0} (r : Result A E) (u : A → Stage) (v : Stage) (before after : Report) → IsWellTyped schema (read_by schema) (plain_program v.typed.program)
     → IfOk r (λ x. Leads D K schema size source (trying 1 schema size budget (plain_program v.typed.program) v.standing) (progress_in v before) (progress_in (u x) after))
@@ -241,25 +253,27 @@ pass_typed D K schema size budget source (Err e) u v before after typed h = tt
 
 -- ---- From the first loop on
 
-abbrev made : PlainProgram → ℕ → List LoopVerdict → List Entry → ℕ → List PlainPatch → Progress
-made p n vs es d ps = record { program = p; standing = n; verdicts = vs; entries = es; dropped = d; patches = ps }
+abbrev made : PlainProgram → ℕ → List LoopVerdict → List Entry → ℕ → List PlainPatch → Option (List PlainSearch) → Progress
+made p n vs es d ps ss = record { program = p; standing = n; verdicts = vs; entries = es; dropped = d; patches = ps; searches = ss }
 
-pub at_start : (p : PlainProgram) (s : Stage) (r : Report) → plain_program s.typed.program ≡ p → s.standing ≡ 0 → (r.verdicts ≡ []) × (r.bundle ≡ []) × (r.dropped ≡ 0) × (r.patches ≡ []) → progress_in s r ≡ starts_at p
-at_start p s r program standing none =
-    ap (λ (q : PlainProgram). made q s.standing r.verdicts (entries_of r.bundle) r.dropped (plain_patches r.patches)) program
-    ∙ ap (λ (n : ℕ). made p n r.verdicts (entries_of r.bundle) r.dropped (plain_patches r.patches)) standing
-    ∙ ap (λ (vs : List LoopVerdict). made p 0 vs (entries_of r.bundle) r.dropped (plain_patches r.patches)) none.0
-    ∙ ap (λ (es : List BundleEntry). made p 0 [] (entries_of es) r.dropped (plain_patches r.patches)) none.1
-    ∙ ap (λ (d : ℕ). made p 0 [] [] d (plain_patches r.patches)) none.2
-    ∙ ap (λ (ps : List Patch). made p 0 [] [] 0 (plain_patches ps)) none.3
+pub at_start : (p : PlainProgram) (keep : Bool) (s : Stage) (r : Report) → plain_program s.typed.program ≡ p → s.standing ≡ 0 → (r.verdicts ≡ []) × (r.bundle ≡ []) × (r.dropped ≡ 0) × (r.patches ≡ []) → kept_searches r.searches ≡ none_searched keep
+    → progress_in s r ≡ starts_at p keep
+at_start p keep s r program standing none searches =
+    ap (λ (q : PlainProgram). made q s.standing r.verdicts (entries_of r.bundle) r.dropped (plain_patches r.patches) (kept_searches r.searches)) program
+    ∙ ap (λ (n : ℕ). made p n r.verdicts (entries_of r.bundle) r.dropped (plain_patches r.patches) (kept_searches r.searches)) standing
+    ∙ ap (λ (vs : List LoopVerdict). made p 0 vs (entries_of r.bundle) r.dropped (plain_patches r.patches) (kept_searches r.searches)) none.0
+    ∙ ap (λ (es : List BundleEntry). made p 0 [] (entries_of es) r.dropped (plain_patches r.patches) (kept_searches r.searches)) none.1
+    ∙ ap (λ (d : ℕ). made p 0 [] [] d (plain_patches r.patches) (kept_searches r.searches)) none.2
+    ∙ ap (λ (ps : List Patch). made p 0 [] [] 0 (plain_patches ps) (kept_searches r.searches)) none.3
+    ∙ ap (λ (ss : Option (List PlainSearch)). made p 0 [] [] 0 [] ss) searches
 
-pub all_lead : (D K : Fragment → List ℕ → Type 0) (schema : Schema) (size budget : ℕ) (source : List ℕ) (p : PlainProgram) (s t : Progress) (left n : ℕ) (r : AllTried) → s ≡ starts_at p → left ≡ length (loops_of p)
+pub all_lead : (D K : Fragment → List ℕ → Type 0) (schema : Schema) (size budget : ℕ) (source : List ℕ) (p : PlainProgram) (keep : Bool) (s t : Progress) (left n : ℕ) (r : AllTried) → s ≡ starts_at p keep → left ≡ length (loops_of p)
     → Leads D K schema size source (trying left schema size budget s.program s.standing) s t → ends_with r n ≡ t
-    → (x : ℕ) × Leads D K schema size source (all_tried schema size budget p) (starts_at p) (ends_with r x)
+    → (x : ℕ) × Leads D K schema size source (all_tried schema size budget p) (starts_at p keep) (ends_with r x)
 unfolding all_tried
-all_lead D K schema size budget source p s t left n r start many h end = (
+all_lead D K schema size budget source p keep s t left n r start many h end = (
   n,
-  subst (λ (z : Progress). Leads D K schema size source (trying (length (loops_of p)) schema size budget p 0) (starts_at p) z) (sym end)
-      (subst (λ (k : ℕ). Leads D K schema size source (trying k schema size budget p 0) (starts_at p) t) many
+  subst (λ (z : Progress). Leads D K schema size source (trying (length (loops_of p)) schema size budget p 0) (starts_at p keep) z) (sym end)
+      (subst (λ (k : ℕ). Leads D K schema size source (trying k schema size budget p 0) (starts_at p keep) t) many
       (subst (λ (z : Progress). Leads D K schema size source (trying left schema size budget z.program z.standing) z t) start h)),
 )

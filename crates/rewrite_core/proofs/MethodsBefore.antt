@@ -31,3 +31,11 @@ methods_before_stay ms standing l p q path first others same lists there is =
     ∙ replaced_below l.number k.0 first others p
     ∙ ap (take l.number) same in
     lists.before ∙ ap (λ (ns : List PlainMethod). length (loops_of_methods 0 ns)) (sym stay)
+
+-- So they are where the loop gives way behind a block that was put in its place.
+pub methods_before_block : (ms : List PlainMethod) (standing : ℕ) (l : Listed) (p q : PlainProgram) (path : List ℕ) (last : ℕ) (block : Statements) → p.methods ≡ ms → Lists ms standing l → slice_get l.paths (standing - l.before) ≡ Some path → q ≡ replaced_at path last block p
+    → (first : ℕ) (others : Statements) → l.before ≡ length (loops_of_methods 0 (take l.number (replaced_at path first others q).methods))
+methods_before_block ms standing l p q path last block same lists there is first others =
+    let k : (rest : List ℕ) × (path ≡ l.number ∷ rest) = begin_there l.number (slice_get ms l.number) (standing - l.before) path (ap (λ (ps : List (List ℕ)). slice_get ps (standing - l.before)) (sym lists.paths) ∙ there) in
+    let stay : take l.number (replaced_at path first others q).methods ≡ take l.number q.methods = ap (λ (path' : List ℕ). take l.number (replaced_at path' first others q).methods) k.1 ∙ replaced_below l.number k.0 first others q in
+    methods_before_stay ms standing l p q path last block same lists there is ∙ ap (λ (ns : List PlainMethod). length (loops_of_methods 0 ns)) (sym stay)

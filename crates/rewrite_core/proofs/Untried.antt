@@ -50,7 +50,7 @@ one_more (y ∷ []) zero x e = let same : y ≡ x = cc in ap (λ z. z ∷ []) sa
 one_more (y ∷ z ∷ zs) zero x e = let same : y ≡ x = cc in ap (λ z. z ∷ []) same
 one_more (y ∷ ys) (suc n) x e = ap (λ zs. y ∷ zs) (one_more ys n x e)
 
-got_mapped : {A B : Type 0} (f : A → B) (xs : List A) (n : ℕ) (y : B) → slice_get (map f xs) n ≡ Some y → (x : A) × (slice_get xs n ≡ Some x) × (f x ≡ y)
+pub got_mapped : {A B : Type 0} (f : A → B) (xs : List A) (n : ℕ) (y : B) → slice_get (map f xs) n ≡ Some y → (x : A) × (slice_get xs n ≡ Some x) × (f x ≡ y)
 got_mapped f [] n y e = absurd cc
 got_mapped f (x ∷ xs) zero y e = (x, refl, (let same : f x ≡ y = cc in same))
 got_mapped f (x ∷ xs) (suc n) y e = got_mapped f xs n y e

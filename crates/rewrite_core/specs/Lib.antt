@@ -10,8 +10,12 @@ pub mod Progress
 pub mod Pruned
 pub mod Results
 pub mod Rewriting
+pub mod Searches
 pub mod Stages
 pub mod TriedAsking
 pub mod Trying
+pub mod Unnesting
+pub mod UnnestingSteps
 pub mod Worked
 pub mod WorkedTries
+pub mod WorkedUnnesting

@@ -1,5 +1,5 @@
 // What comes of one loop of a program.
-ghost use Rattle.std.specs.Prelude.{◌≡◌, ◌≤◌, ◌<◌, ◌^◌, IfOk, map};
+ghost use Rattle.std.specs.Prelude.{◌≡◌, ◌≤◌, ◌<◌, ◌^◌, ◌++◌, [], ◌∷◌, IfOk, OnOk, map};
 ghost use Rattle.std.specs.declared.option.Option.TheVariants.{Some, None};
 ghost use Rattle.java_ast.specs.Reading.{program as plain_program};
 ghost use Rattle.java_loops.specs.Kernel.Kernel.{setting_at};
@@ -17,17 +17,19 @@ ghost use Rattle.sql_parts.specs.Given.{AreKnownTo};
 ghost use Rattle.fragments.specs.Lowers.{lowering_in_code};
 ghost use Rattle.verdicts.specs.declared.verdict.Said.TheVariants as says;
 ghost use Rattle.rewrite_core.specs.Outcome.{try_with, IsOutcomeOf};
+ghost use Rattle.rewrite_core.specs.Searches.{and_searched, before_said, kept_searches, plain_search, search_by};
 ghost use Rattle.query_search.specs.Counted.{AreCounted};
 ghost use Rattle.query_search.specs.Seen.{verdict_in, dropped_in, IsFoundOf};
 ghost use Rattle.query_search.specs.Verdicts.{verdict, before};
 ghost use Rattle.query_search.specs.Asking.{SomeMayDrop, EachMayKeep, OfCandidate};
 
 use crate::replacing::{place_there, statements_instead};
+use crate::searches::{Search, Searches};
 use fragments::{Lowered, lower};
 use java_ast::{Path, Stmt};
 use java_types::Typed;
 use kernel_lang::{Candidate, KFragment};
-use qbs_base::{Fail, NoMemory, Span};
+use qbs_base::{Fail, NoMemory, Span, boxed, held};
 use query_search::{Extra, Found, PruneAnswer, Pruner, search_with};
 use schema::Schema;
 use std::alloc::Global;
@@ -166,7 +168,148 @@ fn try_lowered<F: Fn(&KFragment, &Candidate) -> PruneAnswer>(
     }
 }
 
-/// What comes of the loop to which a path leads. The only error is want of memory.
+// How many candidates come before what is said of a loop.
+fn before(said: Said) -> u64
+    ensures { result ≡ before_said said }
+{
+    match said {
+        Said::Found { k } => k,
+        Said::NoneOf { n } => n,
+        Said::Budget { b, .. } => b,
+        Said::Outside { .. } => 0,
+    }
+}
+
+fn fragment_in(lowered: Box<Lowered>) -> KFragment
+    ensures { result ≡ lowered.value.frag }
+{
+    Box::into_inner(lowered).frag
+}
+
+// Adds the fragment of a loop, with how many candidates come before what is said of it.
+fn note_search(
+    alloc: Global,
+    lowered: Box<Lowered>,
+    said: Said,
+    searches: &mut Searches,
+) -> Result<(), NoMemory>
+    ensures { OnOk result (
+        map plain_search searches.new ≡ map plain_search searches.old ++ record { fragment = fragment_of lowered.value.frag; before = before_said said } ∷ []) }
+{
+    let frag = boxed(alloc, fragment_in(lowered))?;
+    searches.push(Search {
+        frag,
+        before: before(said),
+    })
+}
+
+// What comes of a loop that is lowered, and what was searched of it is added where this is kept: the fragment is moved there.
+fn try_noted<F: Fn(&KFragment, &Candidate) -> PruneAnswer>(
+    alloc: Global,
+    schema: &Schema,
+    typed: &Typed,
+    path: &Path,
+    lowered: Box<Lowered>,
+    size: u32,
+    budget: u64,
+    pruners: &[Pruner],
+    extra: &Extra<F>,
+    searches: &mut Option<Searches>,
+) -> Result<Outcome, NoMemory>
+    requires typed { IsWellTyped schema.now (read_by schema.now) (plain_program typed.now.program) }
+    requires lowered { IsLowered schema.now (read_by schema.now) (plain_program typed.now.program) path.now (lowering_in_code lowered.value) lowered.value.first lowered.value.kept }
+    requires known { AreKnownTo schema.now (fragment_of lowered.value.frag) (map query lowered.value.known) lowered.value.known_args }
+    requires size { size ≤ 8 }
+    requires budget { budget ≤ 1000000 }
+    requires callable { (f : _) (c : _) → IsCandidateOf (fragment_of f.now) c.now → F.pre extra.now.call f c }
+    requires justified { (f : _) (c : _)
+        → IsCandidateOf (fragment_of f.now) c.now
+        → F.post extra.now.call f c answers.Drop
+        → ∥ IsRefuted (fragment_of f.now) c.now ∥₁ }
+    ensures outcome { IfOk result (λ o.
+        (w : Setting)
+        × (setting_at schema.now (read_by schema.now) path.now (plain_program typed.now.program) ≡ Some w)
+        × IsOutcomeOf
+        (SomeMayDrop fragment_of (λ p. ⟦<Box<dyn Fn(&KFragment, &Candidate) -> PruneAnswer> as Fn(&KFragment, &Candidate) -> PruneAnswer>⟧.post p.call) pruners.now (F.post extra.now.call))
+        (EachMayKeep fragment_of (λ p. ⟦<Box<dyn Fn(&KFragment, &Candidate) -> PruneAnswer> as Fn(&KFragment, &Candidate) -> PruneAnswer>⟧.post p.call) pruners.now (F.post extra.now.call))
+        schema.now size (try_with size budget (plain_program typed.now.program) path.now w) o) }
+    ensures searches { OnOk result (
+        (w : Setting)
+        → setting_at schema.now (read_by schema.now) path.now (plain_program typed.now.program) ≡ Some w
+        → kept_searches searches.new
+        ≡ and_searched (kept_searches searches.old) (search_by (try_with size budget (plain_program typed.now.program) path.now w).answer)) }
+{
+    match searches {
+        None => try_lowered(
+            alloc, schema, typed, path, &lowered, size, budget, pruners, extra,
+        ),
+        Some(list) => {
+            let outcome = held(
+                alloc,
+                try_lowered(
+                    alloc, schema, typed, path, &lowered, size, budget, pruners, extra,
+                ),
+            )?;
+            note_search(alloc, lowered, outcome.verdict.said, list)?;
+            Ok(Box::into_inner(outcome))
+        }
+    }
+}
+
+/// What comes of the loop to which a path leads, and what was searched of it is added where this is kept. The only error is want of memory.
+pub fn try_searched<F: Fn(&KFragment, &Candidate) -> PruneAnswer>(
+    alloc: Global,
+    schema: &Schema,
+    typed: &Typed,
+    path: &Path,
+    size: u32,
+    budget: u64,
+    pruners: &[Pruner],
+    extra: &Extra<F>,
+    searches: &mut Option<Searches>,
+) -> Result<Outcome, NoMemory>
+    requires typed { IsWellTyped schema.now (read_by schema.now) (plain_program typed.now.program) }
+    requires loops { IsLoopOf (plain_program typed.now.program) path.now }
+    requires size { size ≤ 8 }
+    requires budget { budget ≤ 1000000 }
+    requires callable { (f : _) (c : _) → IsCandidateOf (fragment_of f.now) c.now → F.pre extra.now.call f c }
+    requires justified { (f : _) (c : _)
+        → IsCandidateOf (fragment_of f.now) c.now
+        → F.post extra.now.call f c answers.Drop
+        → ∥ IsRefuted (fragment_of f.now) c.now ∥₁ }
+    ensures outcome { IfOk result (λ o.
+        (w : Setting)
+        × (setting_at schema.now (read_by schema.now) path.now (plain_program typed.now.program) ≡ Some w)
+        × IsOutcomeOf
+        (SomeMayDrop fragment_of (λ p. ⟦<Box<dyn Fn(&KFragment, &Candidate) -> PruneAnswer> as Fn(&KFragment, &Candidate) -> PruneAnswer>⟧.post p.call) pruners.now (F.post extra.now.call))
+        (EachMayKeep fragment_of (λ p. ⟦<Box<dyn Fn(&KFragment, &Candidate) -> PruneAnswer> as Fn(&KFragment, &Candidate) -> PruneAnswer>⟧.post p.call) pruners.now (F.post extra.now.call))
+        schema.now size (try_with size budget (plain_program typed.now.program) path.now w) o) }
+    ensures searches { OnOk result (
+        (w : Setting)
+        → setting_at schema.now (read_by schema.now) path.now (plain_program typed.now.program) ≡ Some w
+        → kept_searches searches.new
+        ≡ and_searched (kept_searches searches.old) (search_by (try_with size budget (plain_program typed.now.program) path.now w).answer)) }
+{
+    match lower(alloc, schema, typed, path) {
+        Ok(lowered) => try_noted(
+            alloc, schema, typed, path, lowered, size, budget, pruners, extra, searches,
+        ),
+        Err(Fail::Fault(outside)) => {
+            let at = place_there(typed.program(), path);
+            Ok(stands(
+                at,
+                Said::Outside {
+                    rule: outside.rule,
+                    at: outside.at,
+                },
+                0,
+            ))
+        }
+        Err(Fail::NoMemory) => Err(NoMemory),
+    }
+}
+
+/// The same where nothing is kept of what was searched.
 pub fn try_loop<F: Fn(&KFragment, &Candidate) -> PruneAnswer>(
     alloc: Global,
     schema: &Schema,
@@ -194,21 +337,8 @@ pub fn try_loop<F: Fn(&KFragment, &Candidate) -> PruneAnswer>(
         (EachMayKeep fragment_of (λ p. ⟦<Box<dyn Fn(&KFragment, &Candidate) -> PruneAnswer> as Fn(&KFragment, &Candidate) -> PruneAnswer>⟧.post p.call) pruners.now (F.post extra.now.call))
         schema.now size (try_with size budget (plain_program typed.now.program) path.now w) o) }
 {
-    match lower(alloc, schema, typed, path) {
-        Ok(lowered) => try_lowered(
-            alloc, schema, typed, path, &lowered, size, budget, pruners, extra,
-        ),
-        Err(Fail::Fault(outside)) => {
-            let at = place_there(typed.program(), path);
-            Ok(stands(
-                at,
-                Said::Outside {
-                    rule: outside.rule,
-                    at: outside.at,
-                },
-                0,
-            ))
-        }
-        Err(Fail::NoMemory) => Err(NoMemory),
-    }
+    let mut none = None;
+    try_searched(
+        alloc, schema, typed, path, size, budget, pruners, extra, &mut none,
+    )
 }

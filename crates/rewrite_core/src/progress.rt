@@ -16,10 +16,12 @@ ghost use Rattle.loop_text.specs.Statements.Loops.{loops_of};
 ghost use Rattle.query_search.specs.Asking.{SomeMayDrop, EachMayKeep};
 ghost use Rattle.rewrite_core.specs.Outcome.{program_with, entries_with, standing_with, patches_with, BeginsBefore};
 ghost use Rattle.rewrite_core.specs.Progress.{progress_in, starts_at, ends_with, Leads};
+ghost use Rattle.rewrite_core.specs.Searches.{none_searched, kept_searches};
 ghost use Rattle.rewrite_core.specs.Stages.{IsStage, next_of};
 ghost use Rattle.rewrite_core.specs.Trying.{trying, all_tried};
 
-use crate::outcome::{Outcome, try_loop};
+use crate::outcome::{Outcome, try_searched};
+use crate::searches::Searches;
 use crate::stage::{Stage, give_way, next_path, stage_of, stand};
 use deriv_check::{Bundle, BundleEntry};
 use java_ast::{Program, Stmt};
@@ -35,13 +37,15 @@ use std::alloc::Global;
 use tor_axioms::Derivations;
 use verdicts::{LoopVerdict, Verdicts};
 
-/// What is said and kept of the loops that were tried, how many candidates were dropped, and the patches of the source.
+/// What is said and kept of the loops that were tried, how many candidates were dropped, the patches of the source, and what was searched,
+/// where that is kept.
 #[derive(Drop)]
 pub struct Report {
     pub verdicts: Verdicts,
     pub bundle: Bundle,
     pub dropped: u64,
     pub patches: Patches,
+    pub searches: Option<Searches>,
 }
 
 /// The program after all tries, with the same of all its loops.
@@ -52,6 +56,7 @@ pub struct AllTried {
     pub bundle: Bundle,
     pub dropped: u64,
     pub patches: Patches,
+    pub searches: Option<Searches>,
 }
 
 // ---- One try
@@ -62,6 +67,7 @@ fn note(report: &mut Report, verdict: LoopVerdict, dropped: u64) -> Result<(), N
     ensures dropped { OnOk result (report.new.dropped ≡ report.old.dropped + dropped) }
     ensures bundle { report.new.bundle ≡ report.old.bundle }
     ensures patches { report.new.patches ≡ report.old.patches }
+    ensures searches { report.new.searches ≡ report.old.searches }
 {
     match report.dropped.checked_add(dropped) {
         None => Err(NoMemory),
@@ -79,6 +85,7 @@ fn note_entry(report: &mut Report, at: Span, k: u32, proofs: Derivations) -> Res
     ensures verdicts { report.new.verdicts ≡ report.old.verdicts }
     ensures dropped { report.new.dropped ≡ report.old.dropped }
     ensures patches { report.new.patches ≡ report.old.patches }
+    ensures searches { report.new.searches ≡ report.old.searches }
 {
     report.bundle.push(BundleEntry {
         line: at.line,
@@ -106,6 +113,7 @@ fn note_patch(
     ensures verdicts { report.new.verdicts ≡ report.old.verdicts }
     ensures bundle { report.new.bundle ≡ report.old.bundle }
     ensures dropped { report.new.dropped ≡ report.old.dropped }
+    ensures searches { report.new.searches ≡ report.old.searches }
 {
     match next_path(stage) {
         None => Ok(()),
@@ -147,6 +155,7 @@ fn pass(
         → next_of stage.value ≡ Some path
         → plain_patches report.new.patches
         ≡ patches_with source.now outcome.way path (plain_program stage.value.typed.program) (plain_patches report.old.patches)) }
+    ensures searches { report.new.searches ≡ report.old.searches }
 {
     let Outcome {
         verdict,
@@ -204,7 +213,7 @@ fn try_next<F: Fn(&KFragment, &Candidate) -> PruneAnswer>(
     match next_path(&stage) {
         None => Ok(stage),
         Some(path) => {
-            let outcome = try_loop(
+            let outcome = try_searched(
                 alloc,
                 schema,
                 &stage.typed,
@@ -213,6 +222,7 @@ fn try_next<F: Fn(&KFragment, &Candidate) -> PruneAnswer>(
                 budget,
                 pruners,
                 extra,
+                &mut report.searches,
             )?;
             pass(alloc, source, stage, report, outcome)
         }
@@ -285,15 +295,28 @@ fn count_loops(alloc: Global, program: &Program) -> Result<usize, NoMemory>
     Ok(loops_of(alloc, program)?.len())
 }
 
+// No list, or one with nothing in it.
+fn no_searches(alloc: Global, keep: bool) -> Option<Searches>
+    ensures { kept_searches result ≡ none_searched keep }
+{
+    if keep {
+        Some(Searches::new(alloc))
+    } else {
+        None
+    }
+}
+
 // The report of no tries.
-fn no_report(alloc: Global) -> Report
-    ensures { (result.verdicts ≡ []) × (result.bundle ≡ []) × (result.dropped ≡ 0) × (result.patches ≡ []) }
+fn no_report(alloc: Global, keep: bool) -> Report
+    ensures nothing { (result.verdicts ≡ []) × (result.bundle ≡ []) × (result.dropped ≡ 0) × (result.patches ≡ []) }
+    ensures searches { kept_searches result.searches ≡ none_searched keep }
 {
     Report {
         verdicts: Verdicts::new(alloc),
         bundle: Bundle::new(alloc),
         dropped: 0,
         patches: Patches::new(alloc),
+        searches: no_searches(alloc, keep),
     }
 }
 
@@ -308,12 +331,14 @@ fn ended(stage: Box<Stage>, report: Report) -> AllTried
         bundle: report.bundle,
         dropped: report.dropped,
         patches: report.patches,
+        searches: report.searches,
     }
 }
 
 /// All loops of a program are tried. The program is copied once and its loops are counted once. A loop then costs its own try, and what is
 /// looked at of its method; one that gives way has the loops of its method listed anew, and what stands in its place is put there: no
-/// other method is looked at. What was written for it is patched: each loop that gives way leaves a patch.
+/// other method is looked at. What was written for it is patched: each loop that gives way leaves a patch. What was searched is kept where
+/// `keep` says so.
 pub fn try_all<F: Fn(&KFragment, &Candidate) -> PruneAnswer>(
     alloc: Global,
     schema: &Schema,
@@ -323,6 +348,7 @@ pub fn try_all<F: Fn(&KFragment, &Candidate) -> PruneAnswer>(
     budget: u64,
     pruners: &[Pruner],
     extra: &Extra<F>,
+    keep: bool,
 ) -> Result<AllTried, NoMemory>
     requires typed { IsWellTyped schema.now (read_by schema.now) (plain_program typed.now.program) }
     requires size { size ≤ 8 }
@@ -338,12 +364,12 @@ pub fn try_all<F: Fn(&KFragment, &Candidate) -> PruneAnswer>(
         (SomeMayDrop fragment_of (λ p. ⟦<Box<dyn Fn(&KFragment, &Candidate) -> PruneAnswer> as Fn(&KFragment, &Candidate) -> PruneAnswer>⟧.post p.call) pruners.now (F.post extra.now.call))
         (EachMayKeep fragment_of (λ p. ⟦<Box<dyn Fn(&KFragment, &Candidate) -> PruneAnswer> as Fn(&KFragment, &Candidate) -> PruneAnswer>⟧.post p.call) pruners.now (F.post extra.now.call))
         schema.now size source.now (all_tried schema.now size budget (plain_program typed.now.program))
-        (starts_at (plain_program typed.now.program)) (ends_with r n)) }
+        (starts_at (plain_program typed.now.program) keep) (ends_with r n)) }
 {
     let left = count_loops(alloc, typed.program())?;
     let copy = copy_program(alloc, typed.program())?;
     let stage = stage_of(alloc, Typed::of(copy), 0, 0, 0)?;
-    let mut report = no_report(alloc);
+    let mut report = no_report(alloc, keep);
     let stage = try_further(
         alloc,
         schema,

@@ -41,7 +41,7 @@ fn replace_past<F: Fn(&KFragment, &Candidate) -> PruneAnswer>(
     requires never { (f : _) (c : _) → F.post kept.now.call f c answers.Drop → ⊥ }
     ensures { IfOk result (IsReplacementOf schema.now size budget (plain_program typed.now.program)) }
 {
-    let all = try_all(alloc, schema, typed, &[], size, budget, &[], kept)?;
+    let all = try_all(alloc, schema, typed, &[], size, budget, &[], kept, false)?;
     Ok(Replaced {
         program: all.program,
         verdicts: all.verdicts,

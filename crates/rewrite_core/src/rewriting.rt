@@ -37,6 +37,7 @@ fn with_output(alloc: Global, source: &[u8], all: AllTried) -> Result<Rewritten,
         bundle,
         dropped,
         patches,
+        ..
     } = all;
     let text = with_patches(alloc, source, patches.as_slice())?;
     Ok(Rewritten {
@@ -84,7 +85,9 @@ pub fn rewrite_with<F: Fn(&KFragment, &Candidate) -> PruneAnswer>(
         (EachMayKeep fragment_of (λ p. ⟦<Box<dyn Fn(&KFragment, &Candidate) -> PruneAnswer> as Fn(&KFragment, &Candidate) -> PruneAnswer>⟧.post p.call) pruners.now (F.post extra.now.call))
         schema.now size budget source.now (plain_program typed.now.program)) }
 {
-    let all = try_all(alloc, schema, typed, source, size, budget, pruners, extra)?;
+    let all = try_all(
+        alloc, schema, typed, source, size, budget, pruners, extra, false,
+    )?;
     with_output(alloc, source, all)
 }
 

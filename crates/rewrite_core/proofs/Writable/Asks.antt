@@ -14,13 +14,13 @@ use Rattle.kernel_lang.specs.Pools.{Member, chosen, members}
 use Rattle.sql_ast.specs.Canonical.{canonical}
 use Rattle.sql_ast.specs.Tree.{PlainQuery}
 use Rattle.sql_ast.specs.Valid.{IsQueryOf}
-use Rattle.sql_parts.specs.Given.{QueryIsUtf8, QueriesAreUtf8}
+use Rattle.sql_parts.specs.Given.{AtomIsUtf8, QueryIsUtf8, QueriesAreUtf8}
 use Rattle.sql_parts.specs.Numbered.{Emission, emission}
 use Rattle.sql_parts.specs.Scopes.{def_of, table_name}
 use Rattle.sql_parts.proofs.Utf8.{queries_are_utf8}
 use Rattle.java_ast.specs.Path.{and_then, found_in}
 use Rattle.java_ast.specs.Placed.{placed, placed_all}
-use Rattle.java_ast.specs.Tree.{Spelled, Table, Expression, Expressions, NoMore, And, Statement, Declare, Assign, Add, Sort, If, IfElse, ForEach, While, Print, Return, Break, Statements, Nothing, Then}
+use Rattle.java_ast.specs.Tree.{Spelled, Table, Expression, Expressions, NoMore, And, Statement, Declare, Assign, Add, Sort, If, IfElse, ForEach, While, Print, Return, Break, Statements, Nothing, Then, PlainProgram}
 use Rattle.java_ast.specs.Tree as tree
 use Rattle.java_grammar.specs.InGrammar.{IsName, IsQuery}
 use Rattle.java_grammar.specs.Written.{IsWord}
@@ -39,7 +39,7 @@ use Rattle.java_loops.specs.Kernel.Kernel.{types_at, lowering}
 use Rattle.java_loops.specs.Kernel.Setting.{Setting, setting_of}
 use Rattle.java_loops.specs.Lowering.Collected.{row_of_list, element_type, collected_type}
 use Rattle.java_loops.specs.Lowering.Lowered.{set_in_order, needed_in_order}
-use Rattle.java_loops.specs.Lowering.Numbering.{entries_of, known_of}
+use Rattle.java_loops.specs.Lowering.Numbering.{all_leaves, atoms_among, entries_of, known_of}
 use Rattle.java_loops.specs.Lowering.Spelling.{spelled_at, element_spelled}
 use Rattle.java_loops.specs.Meant.Asking.{spelled_by}
 use Rattle.java_loops.specs.Meant.KeptNumbers.{kept_numbers}
@@ -57,16 +57,17 @@ use Rattle.rewrite_core.proofs.Outer.{AreOuter, accumulators_there}
 use Rattle.rewrite_core.proofs.SpelledElements.{list_element, table_is}
 use Rattle.rewrite_core.proofs.TypedAnswers.{made_found}
 use Rattle.rewrite_core.proofs.TypedAsks.{Collects, AllCollect, collects_there}
-use Rattle.rewrite_core.proofs.Writable.Entries.{fine_entries}
+use Rattle.rewrite_core.proofs.Writable.Entries.{of_entries}
 use Rattle.rewrite_core.proofs.Writable.Given.{Holds}
-use Rattle.rewrite_core.proofs.Writable.Literals.{fine_atoms, fine_known}
+use Rattle.rewrite_core.proofs.Writable.Leaves.{OfTests, fine_parts, fine_tests}
+use Rattle.rewrite_core.proofs.Writable.Literals.{of_atoms, fine_known}
 use Rattle.rewrite_core.proofs.Writable.Parts.{IsFineFragment, fine_fragment, fine_kept, IsFineElement, fine_element}
 use Rattle.rewrite_core.proofs.Writable.Replaced.{IsFine, AllFine, IsFineStatement, AreFineStatements, IsFineType, IsFineProgram, fine_then, fine_first, fine_rest, fine_nothing, fine_both, fine_replaced}
 
 -- ---- Arguments
 
 abbrev mutual
-  placed_fine : (at : Span) (e : Expression) → IsFine e → IsFine (placed at e)
+  pub placed_fine : (at : Span) (e : Expression) → IsFine e → IsFine (placed at e)
   placed_fine at (tree.Lit _ value) h = h
   placed_fine at (tree.Var _ name) h = h
   placed_fine at (tree.Field _ row name) h = let k = placed_fine at row (h.0.0, h.1.0) in ((k.0, h.0.1), (k.1, h.1.1))
@@ -192,7 +193,7 @@ row_taken : (o : Option ListDef) (a : Single) → row_of_list o ≡ Some a → (
 row_taken (Some d) a e = (d, refl, cc)
 row_taken None a e = absurd cc
 
-module _ (l : Place) (fine : IsFineProgram l.program) (run : AreFineStatements l.setting.fragment.run)
+module _ (l : Place) (elements : (x : List ℕ) → IsFineElement (spelled_or_text (element_spelled (spelled_at x l.path l.program)))) (run : AreFineStatements l.setting.fragment.run)
     (entries : AllByRecursion IsFine (lowering l.setting).entries)
     (spelled : (x : List ℕ) → l.setting.types x ≡ found_in (type_spelled l.setting.schema) (spelled_at x l.path l.program))
     (texts : QueriesAreUtf8 l.setting.schema (lowering l.setting).fragment (queries_in (lowering l.setting).known) (lowering l.setting).arguments)
@@ -212,7 +213,7 @@ module _ (l : Place) (fine : IsFineProgram l.program) (run : AreFineStatements l
       let have : found_in (type_spelled w.schema) (spelled_at x l.path l.program) ≡ Some (Listed (RowOf d.0.table)) = sym (spelled x) ∙ visible ∙ ap Some (sym (ap Listed d.2 ∙ a.2)) in
       let rows : single_spelled w.schema (E x) ≡ Some (RowOf d.0.table) = list_element w.schema (spelled_at x l.path l.program) (RowOf d.0.table) have in
       let named : E x ≡ Table (table_name (slice_get w.schema d.0.table)) = table_is w.schema (E x) d.0.table rows in
-      let here : IsFineElement (Table (table_name (slice_get w.schema d.0.table))) = subst IsFineElement named (fine_element x l.path l.program fine) in
+      let here : IsFineElement (Table (table_name (slice_get w.schema d.0.table))) = subst IsFineElement named (elements x) in
       let there : IsFineElement (Table (table_taken w (updates.Push (elems.Whole j)))) = subst (λ o. IsFineElement (Table (table_name (slice_get w.schema (def_of o).table)))) (sym d.1) here in
       subst (λ v. IsFineElement (Table (table_taken w v))) (sym is) there
 
@@ -221,7 +222,7 @@ module _ (l : Place) (fine : IsFineProgram l.program) (run : AreFineStatements l
       let e : Emission = emission_of l m in
       let at : Span = place_of w.fragment.loop in
       let utf8 : QueryIsUtf8 w.schema e.query = texts l.candidate k m there in
-      let value : IsFine (ask_of l x m).value = value_fine at m.0.update (table_taken w m.0.update) (E x) (canonical e.query) (arguments_of at (lowering w).entries e.entries) (table_fine x c.type m.0.update c.visible c.collects) (fine_element x l.path l.program fine) (utf8.text query)
+      let value : IsFine (ask_of l x m).value = value_fine at m.0.update (table_taken w m.0.update) (E x) (canonical e.query) (arguments_of at (lowering w).entries e.entries) (table_fine x c.type m.0.update c.visible c.collects) (elements x) (utf8.text query)
       (arguments_fine at (lowering w).entries e.entries entries) in
       asking_fine (start_type w x) at x (ask_of l x m).value (start_fine x w.fragment.run run) name value
 
@@ -239,10 +240,18 @@ module _ (l : Place) (fine : IsFineProgram l.program) (run : AreFineStatements l
 fragment_leads : (schema : Schema) (read : List ℕ → Option PlainQuery) (l : Place) (may : HasAsks schema read l.program l.path l.setting l.candidate) → fragment_at l.path l.program ≡ Some l.setting.fragment
 fragment_leads schema read l may = setting_fragment schema read l.program l.path l.setting (types_at schema l.path l.program) (fragment_at l.path l.program) refl may.loop.there
 
+-- What asks are made of: the run, the entry values and the elements of declared variables are of the grammar and can be written, and the
+-- literals of the conditions are UTF-8.
+pub record IsFineAsking (p : PlainProgram) (path : List ℕ) (w : Setting) : Type 0 where
+  pub run : AreFineStatements w.fragment.run
+  pub entries : AllByRecursion IsFine (entries_of w)
+  pub atoms : AllByRecursion AtomIsUtf8 (atoms_among w (entries_of w) (known_of w) [] (all_leaves w.sites))
+  pub elements : (x : List ℕ) → IsFineElement (spelled_or_text (element_spelled (spelled_at x path p)))
+
 -- The asks that stand for a loop are of the grammar and can be written.
-asks_fine : (schema : Schema) (reader : Reader schema) (l : Place) → HasAsks schema reader.read l.program l.path l.setting l.candidate → IsFineProgram l.program → IsFineFragment l.setting.fragment → AllByRecursion IsFineAsk (asks_of l)
-asks_fine schema reader l may fine parts =
-    at_setting (λ (z : Setting). HasAsks schema reader.read l.program l.path z l.candidate → IsFineFragment z.fragment → AllByRecursion IsFineAsk (asks_of (record { program = l.program; path = l.path; setting = z; candidate = l.candidate })))
+asks_fine : (schema : Schema) (reader : Reader schema) (l : Place) → HasAsks schema reader.read l.program l.path l.setting l.candidate → IsFineAsking l.program l.path l.setting → AllByRecursion IsFineAsk (asks_of l)
+asks_fine schema reader l may parts =
+    at_setting (λ (z : Setting). HasAsks schema reader.read l.program l.path z l.candidate → IsFineAsking l.program l.path z → AllByRecursion IsFineAsk (asks_of (record { program = l.program; path = l.path; setting = z; candidate = l.candidate })))
     schema reader.read l.program l.path l.setting may.loop.typed may.loop.numbers
     (λ f g there rules may' parts'.
     let w : Setting = setting_of schema reader.read g f in
@@ -251,20 +260,38 @@ asks_fine schema reader l may fine parts =
     let unbroken = fragments_valid schema reader.read l.program l.path w may'.loop.typed may'.loop.numbers may'.loop.there may'.loop.unbroken in
     let outer : AreOuter (needed_in_order w) (lowering w).fragment.accs = accumulators_there schema reader.read l.program l.path f g may'.loop.typed there rules in
     let collect : AllCollect w (needed_in_order w) (lowering w).fragment.accs = collects_there schema reader.read l.program l.path w may'.loop outer in
-    let texts = queries_are_utf8 schema (lowering w).fragment (queries_in (lowering w).known) (lowering w).arguments unbroken (record { own = fine_atoms f parts' w (entries_of w) (known_of w); of_known = fine_known f parts' schema reader (known_of w) }) in
+    let texts = queries_are_utf8 schema (lowering w).fragment (queries_in (lowering w).known) (lowering w).arguments unbroken (record { own = parts'.atoms; of_known = fine_known f parts'.run schema reader (known_of w) }) in
     subst (AllByRecursion IsFineAsk) (sym (asks_are p 0 0 (needed_in_order w) (lowering w).fragment.accs (follow_first p) outer))
-    (all_fine p fine parts'.run (fine_entries f parts' (known_of w)) (λ x. spelled_there schema reader.read l.program l.path w x may'.loop.there) texts may'.emitted 0 0 (needed_in_order w) (lowering w).fragment.accs (follow_first p) outer collect
+    (all_fine p parts'.elements parts'.run parts'.entries (λ x. spelled_there schema reader.read l.program l.path w x may'.loop.there) texts may'.emitted 0 0 (needed_in_order w) (lowering w).fragment.accs (follow_first p) outer collect
     (names_fine _ f.run place.placed.simple parts'.run) (omega arith)))
     may.loop.there may.loop.unbroken may parts
 
 -- The statements that come in place of a run and its loop are of the grammar and can be written.
-pub instead_fine : (schema : Schema) (reader : Reader schema) (l : Place) → HasAsks schema reader.read l.program l.path l.setting l.candidate → IsFineProgram l.program
+pub instead_fine_by : (schema : Schema) (reader : Reader schema) (l : Place) → HasAsks schema reader.read l.program l.path l.setting l.candidate → IsFineAsking l.program l.path l.setting
     → AreFineStatements (and_then (with_numbers (kept_numbers l.setting.fragment (names_read (lowering l.setting).entries) (first_of_run l) l.setting.fragment.run) (first_of_run l) l.setting.fragment.run) (asked (asks_of l)))
-instead_fine schema reader l may fine =
-    let parts : IsFineFragment l.setting.fragment = fine_fragment l.path l.program l.setting.fragment fine (fragment_leads schema reader.read l may) in
+instead_fine_by schema reader l may parts =
     let numbers : List ℕ = kept_numbers l.setting.fragment (names_read (lowering l.setting).entries) (first_of_run l) l.setting.fragment.run in
     let kept : AreFineStatements (with_numbers numbers (first_of_run l) l.setting.fragment.run) = fine_kept numbers (first_of_run l) l.setting.fragment.run parts.run in
-    fine_both (with_numbers numbers (first_of_run l) l.setting.fragment.run) (asked (asks_of l)) kept (asked_fine (asks_of l) (asks_fine schema reader l may fine parts))
+    fine_both (with_numbers numbers (first_of_run l) l.setting.fragment.run) (asked (asks_of l)) kept (asked_fine (asks_of l) (asks_fine schema reader l may parts))
+
+-- so it is in a program that is of the grammar and can be written
+fine_asking : (schema : Schema) (read : List ℕ → Option PlainQuery) (l : Place) → HasAsks schema read l.program l.path l.setting l.candidate → IsFineProgram l.program → IsFineAsking l.program l.path l.setting
+fine_asking schema read l may fine =
+    at_setting (λ (z : Setting). IsFineFragment z.fragment → IsFineAsking l.program l.path z) schema read l.program l.path l.setting may.loop.typed may.loop.numbers
+    (λ f g there rules parts.
+    let w : Setting = setting_of schema read g f in
+    let tests : OfTests IsFine f.loop = fine_tests f.loop parts.loop in
+    record {
+      run = parts.run;
+      entries = of_entries IsFine fine_parts (λ e h. h) f parts.run tests (known_of w);
+      atoms = of_atoms IsFine fine_parts f tests w (entries_of w) (known_of w);
+      elements = λ x. fine_element x l.path l.program fine;
+    })
+    may.loop.there may.loop.unbroken (fine_fragment l.path l.program l.setting.fragment fine (fragment_leads schema read l may))
+
+pub instead_fine : (schema : Schema) (reader : Reader schema) (l : Place) → HasAsks schema reader.read l.program l.path l.setting l.candidate → IsFineProgram l.program
+    → AreFineStatements (and_then (with_numbers (kept_numbers l.setting.fragment (names_read (lowering l.setting).entries) (first_of_run l) l.setting.fragment.run) (first_of_run l) l.setting.fragment.run) (asked (asks_of l)))
+instead_fine schema reader l may fine = instead_fine_by schema reader l may (fine_asking schema reader.read l may fine)
 
 -- The program in which they stand in place of the run and the loop is of the grammar and can be written.
 pub replaced_fine : (schema : Schema) (reader : Reader schema) (l : Place) → HasAsks schema reader.read l.program l.path l.setting l.candidate → IsFineProgram l.program → IsFineProgram (replaced l)

@@ -1,7 +1,8 @@
--- The entry values of a lowered fragment are of the grammar and can be written where its loop and its run are and can.
+-- What holds of the conditions of a loop holds of the entry values of its lowered fragment, where its run is of the grammar and can be written.
 use Rattle.std.proofs.Common.{ℕ, Bool, true, false, cond, List, [], ◌∷◌, Option, Some, None, IsUtf8}
 use Rattle.std.specs.List.{AllByRecursion}
 use Rattle.std.specs.Str.{bytes_eq}
+use Rattle.qbs_base.proofs.Order.{all_more}
 use Rattle.java_ast.specs.Tree.{Expression, Expressions, NoMore, And, Statement, Declare, Assign, Add, Sort, If, IfElse, ForEach, While, Print, Return, Break, Statements, Nothing, Then}
 use Rattle.java_ast.specs.Tree as tree
 use Rattle.loop_text.specs.Kernel.KernelConditions.{Asked, asked_by_query, asked_by, asked_in, first_setting, asked_in_found, asked_for}
@@ -10,8 +11,7 @@ use Rattle.loop_text.specs.Statements.Fragment.{set_by, Fragment}
 use Rattle.java_ast.specs.Names.{Names}
 use Rattle.java_loops.specs.Lowering.Numbering.{with_all_new, all_leaves, same_entry, entries_among, arguments, arguments_asked, with_arguments}
 use Rattle.rewrite_core.proofs.Writable.Given.{Holds}
-use Rattle.rewrite_core.proofs.Writable.Leaves.{all_new, entries_among_fine, fine_leaves}
-use Rattle.rewrite_core.proofs.Writable.Parts.{IsFineFragment}
+use Rattle.rewrite_core.proofs.Writable.Leaves.{all_new, OfParts, OfTests, of_all_leaves, of_entries_among}
 use Rattle.rewrite_core.proofs.Writable.Replaced.{IsFine, AllFine, IsFineStatement, AreFineStatements, fine_first, fine_rest}
 
 -- ---- What the run asks
@@ -93,15 +93,18 @@ arguments_asked_fine : (o : Option Asked) → Holds IsFineAsked o → AllByRecur
 arguments_asked_fine (Some a) h = arguments_fine a.arguments h.arguments
 arguments_asked_fine None h = tt
 
-with_arguments_fine : (run : Statements) (es : List Expression) (xs : Names) → AreFineStatements run → AllByRecursion IsFine es → AllByRecursion IsFine (with_arguments run es xs)
-with_arguments_fine run es [] h k = k
-with_arguments_fine run es (x ∷ xs) h k =
-    with_arguments_fine run (with_all_new same_entry es (arguments_asked (asked_for run x))) xs h
-    (all_new IsFine same_entry es (arguments_asked (asked_for run x)) k (arguments_asked_fine (asked_for run x) (asked_for_fine run x h)))
+-- Behind others of which a property holds, if it holds of what is of the grammar and can be written.
+with_arguments_all : (P : Expression → Type 0) → ((e : Expression) → IsFine e → P e) → (run : Statements) (es : List Expression) (xs : Names) → AreFineStatements run → AllByRecursion P es → AllByRecursion P (with_arguments run es xs)
+with_arguments_all P fine run es [] h k = k
+with_arguments_all P fine run es (x ∷ xs) h k =
+    with_arguments_all P fine run (with_all_new same_entry es (arguments_asked (asked_for run x))) xs h
+    (all_new P same_entry es (arguments_asked (asked_for run x)) k (all_more IsFine P fine (arguments_asked (asked_for run x)) (arguments_asked_fine (asked_for run x) (asked_for_fine run x h))))
 
 -- ---- Of a fragment
 
--- The entry values are of the grammar and can be written.
-pub fine_entries : (f : Fragment) → IsFineFragment f → (xs : Names) → AllByRecursion IsFine (with_arguments f.run (entries_among (sites_of f.loop) [] (all_leaves (sites_of f.loop))) xs)
-fine_entries f h xs =
-    with_arguments_fine f.run (entries_among (sites_of f.loop) [] (all_leaves (sites_of f.loop))) xs h.run (entries_among_fine (sites_of f.loop) [] (all_leaves (sites_of f.loop)) tt (fine_leaves f.loop h.loop))
+-- What holds of the conditions of the loop holds of the entry values.
+pub of_entries : (P : Expression → Type 0) → OfParts P → ((e : Expression) → IsFine e → P e) → (f : Fragment) → AreFineStatements f.run → OfTests P f.loop → (xs : Names)
+    → AllByRecursion P (with_arguments f.run (entries_among (sites_of f.loop) [] (all_leaves (sites_of f.loop))) xs)
+of_entries P parts fine f run tests xs =
+    with_arguments_all P fine f.run (entries_among (sites_of f.loop) [] (all_leaves (sites_of f.loop))) xs run
+    (of_entries_among P parts (sites_of f.loop) [] (all_leaves (sites_of f.loop)) tt (of_all_leaves P parts f.loop tests))

@@ -28,10 +28,9 @@ use Rattle.java_loops.specs.Lowering.Numbering.{with_new, Leaf, all_leaves, oper
 use Rattle.fragments.specs.Asked.{queries_in}
 use Rattle.rewrite_core.proofs.Writable.Given.{Holds}
 use Rattle.rewrite_core.proofs.Writable.Entries.{IsFineAsked, asked_for_fine}
-use Rattle.rewrite_core.proofs.Writable.Leaves.{new_where, IsFineLeaf, fine_leaves}
-use Rattle.rewrite_core.proofs.Writable.Parts.{IsFineFragment}
+use Rattle.rewrite_core.proofs.Writable.Leaves.{new_where, OfParts, OfTests, OfLeaf, of_all_leaves}
 use Rattle.rewrite_core.proofs.Writable.QueryTexts.{literals_utf8}
-use Rattle.rewrite_core.proofs.Writable.Replaced.{IsFine, AreFineStatements}
+use Rattle.rewrite_core.proofs.Writable.Replaced.{AreFineStatements}
 
 -- ---- Atoms
 
@@ -40,84 +39,85 @@ scalar_utf8 (scalars.Long n) h = tt
 scalar_utf8 (scalars.Bool b) h = tt
 scalar_utf8 (scalars.Text text) h = h
 
-literal_utf8 : (entries : List Expression) (e : Expression) → IsFine e → LiteralIsUtf8 (operand_of_literal entries e)
-literal_utf8 entries (tree.Lit at x) h = scalar_utf8 x h.1
-literal_utf8 entries (tree.Var at x) h = tt
-literal_utf8 entries (tree.Field at e m) h = tt
-literal_utf8 entries (tree.Binary at op a b) h = tt
-literal_utf8 entries (tree.Not at e) h = tt
-literal_utf8 entries (tree.Equals at a b) h = tt
-literal_utf8 entries (tree.Size at x) h = tt
-literal_utf8 entries (tree.Get at x e) h = tt
-literal_utf8 entries (tree.Contains at x e) h = tt
-literal_utf8 entries (tree.Fetch at m) h = tt
-literal_utf8 entries (tree.Query at ty text es) h = tt
-literal_utf8 entries (tree.QueryLong at text es) h = tt
-literal_utf8 entries (tree.QueryBoolean at text es) h = tt
-literal_utf8 entries (tree.NewList at) h = tt
-literal_utf8 entries (tree.NewSet at) h = tt
-literal_utf8 entries (tree.NewSetOf at e) h = tt
+module _ (P : Expression → Type 0) (parts : OfParts P) where
+  literal_utf8 : (entries : List Expression) (e : Expression) → P e → LiteralIsUtf8 (operand_of_literal entries e)
+  literal_utf8 entries (tree.Lit at x) h = scalar_utf8 x (parts.literal at x h)
+  literal_utf8 entries (tree.Var at x) h = tt
+  literal_utf8 entries (tree.Field at e m) h = tt
+  literal_utf8 entries (tree.Binary at op a b) h = tt
+  literal_utf8 entries (tree.Not at e) h = tt
+  literal_utf8 entries (tree.Equals at a b) h = tt
+  literal_utf8 entries (tree.Size at x) h = tt
+  literal_utf8 entries (tree.Get at x e) h = tt
+  literal_utf8 entries (tree.Contains at x e) h = tt
+  literal_utf8 entries (tree.Fetch at m) h = tt
+  literal_utf8 entries (tree.Query at ty text es) h = tt
+  literal_utf8 entries (tree.QueryLong at text es) h = tt
+  literal_utf8 entries (tree.QueryBoolean at text es) h = tt
+  literal_utf8 entries (tree.NewList at) h = tt
+  literal_utf8 entries (tree.NewSet at) h = tt
+  literal_utf8 entries (tree.NewSetOf at e) h = tt
 
-module _ (w : Setting) (entries : List Expression) (known : Names) where
-  column_utf8 : (e : Expression) (o : Option RowColumn) → IsFine e → LiteralIsUtf8 (operand_of_column w entries e o)
-  column_utf8 e (Some c) h = tt
-  column_utf8 e None h = literal_utf8 entries e h
+  module _ (w : Setting) (entries : List Expression) (known : Names) where
+    column_utf8 : (e : Expression) (o : Option RowColumn) → P e → LiteralIsUtf8 (operand_of_column w entries e o)
+    column_utf8 e (Some c) h = tt
+    column_utf8 e None h = literal_utf8 entries e h
 
-  operand_utf8 : (n : ℕ) (e : Expression) → IsFine e → LiteralIsUtf8 (operand_of w entries n e)
-  operand_utf8 n e h = column_utf8 e (row_column_at w.sites n e) h
+    operand_utf8 : (n : ℕ) (e : Expression) → P e → LiteralIsUtf8 (operand_of w entries n e)
+    operand_utf8 n e h = column_utf8 e (row_column_at w.sites n e) h
 
-  same_where : (t : Bool) (a b : Operand) → LiteralIsUtf8 a → LiteralIsUtf8 b → AtomIsUtf8 (cond t (atoms.Same b a) (atoms.Same a b))
-  same_where true a b h k = (k, h)
-  same_where false a b h k = (h, k)
+    same_where : (t : Bool) (a b : Operand) → LiteralIsUtf8 a → LiteralIsUtf8 b → AtomIsUtf8 (cond t (atoms.Same b a) (atoms.Same a b))
+    same_where true a b h k = (k, h)
+    same_where false a b h k = (h, k)
 
-  same_utf8 : (a b : Operand) → LiteralIsUtf8 a → LiteralIsUtf8 b → AtomIsUtf8 (same_of a b)
-  same_utf8 a b h k = same_where (operand_before b a) a b h k
+    same_utf8 : (a b : Operand) → LiteralIsUtf8 a → LiteralIsUtf8 b → AtomIsUtf8 (same_of a b)
+    same_utf8 a b h k = same_where (operand_before b a) a b h k
 
-  compared_utf8 : (op : Op) (a b : Operand) → LiteralIsUtf8 a → LiteralIsUtf8 b → AtomIsUtf8 (compared op a b).atom
-  compared_utf8 ops.Lt a b h k = (h, k)
-  compared_utf8 ops.Gt a b h k = (k, h)
-  compared_utf8 ops.Le a b h k = (k, h)
-  compared_utf8 ops.Ge a b h k = (h, k)
-  compared_utf8 ops.Ne a b h k = same_utf8 a b h k
-  compared_utf8 ops.Eq a b h k = same_utf8 a b h k
-  compared_utf8 ops.Add a b h k = same_utf8 a b h k
-  compared_utf8 ops.Sub a b h k = same_utf8 a b h k
-  compared_utf8 ops.Mul a b h k = same_utf8 a b h k
-  compared_utf8 ops.And a b h k = same_utf8 a b h k
-  compared_utf8 ops.Or a b h k = same_utf8 a b h k
+    compared_utf8 : (op : Op) (a b : Operand) → LiteralIsUtf8 a → LiteralIsUtf8 b → AtomIsUtf8 (compared op a b).atom
+    compared_utf8 ops.Lt a b h k = (h, k)
+    compared_utf8 ops.Gt a b h k = (k, h)
+    compared_utf8 ops.Le a b h k = (k, h)
+    compared_utf8 ops.Ge a b h k = (h, k)
+    compared_utf8 ops.Ne a b h k = same_utf8 a b h k
+    compared_utf8 ops.Eq a b h k = same_utf8 a b h k
+    compared_utf8 ops.Add a b h k = same_utf8 a b h k
+    compared_utf8 ops.Sub a b h k = same_utf8 a b h k
+    compared_utf8 ops.Mul a b h k = same_utf8 a b h k
+    compared_utf8 ops.And a b h k = same_utf8 a b h k
+    compared_utf8 ops.Or a b h k = same_utf8 a b h k
 
-  flag_utf8 : (d : ℕ) (o : Option Site) → AtomIsUtf8 (flag_reading w d o).atom
-  flag_utf8 d (Some s) = tt
-  flag_utf8 d None = tt
+    flag_utf8 : (d : ℕ) (o : Option Site) → AtomIsUtf8 (flag_reading w d o).atom
+    flag_utf8 d (Some s) = tt
+    flag_utf8 d None = tt
 
-  bound_utf8 : (b : Binding) → AtomIsUtf8 (bound_reading w b).atom
-  bound_utf8 (Local d) = flag_utf8 d (slice_get w.sites d)
-  bound_utf8 (Row n) = tt
-  bound_utf8 Outer = tt
+    bound_utf8 : (b : Binding) → AtomIsUtf8 (bound_reading w b).atom
+    bound_utf8 (Local d) = flag_utf8 d (slice_get w.sites d)
+    bound_utf8 (Row n) = tt
+    bound_utf8 Outer = tt
 
-  reading_utf8 : (n : ℕ) (e : Expression) → IsFine e → AtomIsUtf8 (reading_of w entries known n e).atom
-  reading_utf8 n (tree.Binary at op a b) h = compared_utf8 op (operand_of w entries n a) (operand_of w entries n b) (operand_utf8 n a (h.0.0, h.1.0)) (operand_utf8 n b (h.0.1, h.1.1))
-  reading_utf8 n (tree.Equals at a b) h = same_utf8 (operand_of w entries n a) (operand_of w entries n b) (operand_utf8 n a (h.0.0, h.1.0)) (operand_utf8 n b (h.0.1, h.1.1))
-  reading_utf8 n (tree.Var at x) h = bound_utf8 (binding_at w.sites n x)
-  reading_utf8 n (tree.Contains at x e) h = operand_utf8 n e (h.0.1, h.1.1)
-  reading_utf8 n (tree.Lit at x) h = operand_utf8 n (tree.Lit at x) h
-  reading_utf8 n (tree.Field at e m) h = operand_utf8 n (tree.Field at e m) h
-  reading_utf8 n (tree.Not at e) h = operand_utf8 n (tree.Not at e) h
-  reading_utf8 n (tree.Size at x) h = operand_utf8 n (tree.Size at x) h
-  reading_utf8 n (tree.Get at x e) h = operand_utf8 n (tree.Get at x e) h
-  reading_utf8 n (tree.Fetch at m) h = operand_utf8 n (tree.Fetch at m) h
-  reading_utf8 n (tree.Query at ty text es) h = operand_utf8 n (tree.Query at ty text es) h
-  reading_utf8 n (tree.QueryLong at text es) h = operand_utf8 n (tree.QueryLong at text es) h
-  reading_utf8 n (tree.QueryBoolean at text es) h = operand_utf8 n (tree.QueryBoolean at text es) h
-  reading_utf8 n (tree.NewList at) h = operand_utf8 n (tree.NewList at) h
-  reading_utf8 n (tree.NewSet at) h = operand_utf8 n (tree.NewSet at) h
-  reading_utf8 n (tree.NewSetOf at e) h = operand_utf8 n (tree.NewSetOf at e) h
+    reading_utf8 : (n : ℕ) (e : Expression) → P e → AtomIsUtf8 (reading_of w entries known n e).atom
+    reading_utf8 n (tree.Binary at op a b) h = let two = parts.binary at op a b h in compared_utf8 op (operand_of w entries n a) (operand_of w entries n b) (operand_utf8 n a two.0) (operand_utf8 n b two.1)
+    reading_utf8 n (tree.Equals at a b) h = let two = parts.equals at a b h in same_utf8 (operand_of w entries n a) (operand_of w entries n b) (operand_utf8 n a two.0) (operand_utf8 n b two.1)
+    reading_utf8 n (tree.Var at x) h = bound_utf8 (binding_at w.sites n x)
+    reading_utf8 n (tree.Contains at x e) h = operand_utf8 n e (parts.contains at x e h)
+    reading_utf8 n (tree.Lit at x) h = operand_utf8 n (tree.Lit at x) h
+    reading_utf8 n (tree.Field at e m) h = operand_utf8 n (tree.Field at e m) h
+    reading_utf8 n (tree.Not at e) h = operand_utf8 n (tree.Not at e) h
+    reading_utf8 n (tree.Size at x) h = operand_utf8 n (tree.Size at x) h
+    reading_utf8 n (tree.Get at x e) h = operand_utf8 n (tree.Get at x e) h
+    reading_utf8 n (tree.Fetch at m) h = operand_utf8 n (tree.Fetch at m) h
+    reading_utf8 n (tree.Query at ty text es) h = operand_utf8 n (tree.Query at ty text es) h
+    reading_utf8 n (tree.QueryLong at text es) h = operand_utf8 n (tree.QueryLong at text es) h
+    reading_utf8 n (tree.QueryBoolean at text es) h = operand_utf8 n (tree.QueryBoolean at text es) h
+    reading_utf8 n (tree.NewList at) h = operand_utf8 n (tree.NewList at) h
+    reading_utf8 n (tree.NewSet at) h = operand_utf8 n (tree.NewSet at) h
+    reading_utf8 n (tree.NewSetOf at e) h = operand_utf8 n (tree.NewSetOf at e) h
 
-  atoms_utf8 : (all : List Atom) (ls : List Leaf) → AllByRecursion AtomIsUtf8 all → AllByRecursion IsFineLeaf ls → AllByRecursion AtomIsUtf8 (atoms_among w entries known all ls)
-  atoms_utf8 all [] h k = h
-  atoms_utf8 all (l ∷ ls) h k =
-      let one : Atom = (reading_of w entries known l.number l.expression).atom in
-      atoms_utf8 (with_new same_atom all one) ls (new_where AtomIsUtf8 same_atom all one (list_any (same_atom one) all) h (reading_utf8 l.number l.expression k.0)) k.1
+    atoms_utf8 : (all : List Atom) (ls : List Leaf) → AllByRecursion AtomIsUtf8 all → AllByRecursion (OfLeaf P) ls → AllByRecursion AtomIsUtf8 (atoms_among w entries known all ls)
+    atoms_utf8 all [] h k = h
+    atoms_utf8 all (l ∷ ls) h k =
+        let one : Atom = (reading_of w entries known l.number l.expression).atom in
+        atoms_utf8 (with_new same_atom all one) ls (new_where AtomIsUtf8 same_atom all one (list_any (same_atom one) all) h (reading_utf8 l.number l.expression k.0)) k.1
 
 -- ---- Known queries
 
@@ -142,9 +142,10 @@ module _ (schema : Schema) (reader : Reader schema) (run : Statements) (fine : A
 -- ---- Of a fragment
 
 -- The text literals of the atoms are UTF-8.
-pub fine_atoms : (f : Fragment) → IsFineFragment f → (w : Setting) (entries : List Expression) (known : Names) → AllByRecursion AtomIsUtf8 (atoms_among w entries known [] (all_leaves (sites_of f.loop)))
-fine_atoms f h w entries known = atoms_utf8 w entries known [] (all_leaves (sites_of f.loop)) tt (fine_leaves f.loop h.loop)
+pub of_atoms : (P : Expression → Type 0) → OfParts P → (f : Fragment) → OfTests P f.loop → (w : Setting) (entries : List Expression) (known : Names)
+    → AllByRecursion AtomIsUtf8 (atoms_among w entries known [] (all_leaves (sites_of f.loop)))
+of_atoms P parts f tests w entries known = atoms_utf8 P parts w entries known [] (all_leaves (sites_of f.loop)) tt (of_all_leaves P parts f.loop tests)
 
 -- The text literals of the known queries are UTF-8.
-pub fine_known : (f : Fragment) → IsFineFragment f → (schema : Schema) (reader : Reader schema) (xs : Names) → AllByRecursion LiteralsAreUtf8 (queries_in (map (λ x. query_asked reader.read (asked_for f.run x)) xs))
-fine_known f h schema reader xs = known_utf8 schema reader f.run h.run xs
+pub fine_known : (f : Fragment) → AreFineStatements f.run → (schema : Schema) (reader : Reader schema) (xs : Names) → AllByRecursion LiteralsAreUtf8 (queries_in (map (λ x. query_asked reader.read (asked_for f.run x)) xs))
+fine_known f run schema reader xs = known_utf8 schema reader f.run run xs
