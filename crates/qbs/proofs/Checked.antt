@@ -1,5 +1,5 @@
 -- What is found of a bundle is what `check` writes.
-use Rattle.std.proofs.Common.{◌≡◌, ℕ, zero, suc, ◌+◌, List, [], ◌∷◌, length, Option, Some, None, Result, Ok, refl, sym, ap, ◌∙◌, subst, arith}
+use Rattle.std.proofs.Common.{◌≡◌, ℕ, suc, ◌+◌, List, [], ◌∷◌, length, Option, Some, None, Result, Ok, sym, ap, ◌∙◌, subst, arith}
 use Rattle.qbs_base.specs.declared.status.Status.{Status}
 use Rattle.qbs_base.specs.Values.{Schema}
 use Rattle.java_ast.specs.declared.tree.Program.{Program}

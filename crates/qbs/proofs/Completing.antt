@@ -15,50 +15,50 @@ use Rattle.java_types.specs.Texts.{read_by}
 use Rattle.sql_ast.specs.Meaning as meaning
 use Rattle.sql_ast.specs.Meaning.{Answered, query_answer}
 use Rattle.sql_ast.specs.Tree.{PlainQuery}
+use Rattle.small_dbs.specs.declared.small.SmallDb.{SmallDb}
 use Rattle.words.specs.declared.command.Command.{Command}
 use Rattle.words.specs.declared.command.Command.TheVariants as commands
 use Rattle.words.specs.declared.command.Options.{Options}
 use Rattle.words.specs.Plain.{HasWords}
 use Rattle.words.specs.Reading.{plain}
 use Rattle.words.proofs.Exact.{reads_plain_words}
-use Rattle.deliveries.specs.Limits.{most_schema, most_source, most_bundle, most_tables, most_dump}
+use Rattle.deliveries.specs.Limits.{most_schema, most_source, most_bundle, most_tables, most_dump, most_store}
 use Rattle.deliveries.specs.declared.plan.Plan.{Plan}
 use Rattle.plans.specs.Calls.{Call, Called, Calls, CallsNothing, arguments, word_refusal}
 use Rattle.plans.specs.Opening.{BreaksBundle, bundle_refusal, has_bundle, IsSchemaOf, BreaksSchema, schema_refusal, IsProgramOf, HasNoProgram, has_schema, has_program, HasLeast, type_refusal}
 use Rattle.deliveries.specs.Deliver.{Change}
-use Rattle.deliveries.specs.Plan.{Given, not_yet}
+use Rattle.deliveries.specs.Plan.{Given}
 use Rattle.plans.specs.Results.{names_of}
-use Rattle.deliveries.specs.Steps.{Ends, step, refused, IsRead, IsNotRead, reads}
+use Rattle.deliveries.specs.Steps.{Ends, refused, IsRead, IsNotRead, reads}
 use Rattle.plans.specs.Tables.{table_file, AreRead, AreNotRead, reads_tables, IsFileOf, HasRows, LacksRows, data_refusal, has_rows}
 use Rattle.qbs.specs.Check.{tells, checks, check_of, check}
 use Rattle.qbs.specs.Commands.{is_built, built, where_built, command, IsDue}
-use Rattle.qbs.specs.Complete.{HasFile, HaveTexts, HasSchema, HasSource, HasTables, HasCall, HasWhole, IsRight, IsEnd, IsEndWhere, IsListed, IsComplete}
+use Rattle.qbs.specs.Complete.{HasFile, HaveTexts, HasStoreFile, HasSchema, HasSource, HasTables, HasCall, HasWhole, IsRight, IsEnd, IsEndWhere, IsListed, IsComplete}
 use Rattle.call_rules.specs.Faults.{IsFaultOf}
 use Rattle.inlining.specs.Inlined.{IsWhole}
 use Rattle.java_mean.specs.WellTyped.{IsWellTyped}
 use Rattle.qbs.specs.Draw.{Draws, draw}
 use Rattle.qbs.specs.Inline.{IsProgramWithCallsOf, HasNoProgramWithCalls, has_program_with_calls, helper_refusal, has_no_calls_left, types_and_writes, Inlines, inline_of, inline}
 use Rattle.qbs.specs.Narrow.{Narrows, narrow_of, narrow}
-use Rattle.qbs.specs.Make.{IsResult, IsNotDone, method_text, outcome_over, runs, make_of, make}
-use Rattle.qbs.specs.Pruners.{May}
-use Rattle.qbs.specs.Prove.{Proves, prove_of, prove}
-use Rattle.qbs.specs.Rewrite.{size_of, budget_of, Rewrites, rewrite_of, rewrite}
+use Rattle.qbs.specs.Unnest.{Unnests, unnest_of, unnest}
+use Rattle.qbs.specs.Make.{IsNotDone, method_text, outcome_over, runs, make}
+use Rattle.qbs.specs.Gather.{GathersStore, gather_of, gather}
+use Rattle.qbs.specs.Opened.{reads_all, has_all}
+use Rattle.qbs.specs.Pruners.{May, with_bank}
+use Rattle.qbs.specs.Prove.{Proves, prove}
+use Rattle.qbs.specs.Rewrite.{size_of, budget_of, Rewrites, rewrite}
 use Rattle.qbs.specs.Run.{IsChosen, chooses, comes_to, comes, call_of, run_of, run, turns_of}
 use Rattle.qbs.specs.Sql.{IsAsked, AsksNothing, answer_plan, answers, sql_of, sql}
+use Rattle.qbs.specs.Store.{IsStoreRead, IsStoreUnread, reads_store, IsBankOf, HasNoBank, has_store}
 use Rattle.qbs.specs.Top.{IsDone}
 use Rattle.qbs.proofs.AlikeRuns.{kept_named, some_named}
 use Rattle.qbs.proofs.Inlining.{calls_one, whole_one, typed_one}
 use Rattle.qbs.proofs.OneFound.{schema_one, program_one, bundle_one, rows_one, call_one, query_one}
-use Rattle.qbs.proofs.OnePlan.{chosen_one}
 use Rattle.qbs.proofs.OneRead.{read_one, tables_one}
-use Rattle.qbs.proofs.OneStep.{IsOne}
+use Rattle.qbs.proofs.OneStep.{goes}
+use Rattle.qbs.proofs.OneStore.{store_read_one, bank_one}
 
 -- ---- one step
-
--- where what a step asks for is so, the command goes on with it
-goes : {B : Type 0} (Is : B → Type 0) (Stops : Ends) (next : B → Ends) → IsOne {B = B} Is Stops → (b : B) → Is b → (plan : Plan) → step {B = B} Is Stops next plan → next b plan
-goes Is Stops next one b is plan (inl h) = absurd (one.apart b plan is h)
-goes Is Stops next one b is plan (inr h) = subst (λ x. next x plan) (one.same h.0 b h.1 is) h.2
 
 some_is : (o : Option (List ℕ)) (bytes : List ℕ) → o ≡ Some bytes → IsSome o
 some_is (Some all) bytes e = refl
@@ -99,30 +99,62 @@ goes_program tables bytes p next is plan h = goes (IsProgramOf tables bytes) (Ha
 goes_rows : (tables : Schema) (texts : List (List ℕ)) (db : Database) (next : Database → Ends) → HasRows tables texts db → (plan : Plan) → has_rows tables texts next plan → next db plan
 goes_rows tables texts db next is plan h = goes (HasRows tables texts) (refused (LacksRows tables texts) data_refusal) next (rows_one tables texts) db is plan h
 
--- ---- `rewrite`
+-- ---- `rewrite` and `prove`
 
-rewrite_listed : (files : Given) → ((name : List ℕ) → files.failed name → ⊥) → (may : May) (o : Options) (schema source : List ℕ) (plan : Plan) → HasSchema files.told schema (λ tables. HasSource files.told source tables (λ p. Unit {0})) →
-    rewrite files may o schema source plan → plan.status ≡ statuses.Ok
+-- a store that is told is read
+store_is_read : (files : Given) → ((name : List ℕ) → files.failed name → ⊥) → (name : Option (List ℕ)) (tables : Schema) (next : Option (List ℕ) → Ends) → HasStoreFile files.told name tables → (plan : Plan) → reads_store files name next plan →
+    (b : Option (List ℕ)) × (bank : Option (List SmallDb)) × IsBankOf tables b bank × next b plan
+store_is_read files calm None tables next right plan h =
+    (None, None, refl, goes (IsStoreRead files None) (IsStoreUnread files None) next (store_read_one files None (λ other is. absurd is) calm) None refl plan h)
+store_is_read files calm (Some name) tables next right plan h =
+    let told : IsSome (files.told name) = some_is (files.told name) right.bytes right.has in
+    let read : IsRead files name most_store right.bytes = (right.within, subst (λ (o : Option (List ℕ)). IfSome o (λ all. right.bytes ≡ all)) (sym right.has) refl) in (
+      Some right.bytes,
+      Some right.is.0,
+      (right.is.0, right.is.1, refl),
+      goes (IsStoreRead files (Some name)) (IsStoreUnread files (Some name)) next (store_read_one files (Some name) (λ other is. subst (λ (n : List ℕ). IsSome (files.told n)) (sym is) told) calm) (Some right.bytes) (right.bytes, read, refl) plan h,
+    )
+
+-- where all that is read is right, the command goes on with what it holds
+all_opened : (files : Given) → ((name : List ℕ) → files.failed name → ⊥) → (schema source : List ℕ) (store : Option (List ℕ)) (next : List ℕ → Schema → PlainProgram → Option (List SmallDb) → Ends) (plan : Plan) →
+    HasSchema files.told schema (λ tables. HasSource files.told source tables (λ p. Unit {0}) × HasStoreFile files.told store tables) →
+    reads_all files schema source store (λ s t b. has_all s t b (λ tables p bank. next t tables p bank)) plan →
+    (t : List ℕ) × (tables : Schema) × (p : PlainProgram) × (bank : Option (List SmallDb)) × next t tables p bank plan
+all_opened files calm schema source store next plan right h =
+    let tables : Schema = right.is.0 in
+    let text = right.is.2.0 in
+    let read = opens files calm schema most_schema (codes "schema") right.bytes
+    (λ s. reads files source most_source (codes "source") (λ t. reads_store files store (λ b. has_all s t b (λ ts p bank. next t ts p bank)))) right.has right.within plan h in
+    let both = opens files calm source most_source (codes "source") text.bytes (λ t. reads_store files store (λ b. has_all right.bytes t b (λ ts p bank. next t ts p bank))) text.has text.within plan read in
+    let all = store_is_read files calm store tables (λ b. has_all right.bytes text.bytes b (λ ts p bank. next text.bytes ts p bank)) right.is.2.1 plan both in
+    let opened = goes_schema right.bytes tables (λ ts. has_program ts text.bytes (λ p. has_store ts all.0 (λ bank. next text.bytes ts p bank))) right.is.1 plan all.3 in
+    let typed = goes_program tables text.bytes text.is.0 (λ p. has_store tables all.0 (λ bank. next text.bytes tables p bank)) text.is.1 plan opened in
+    let held = goes (IsBankOf tables all.0) (HasNoBank tables all.0) (λ bank. next text.bytes tables text.is.0 bank) (bank_one tables all.0) all.1 all.2 plan typed in
+    (text.bytes, tables, text.is.0, all.1, held)
+
+rewrite_listed : (files : Given) → ((name : List ℕ) → files.failed name → ⊥) → (may : May) (o : Options) (schema source : List ℕ) (plan : Plan) →
+    HasSchema files.told schema (λ tables. HasSource files.told source tables (λ p. Unit {0}) × HasStoreFile files.told o.store tables) → rewrite files may o schema source plan → plan.status ≡ statuses.Ok
 rewrite_listed files calm may o schema source plan right h =
-    let tables : Schema = right.is.0 in
-    let text = right.is.2 in
-    let read = opens files calm schema most_schema (codes "schema") right.bytes (λ s. reads files source most_source (codes "source") (λ t. rewrite_of may o s t)) right.has right.within plan h in
-    let both = opens files calm source most_source (codes "source") text.bytes (λ t. rewrite_of may o right.bytes t) text.has text.within plan read in
-    let opened = goes_schema right.bytes tables (λ ts. has_program ts text.bytes (λ p. Rewrites may ts (size_of o) (budget_of o) text.bytes p)) right.is.1 plan both in
-    let done = goes_program tables text.bytes text.is.0 (λ p. Rewrites may tables (size_of o) (budget_of o) text.bytes p) text.is.1 plan opened in
-    ap (λ (x : Plan). x.status) done.written
+    let done = all_opened files calm schema source o.store (λ t tables p bank. Rewrites (with_bank may bank) tables (size_of o) (budget_of o) t p) plan right h in
+    ap (λ (x : Plan). x.status) done.4.written
 
--- ---- `prove`
-
-prove_listed : (files : Given) → ((name : List ℕ) → files.failed name → ⊥) → (may : May) (o : Options) (schema source : List ℕ) (plan : Plan) → HasSchema files.told schema (λ tables. HasSource files.told source tables (λ p. Unit {0})) →
-    prove files may o schema source plan → plan.status ≡ statuses.Ok
+prove_listed : (files : Given) → ((name : List ℕ) → files.failed name → ⊥) → (may : May) (o : Options) (schema source : List ℕ) (plan : Plan) →
+    HasSchema files.told schema (λ tables. HasSource files.told source tables (λ p. Unit {0}) × HasStoreFile files.told o.store tables) → prove files may o schema source plan → plan.status ≡ statuses.Ok
 prove_listed files calm may o schema source plan right h =
+    let done = all_opened files calm schema source o.store (λ t tables p bank. Proves (with_bank may bank) tables (size_of o) (budget_of o) p) plan right h in
+    ap (λ (x : Plan). x.status) done.4.written
+
+-- ---- `gather`
+
+gather_listed : (files : Given) → ((name : List ℕ) → files.failed name → ⊥) → (o : Options) (schema source : List ℕ) (plan : Plan) → HasSchema files.told schema (λ tables. HasSource files.told source tables (λ p. Unit {0})) →
+    gather files o schema source plan → plan.status ≡ statuses.Ok
+gather_listed files calm o schema source plan right h =
     let tables : Schema = right.is.0 in
     let text = right.is.2 in
-    let read = opens files calm schema most_schema (codes "schema") right.bytes (λ s. reads files source most_source (codes "source") (λ t. prove_of may o s t)) right.has right.within plan h in
-    let both = opens files calm source most_source (codes "source") text.bytes (λ t. prove_of may o right.bytes t) text.has text.within plan read in
-    let opened = goes_schema right.bytes tables (λ ts. has_program ts text.bytes (λ p. Proves may ts (size_of o) (budget_of o) p)) right.is.1 plan both in
-    let done = goes_program tables text.bytes text.is.0 (λ p. Proves may tables (size_of o) (budget_of o) p) text.is.1 plan opened in
+    let read = opens files calm schema most_schema (codes "schema") right.bytes (λ s. reads files source most_source (codes "source") (λ t. gather_of o s t)) right.has right.within plan h in
+    let both = opens files calm source most_source (codes "source") text.bytes (λ t. gather_of o right.bytes t) text.has text.within plan read in
+    let opened = goes_schema right.bytes tables (λ ts. has_program ts text.bytes (λ p. GathersStore ts (size_of o) (budget_of o) p)) right.is.1 plan both in
+    let done = goes_program tables text.bytes text.is.0 (λ p. GathersStore tables (size_of o) (budget_of o) p) text.is.1 plan opened in
     ap (λ (x : Plan). x.status) done.written
 
 -- ---- `check`
@@ -254,6 +286,19 @@ narrow_listed files calm schema source plan right h =
     let done = goes_program tables text.bytes text.is.0 (λ p. Narrows tables text.bytes p) text.is.1 plan opened in
     ap (λ (x : Plan). x.status) done.written
 
+-- ---- `unnest`
+
+unnest_listed : (files : Given) → ((name : List ℕ) → files.failed name → ⊥) → (o : Options) (schema source : List ℕ) (plan : Plan) → HasSchema files.told schema (λ tables. HasSource files.told source tables (λ p. Unit {0})) →
+    unnest files o schema source plan → plan.status ≡ statuses.Ok
+unnest_listed files calm o schema source plan right h =
+    let tables : Schema = right.is.0 in
+    let text = right.is.2 in
+    let read = opens files calm schema most_schema (codes "schema") right.bytes (λ s. reads files source most_source (codes "source") (λ t. unnest_of o s t)) right.has right.within plan h in
+    let both = opens files calm source most_source (codes "source") text.bytes (λ t. unnest_of o right.bytes t) text.has text.within plan read in
+    let opened = goes_schema right.bytes tables (λ ts. has_program ts text.bytes (λ p. Unnests ts (size_of o) (budget_of o) text.bytes p)) right.is.1 plan both in
+    let done = goes_program tables text.bytes text.is.0 (λ p. Unnests tables (size_of o) (budget_of o) text.bytes p) text.is.1 plan opened in
+    ap (λ (x : Plan). x.status) done.written
+
 -- ---- `inline`
 
 inline_listed : (files : Given) → ((name : List ℕ) → files.failed name → ⊥) → (schema source : List ℕ) (plan : Plan) → HasSchema files.told schema (λ tables. HasFile files.told source most_source (HasWhole tables)) →
@@ -280,10 +325,10 @@ built_ends files calm may (commands.Sql s d q) plan right h = sql_listed files c
 built_ends files calm may (commands.Prove o s t) plan right h = prove_listed files calm may o s t plan right h
 built_ends files calm may (commands.Check o s t b) plan right h = check_listed files calm s t b plan right.0 right.1 h
 built_ends files calm may (commands.Make n) plan right h = make_listed n plan h
-built_ends files calm may (commands.Unnest o s t) plan right h = ap (λ (x : Plan). x.status) h
+built_ends files calm may (commands.Unnest o s t) plan right h = unnest_listed files calm o s t plan right h
 built_ends files calm may (commands.Narrow o s t) plan right h = narrow_listed files calm s t plan right h
 built_ends files calm may (commands.Inline s t) plan right h = inline_listed files calm s t plan right h
-built_ends files calm may (commands.Gather o s t) plan right h = ap (λ (x : Plan). x.status) h
+built_ends files calm may (commands.Gather o s t) plan right h = gather_listed files calm o s t plan right h
 built_ends files calm may (commands.Schema o d) plan right h = draw_listed files calm o d plan right h
 built_ends files calm may (commands.View m s t) plan right h = ap (λ (x : Plan). x.status) h
 built_ends files calm may (commands.Map es) plan right h = ap (λ (x : Plan). x.status) h

@@ -1,5 +1,5 @@
 -- What is drawn from a dump is what is written, and what it is worth follows from a plan that is due and was delivered.
-use Rattle.std.proofs.Common.{◌≡◌, ℕ, List, Option, refl, sym, ap, ◌∙◌, subst, inl, inr, codes}
+use Rattle.std.proofs.Common.{◌≡◌, ℕ, List, Option, refl, sym, ◌∙◌, subst, inl, inr, codes}
 use Rattle.qbs_base.specs.declared.status.Status.{Status}
 use Rattle.qbs_base.specs.declared.status.Status.TheVariants as statuses
 use Rattle.schema.specs.Grammar.{HasSchema}
@@ -13,7 +13,6 @@ use Rattle.dump_schema.specs.Entries.{declared_in, drawn_from}
 use Rattle.dump_schema.specs.Report.{report_of}
 use Rattle.words.specs.declared.command.Command.TheVariants as commands
 use Rattle.words.specs.declared.command.Options.{Options}
-use Rattle.words.specs.Plain.{HasWords}
 use Rattle.deliveries.specs.declared.plan.Plan.{Plan}
 use Rattle.deliveries.specs.Deliver.{Change}
 use Rattle.deliveries.specs.Limits.{most_dump}

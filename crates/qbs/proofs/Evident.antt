@@ -1,5 +1,5 @@
 -- What bundles are worth follows from a plan that is due and was delivered.
-use Rattle.std.proofs.Common.{◌≡◌, ℕ, inl, inr, List, [], length, Option, Some, None, subst, sym, refl, ap, ◌∙◌, codes}
+use Rattle.std.proofs.Common.{◌≡◌, ℕ, inl, inr, List, [], length, Option, subst, sym, refl, ap, ◌∙◌, codes}
 use Rattle.std.specs.Io.KnownBytes.{Appends}
 use Rattle.qbs_base.specs.declared.status.Status.{Status}
 use Rattle.qbs_base.specs.declared.status.Status.TheVariants as statuses
@@ -22,16 +22,17 @@ use Rattle.deliveries.specs.Deliver.{Change}
 use Rattle.plans.specs.Opening.{IsSchemaOf, IsProgramOf, HasNoProgram}
 use Rattle.deliveries.specs.Plan.{Given}
 use Rattle.deliveries.specs.Steps.{IsRead, IsNotRead}
-use Rattle.qbs.specs.Check.{AreAccepted, accepted_line, tells, check_of, check}
+use Rattle.qbs.specs.Check.{accepted_line, tells, check}
 use Rattle.qbs.specs.Commands.{is_built, command, IsDue}
-use Rattle.qbs.specs.Evidence.{IsProved, IsProof, HasProof, IsAccepted, IsRefused, IsChecked, IsCheck, HasCheck}
+use Rattle.qbs.specs.Evidence.{IsProved, IsProof, HasProof, IsAccepted, IsRefused, IsCheck, HasCheck}
 use Rattle.qbs.specs.Headline.{DropsNone}
 use Rattle.qbs.specs.Pruners.{May}
 use Rattle.qbs.specs.Prove.{prove_of, prove}
 use Rattle.qbs.specs.Rewrite.{size_of, budget_of}
+use Rattle.qbs.specs.Store.{IsStoreRead}
 use Rattle.qbs.specs.Top.{IsDone}
 use Rattle.qbs.proofs.Checked.{all_same}
-use Rattle.qbs.proofs.Promised.{command_is, none_dropped, rewrite_drops_none, unread, no_program, where_ends}
+use Rattle.qbs.proofs.Promised.{command_is, none_dropped_without, rewrite_drops_none, unread, store_unread, no_program, no_bank, where_ends}
 
 -- the plan of words that name a command, where its status is neither want of memory nor of words
 pub due_for : (files : Given) (may : May) (words : List (List ℕ)) (named : Command) (plan : Plan) → HasWords words named → IsDue files may words plan → (plan.status ≡ statuses.NoMemory → ⊥) → command files may named plan
@@ -62,15 +63,18 @@ written files may words out rep result done other =
 record Evidence (files : Given) (may : May) (o : Options) (schema source : List ℕ) (plan : Plan) : Type 0 where
   schema_read : List ℕ
   source_read : List ℕ
+  store_read : Option (List ℕ)
   read_schema : IsRead files schema most_schema schema_read
   read_source : IsRead files source most_source source_read
-  is : IsProved may (size_of o) (budget_of o) schema_read source_read plan.out plan.rep
+  read_store : IsStoreRead files o.store store_read
+  is : IsProved may (size_of o) (budget_of o) schema_read source_read store_read plan.out plan.rep
 
-proved_of : (may : May) (o : Options) (s t : List ℕ) (plan : Plan) → prove_of may o s t plan → plan.status ≡ statuses.Ok → IsProved may (size_of o) (budget_of o) s t plan.out plan.rep
-proved_of may o s t plan (inl h) ok = let e : statuses.Schema ≡ statuses.Ok = subst (λ (p : Plan). p.status ≡ statuses.Ok) h.2 ok in absurd cc
-proved_of may o s t plan (inr (tables, is, inl h)) ok = absurd (no_program tables t plan h ok)
-proved_of may o s t plan (inr (tables, is, inr (p, read, h))) ok =
-    subst (λ (x : Plan). IsProved may (size_of o) (budget_of o) s t x.out x.rep) (sym h.written)
+proved_of : (may : May) (o : Options) (s t : List ℕ) (b : Option (List ℕ)) (plan : Plan) → prove_of may o s t b plan → plan.status ≡ statuses.Ok → IsProved may (size_of o) (budget_of o) s t b plan.out plan.rep
+proved_of may o s t b plan (inl h) ok = let e : statuses.Schema ≡ statuses.Ok = subst (λ (p : Plan). p.status ≡ statuses.Ok) h.2 ok in absurd cc
+proved_of may o s t b plan (inr (tables, is, inl h)) ok = absurd (no_program tables t plan h ok)
+proved_of may o s t b plan (inr (tables, is, inr (p, read, inl h))) ok = absurd (no_bank tables b plan h ok)
+proved_of may o s t b plan (inr (tables, is, inr (p, read, inr (bank, held, h)))) ok =
+    subst (λ (x : Plan). IsProved may (size_of o) (budget_of o) s t b x.out x.rep) (sym h.written)
     (record {
       tables = tables;
       program = p;
@@ -79,6 +83,8 @@ proved_of may o s t plan (inr (tables, is, inr (p, read, h))) ok =
       bundle = h.member;
       accepted = record { all = h.accepted; well = h.rewriting.well; keeps = h.rewriting.keeps };
       pruned = h.pruned;
+      bank = bank;
+      is_bank = held;
       counted = h.counted;
       report = refl;
       standing = h.rewriting.standing;
@@ -87,8 +93,9 @@ proved_of may o s t plan (inr (tables, is, inr (p, read, h))) ok =
 evidence : (files : Given) (may : May) (o : Options) (schema source : List ℕ) (plan : Plan) → prove files may o schema source plan → plan.status ≡ statuses.Ok → Evidence files may o schema source plan
 evidence files may o schema source plan (inl h) ok = absurd (unread files schema most_schema (codes "schema") plan h ok)
 evidence files may o schema source plan (inr (s, read, inl h)) ok = absurd (unread files source most_source (codes "source") plan h ok)
-evidence files may o schema source plan (inr (s, read, inr (t, has, h))) ok =
-    record { schema_read = s; source_read = t; read_schema = read; read_source = has; is = proved_of may o s t plan h ok }
+evidence files may o schema source plan (inr (s, read, inr (t, has, inl h))) ok = absurd (store_unread files o.store plan h ok)
+evidence files may o schema source plan (inr (s, read, inr (t, has, inr (b, there, h)))) ok =
+    record { schema_read = s; source_read = t; store_read = b; read_schema = read; read_source = has; read_store = there; is = proved_of may o s t b plan h ok }
 
 pub proved : (files : Given) (may : May) (words : List (List ℕ)) (out rep : Change) (result : Status) → IsDone files may words out rep result → HasProof files may words out rep result
 proved files may words out rep result done o schema source has ok =
@@ -101,10 +108,12 @@ proved files may words out rep result done o schema source has ok =
     record {
       schema_read = h.schema_read;
       source_read = h.source_read;
+      store_read = h.store_read;
       text = w.plan.out;
       lines = w.plan.rep;
       read_schema = h.read_schema;
       read_source = h.read_source;
+      read_store = h.read_store;
       is = h.is;
       wrote_text = w.wrote_text;
       wrote_lines = w.wrote_lines;
@@ -113,10 +122,10 @@ proved files may words out rep result done o schema source has ok =
 -- ---- without pruners
 
 pub drops_none : (files : Given) (may : May) (words : List (List ℕ)) (out rep : Change) (result : Status) → IsDone files may words out rep result → ((f : Fragment) (c : List ℕ) → may.drops f c → ⊥) → DropsNone words rep result
-drops_none files may words out rep result done never o schema source (inl has) ok = rewrite_drops_none files may words out rep result done never o schema source has ok
-drops_none files may words out rep result done never o schema source (inr has) ok =
+drops_none files may words out rep result done never o schema source (inl has) e ok = rewrite_drops_none files may words out rep result done never o schema source has e ok
+drops_none files may words out rep result done never o schema source (inr has) e ok =
     let h : IsProof files may o schema source out rep = proved files may words out rep result done o schema source has ok in
-    none_dropped may (size_of o) (all_tried h.is.tables (size_of o) (budget_of o) h.is.program) h.is.pruned h.lines rep never h.is.counted h.is.report h.wrote_lines
+    none_dropped_without files may o.store h.store_read h.is.tables h.is.bank (size_of o) (all_tried h.is.tables (size_of o) (budget_of o) h.is.program) h.is.pruned h.lines rep e h.read_store h.is.is_bank never h.is.counted h.is.report h.wrote_lines
 
 -- ---- `check`
 

@@ -16,10 +16,11 @@ use Rattle.sample.specs.Class.{sample_program}
 use Rattle.sample_data.specs.Tables.{sample_schema, sample_rows}
 use Rattle.sql_ast.specs.Meaning as meaning
 use Rattle.sql_ast.specs.Meaning.{Answered, query_answer}
+use Rattle.small_dbs.specs.declared.small.SmallDb.{SmallDb}
 use Rattle.words.specs.declared.command.Command.{Command}
 use Rattle.words.specs.declared.command.Command.TheVariants as commands
 use Rattle.words.specs.declared.command.Options.{Options}
-use Rattle.deliveries.specs.Limits.{most_schema, most_source, most_bundle, most_dump}
+use Rattle.deliveries.specs.Limits.{most_schema, most_source, most_bundle, most_dump, most_store}
 use Rattle.deliveries.specs.declared.plan.Plan.{Plan}
 use Rattle.plans.specs.Calls.{Call}
 use Rattle.plans.specs.Opening.{IsSchemaOf, HasNoProgram}
@@ -34,11 +35,15 @@ use Rattle.qbs.specs.Draw.{draw}
 use Rattle.qbs.specs.Inline.{HasNoProgramWithCalls, inline_of, inline}
 use Rattle.qbs.specs.Narrow.{narrow_of, narrow}
 use Rattle.qbs.specs.Make.{loops_text, method_text, IsNotDone, outcome_over, runs, make}
-use Rattle.qbs.specs.Pruners.{May}
-use Rattle.qbs.specs.Prove.{prove_of, prove}
-use Rattle.qbs.specs.Rewrite.{rewrite_of, rewrite}
+use Rattle.qbs.specs.Gather.{gather_of, gather}
+use Rattle.qbs.specs.Opened.{reads_all, has_all}
+use Rattle.qbs.specs.Pruners.{May, with_bank}
+use Rattle.qbs.specs.Prove.{Proves, prove_of, prove}
+use Rattle.qbs.specs.Rewrite.{size_of, budget_of, Rewrites, rewrite_of, rewrite}
 use Rattle.qbs.specs.Run.{comes_to, call_of, run_of, run}
 use Rattle.qbs.specs.Sql.{answer_plan, sql_of, sql}
+use Rattle.qbs.specs.Store.{IsStoreName, IsStoreUnread, HasNoBank}
+use Rattle.qbs.specs.Unnest.{unnest_of, unnest}
 
 -- a plan of a command that words name, which reads files of these names
 pub record IsFair (files : Given) (Names : List ℕ → Type 0) (plan : Plan) : Type 0 where
@@ -75,29 +80,51 @@ module _ (files : Given) (Names : List ℕ → Type 0) where
   no_program_fair tables bytes plan (inr (inl h)) = fair_as plan _ h.2 (refusal_fair statuses.Source _ (λ e. cc) (λ e. cc) (λ e. cc))
   no_program_fair tables bytes plan (inr (inr h)) = fair_as plan _ h.2 (refusal_fair statuses.Types _ (λ e. cc) (λ e. cc) (λ e. cc))
 
-  -- ---- `rewrite`
+  -- ---- `rewrite` and `prove`
 
-  rewrite_of_fair : (may : May) (o : Options) (s t : List ℕ) (plan : Plan) → rewrite_of may o s t plan → IsFair files Names plan
-  rewrite_of_fair may o s t plan (inl h) = fair_as plan _ h.2 (refusal_fair statuses.Schema _ (λ e. cc) (λ e. cc) (λ e. cc))
-  rewrite_of_fair may o s t plan (inr (tables, is, inl h)) = no_program_fair tables t plan h
-  rewrite_of_fair may o s t plan (inr (tables, is, inr (p, read, h))) = done_fair plan (ap (λ (x : Plan). x.status) h.written)
+  no_bank_fair : (tables : Schema) (store : Option (List ℕ)) (plan : Plan) → HasNoBank tables store plan → IsFair files Names plan
+  no_bank_fair tables None plan h = absurd h
+  no_bank_fair tables (Some bytes) plan h = fair_as plan _ h.2 (refusal_fair statuses.Store _ (λ e. cc) (λ e. cc) (λ e. cc))
 
-  rewrite_fair : (may : May) (o : Options) (schema source : List ℕ) → Names schema → Names source → (plan : Plan) → rewrite files may o schema source plan → IsFair files Names plan
-  rewrite_fair may o schema source first second plan (inl h) = not_read_fair schema most_schema (codes "schema") plan first h
-  rewrite_fair may o schema source first second plan (inr (s, read, inl h)) = not_read_fair source most_source (codes "source") plan second h
-  rewrite_fair may o schema source first second plan (inr (s, read, inr (t, has, h))) = rewrite_of_fair may o s t plan h
+  no_store_fair : (store : Option (List ℕ)) (plan : Plan) → ((name : List ℕ) → IsStoreName store name → Names name) → IsStoreUnread files store plan → IsFair files Names plan
+  no_store_fair None plan named h = absurd h
+  no_store_fair (Some name) plan named h = not_read_fair name most_store (codes "store") plan (named name refl) h
 
-  -- ---- `prove`
+  has_all_fair : (s t : List ℕ) (b : Option (List ℕ)) (next : Schema → PlainProgram → Option (List SmallDb) → Ends) → ((tables : Schema) (p : PlainProgram) (bank : Option (List SmallDb)) (plan : Plan) → next tables p bank plan → plan.status ≡ statuses.Ok) →
+      (plan : Plan) → has_all s t b next plan → IsFair files Names plan
+  has_all_fair s t b next well plan (inl h) = fair_as plan _ h.2 (refusal_fair statuses.Schema _ (λ e. cc) (λ e. cc) (λ e. cc))
+  has_all_fair s t b next well plan (inr (tables, is, inl h)) = no_program_fair tables t plan h
+  has_all_fair s t b next well plan (inr (tables, is, inr (p, read, inl h))) = no_bank_fair tables b plan h
+  has_all_fair s t b next well plan (inr (tables, is, inr (p, read, inr (bank, held, h)))) = done_fair plan (well tables p bank plan h)
 
-  prove_of_fair : (may : May) (o : Options) (s t : List ℕ) (plan : Plan) → prove_of may o s t plan → IsFair files Names plan
-  prove_of_fair may o s t plan (inl h) = fair_as plan _ h.2 (refusal_fair statuses.Schema _ (λ e. cc) (λ e. cc) (λ e. cc))
-  prove_of_fair may o s t plan (inr (tables, is, inl h)) = no_program_fair tables t plan h
-  prove_of_fair may o s t plan (inr (tables, is, inr (p, read, h))) = done_fair plan (ap (λ (x : Plan). x.status) h.written)
+  reads_all_fair : (schema source : List ℕ) (store : Option (List ℕ)) (next : List ℕ → List ℕ → Option (List ℕ) → Ends) → Names schema → Names source → ((name : List ℕ) → IsStoreName store name → Names name) →
+      ((s t : List ℕ) (b : Option (List ℕ)) (plan : Plan) → next s t b plan → IsFair files Names plan) → (plan : Plan) → reads_all files schema source store next plan → IsFair files Names plan
+  reads_all_fair schema source store next first second third fair plan (inl h) = not_read_fair schema most_schema (codes "schema") plan first h
+  reads_all_fair schema source store next first second third fair plan (inr (s, read, inl h)) = not_read_fair source most_source (codes "source") plan second h
+  reads_all_fair schema source store next first second third fair plan (inr (s, read, inr (t, has, inl h))) = no_store_fair store plan third h
+  reads_all_fair schema source store next first second third fair plan (inr (s, read, inr (t, has, inr (b, there, h)))) = fair s t b plan h
 
-  prove_fair : (may : May) (o : Options) (schema source : List ℕ) → Names schema → Names source → (plan : Plan) → prove files may o schema source plan → IsFair files Names plan
-  prove_fair may o schema source first second plan (inl h) = not_read_fair schema most_schema (codes "schema") plan first h
-  prove_fair may o schema source first second plan (inr (s, read, inl h)) = not_read_fair source most_source (codes "source") plan second h
-  prove_fair may o schema source first second plan (inr (s, read, inr (t, has, h))) = prove_of_fair may o s t plan h
+  rewrite_fair : (may : May) (o : Options) (schema source : List ℕ) → Names schema → Names source → ((name : List ℕ) → IsStoreName o.store name → Names name) → (plan : Plan) → rewrite files may o schema source plan → IsFair files Names plan
+  rewrite_fair may o schema source first second third plan h =
+      reads_all_fair schema source o.store (λ s t b. rewrite_of may o s t b) first second third
+      (λ s t b x due. has_all_fair s t b (λ tables p bank. Rewrites (with_bank may bank) tables (size_of o) (budget_of o) t p) (λ tables p bank y d. ap (λ (z : Plan). z.status) d.written) x due) plan h
+
+  prove_fair : (may : May) (o : Options) (schema source : List ℕ) → Names schema → Names source → ((name : List ℕ) → IsStoreName o.store name → Names name) → (plan : Plan) → prove files may o schema source plan → IsFair files Names plan
+  prove_fair may o schema source first second third plan h =
+      reads_all_fair schema source o.store (λ s t b. prove_of may o s t b) first second third
+      (λ s t b x due. has_all_fair s t b (λ tables p bank. Proves (with_bank may bank) tables (size_of o) (budget_of o) p) (λ tables p bank y d. ap (λ (z : Plan). z.status) d.written) x due) plan h
+
+  -- ---- `gather`
+
+  gather_of_fair : (o : Options) (s t : List ℕ) (plan : Plan) → gather_of o s t plan → IsFair files Names plan
+  gather_of_fair o s t plan (inl h) = fair_as plan _ h.2 (refusal_fair statuses.Schema _ (λ e. cc) (λ e. cc) (λ e. cc))
+  gather_of_fair o s t plan (inr (tables, is, inl h)) = no_program_fair tables t plan h
+  gather_of_fair o s t plan (inr (tables, is, inr (p, read, h))) = done_fair plan (ap (λ (x : Plan). x.status) h.written)
+
+  gather_fair : (o : Options) (schema source : List ℕ) → Names schema → Names source → (plan : Plan) → gather files o schema source plan → IsFair files Names plan
+  gather_fair o schema source first second plan (inl h) = not_read_fair schema most_schema (codes "schema") plan first h
+  gather_fair o schema source first second plan (inr (s, read, inl h)) = not_read_fair source most_source (codes "source") plan second h
+  gather_fair o schema source first second plan (inr (s, read, inr (t, has, h))) = gather_of_fair o s t plan h
 
   -- ---- `check`
 
@@ -222,6 +249,18 @@ module _ (files : Given) (Names : List ℕ → Type 0) where
   narrow_fair schema source first second plan (inr (s, read, inl h)) = not_read_fair source most_source (codes "source") plan second h
   narrow_fair schema source first second plan (inr (s, read, inr (t, has, h))) = narrow_of_fair s t plan h
 
+  -- ---- `unnest`
+
+  unnest_of_fair : (o : Options) (s t : List ℕ) (plan : Plan) → unnest_of o s t plan → IsFair files Names plan
+  unnest_of_fair o s t plan (inl h) = fair_as plan _ h.2 (refusal_fair statuses.Schema _ (λ e. cc) (λ e. cc) (λ e. cc))
+  unnest_of_fair o s t plan (inr (tables, is, inl h)) = no_program_fair tables t plan h
+  unnest_of_fair o s t plan (inr (tables, is, inr (p, read, h))) = done_fair plan (ap (λ (x : Plan). x.status) h.written)
+
+  unnest_fair : (o : Options) (schema source : List ℕ) → Names schema → Names source → (plan : Plan) → unnest files o schema source plan → IsFair files Names plan
+  unnest_fair o schema source first second plan (inl h) = not_read_fair schema most_schema (codes "schema") plan first h
+  unnest_fair o schema source first second plan (inr (s, read, inl h)) = not_read_fair source most_source (codes "source") plan second h
+  unnest_fair o schema source first second plan (inr (s, read, inr (t, has, h))) = unnest_of_fair o s t plan h
+
   -- ---- the whole
 
   unbuilt_fair : (plan : Plan) → plan ≡ not_yet → IsFair files Names plan
@@ -237,8 +276,8 @@ tables_of files schema folder bytes tables read is name file = record { bytes = 
 
 module _ (files : Given) (may : May) where
   built_fair : (c : Command) (plan : Plan) → built files may c plan → IsFair files (MayRead files.told c) plan
-  built_fair (commands.Rewrite o s t) plan h = rewrite_fair files (MayRead files.told (commands.Rewrite o s t)) may o s t (inl refl) (inr refl) plan h
-  built_fair (commands.Prove o s t) plan h = prove_fair files (MayRead files.told (commands.Prove o s t)) may o s t (inl refl) (inr refl) plan h
+  built_fair (commands.Rewrite o s t) plan h = rewrite_fair files (MayRead files.told (commands.Rewrite o s t)) may o s t (inl refl) (inr (inl refl)) (λ name is. inr (inr is)) plan h
+  built_fair (commands.Prove o s t) plan h = prove_fair files (MayRead files.told (commands.Prove o s t)) may o s t (inl refl) (inr (inl refl)) (λ name is. inr (inr is)) plan h
   built_fair (commands.Check o s t b) plan h = check_fair files (MayRead files.told (commands.Check o s t b)) s t b (inl refl) (inr (inl refl)) (inr (inr refl)) plan h
   built_fair (commands.Run o s t d method words) plan h =
       run_fair files (MayRead files.told (commands.Run o s t d method words)) o s t d (record { method = method; words = words }) (inl refl) (inr (inl refl))
@@ -246,10 +285,10 @@ module _ (files : Given) (may : May) where
   built_fair (commands.Sql s d q) plan h =
       sql_fair files (MayRead files.told (commands.Sql s d q)) s d q (inl refl) (λ bytes tables read is name file. inr (tables_of files s d bytes tables read is name file)) plan h
   built_fair (commands.Make n) plan h = make_fair files (MayRead files.told (commands.Make n)) n plan h
-  built_fair (commands.Unnest o s t) plan h = unbuilt_fair files (MayRead files.told (commands.Unnest o s t)) plan h
+  built_fair (commands.Unnest o s t) plan h = unnest_fair files (MayRead files.told (commands.Unnest o s t)) o s t (inl refl) (inr refl) plan h
   built_fair (commands.Narrow o s t) plan h = narrow_fair files (MayRead files.told (commands.Narrow o s t)) s t (inl refl) (inr refl) plan h
   built_fair (commands.Inline s t) plan h = inline_fair files (MayRead files.told (commands.Inline s t)) s t (inl refl) (inr refl) plan h
-  built_fair (commands.Gather o s t) plan h = unbuilt_fair files (MayRead files.told (commands.Gather o s t)) plan h
+  built_fair (commands.Gather o s t) plan h = gather_fair files (MayRead files.told (commands.Gather o s t)) o s t (inl refl) (inr refl) plan h
   built_fair (commands.Schema o d) plan h = draw_fair files (MayRead files.told (commands.Schema o d)) o d refl plan h
   built_fair (commands.View m s t) plan h = unbuilt_fair files (MayRead files.told (commands.View m s t)) plan h
   built_fair (commands.Map es) plan h = unbuilt_fair files (MayRead files.told (commands.Map es)) plan h

@@ -1,5 +1,5 @@
 -- Two plans that are due for the same words are one but for the number of dropped candidates.
-use Rattle.std.proofs.Common.{◌≡◌, ℕ, inl, inr, Bool, true, false, List, [], ◌∷◌, ◌++◌, Option, Some, None, sym, refl, ap, ◌∙◌, codes}
+use Rattle.std.proofs.Common.{◌≡◌, ℕ, inl, inr, Bool, true, false, List, [], ◌∷◌, ◌++◌, Option, Some, sym, refl, ap, ◌∙◌, codes}
 use Rattle.std.specs.Prelude.{IsSome}
 use Rattle.std.specs.List.{flat_map}
 use Rattle.qbs_base.specs.declared.scalar.Value.{Value}
@@ -11,12 +11,12 @@ use Rattle.java_types.specs.Texts.{read_by}
 use Rattle.deriv_check.specs.Bundles.{Entry}
 use Rattle.deriv_check.specs.Grammar.{HasBundle}
 use Rattle.rewrite_core.specs.Checking.{Checks, All, Refused, checked_from}
-use Rattle.rewrite_core.specs.Patches.{patched_text}
 use Rattle.rewrite_core.specs.Rewriting.{verdicts_of}
 use Rattle.rewrite_core.specs.Trying.{all_tried, rewritten}
 use Rattle.sample.specs.Class.{sample_program}
 use Rattle.sample_data.specs.Tables.{sample_schema, sample_rows}
 use Rattle.sql_ast.specs.Meaning.{query_answer}
+use Rattle.small_dbs.specs.declared.small.SmallDb.{SmallDb}
 use Rattle.words.specs.declared.command.Command.{Command}
 use Rattle.words.specs.declared.command.Command.TheVariants as commands
 use Rattle.words.specs.declared.command.Options.{Options}
@@ -36,23 +36,29 @@ use Rattle.qbs.specs.Draw.{Draws, draw}
 use Rattle.qbs.specs.Commands.{is_built, built, where_built, command, AreRefused}
 use Rattle.verdicts.specs.Reports.{verdict_line}
 use Rattle.qbs.specs.Make.{loops_text, method_text, summary, IsResult, IsNotDone, outcome_over, runs, make}
-use Rattle.qbs.specs.Pruners.{May}
+use Rattle.qbs.specs.Opened.{reads_all, has_all}
+use Rattle.qbs.specs.Pruners.{May, with_bank}
 use Rattle.qbs.specs.Prove.{Proves, prove_of, prove}
 use Rattle.qbs.specs.Rewrite.{size_of, budget_of, Rewrites, rewrite_of, rewrite}
 use Rattle.qbs.specs.Run.{IsChosen, chooses, comes_to, comes, call_of, run_of, run, turns_of}
 use Rattle.qbs.specs.Sql.{IsAsked, AsksNothing, answer_plan, answers, sql_of, sql}
-use Rattle.qbs.specs.Top.{MayRead, Alike, HasOnePlan}
+use Rattle.qbs.specs.Store.{IsStoreName, IsStoreRead, IsStoreUnread, reads_store, IsBankOf, HasNoBank, has_store}
+use Rattle.qbs.specs.Top.{MayRead, AreAlike, Alike, HasOnePlan}
 use Rattle.qbs.proofs.OneStep.{IsOne, HasOne, step_one, ends_one}
+use Rattle.qbs.proofs.Gathering.{gather_one}
 use Rattle.qbs.proofs.OneRead.{read_one, tables_one}
+use Rattle.qbs.proofs.OneStore.{store_read_one, bank_one}
 use Rattle.qbs.proofs.Inlining.{inline_one}
 use Rattle.qbs.proofs.Narrowing.{narrow_one}
+use Rattle.qbs.proofs.Unnesting.{unnest_one}
 use Rattle.qbs.proofs.OneFound.{schema_one, program_one, bundle_one, rows_one, call_one, query_one}
 
 -- ---- `rewrite`
 
-rewrites_alike : (may : May) (tables : Schema) (size budget : ℕ) (source : List ℕ) (t : PlainProgram) (p q : Plan) → Rewrites may tables size budget source t p → Rewrites may tables size budget source t q → Alike p q
-rewrites_alike may tables size budget source t p q a b =
-    inr (record {
+-- of any two groups of pruners
+pub rewrites_alike : (first second : May) (tables : Schema) (size budget : ℕ) (source : List ℕ) (t : PlainProgram) (p q : Plan) → Rewrites first tables size budget source t p → Rewrites second tables size budget source t q → AreAlike p q
+rewrites_alike first second tables size budget source t p q a b =
+    record {
       lines = flat_map verdict_line (verdicts_of (all_tried tables size budget t));
       first = a.pruned;
       second = b.pruned;
@@ -60,25 +66,41 @@ rewrites_alike may tables size budget source t p q a b =
       out = ap (λ (x : Plan). x.out) a.written ∙ (a.output ∙ sym b.output) ∙ sym (ap (λ (x : Plan). x.out) b.written);
       first_lines = ap (λ (x : Plan). x.rep) a.written;
       second_lines = ap (λ (x : Plan). x.rep) b.written;
-    })
+    }
 
-rewrite_of_one : (may : May) (o : Options) (s t : List ℕ) → HasOne (rewrite_of may o s t)
-rewrite_of_one may o s t =
-    step_one (IsSchemaOf s) (refused (BreaksSchema s) schema_refusal) (λ tables. has_program tables t (λ p. Rewrites may tables (size_of o) (budget_of o) t p)) (schema_one s)
-    (λ tables is. step_one (IsProgramOf tables t) (HasNoProgram tables t) (λ p. Rewrites may tables (size_of o) (budget_of o) t p) (program_one tables t)
-    (λ p read. record { alike = rewrites_alike may tables (size_of o) (budget_of o) t p }))
+-- what the files hold is one
+has_all_one : (s t : List ℕ) (b : Option (List ℕ)) (next : Schema → PlainProgram → Option (List SmallDb) → Ends) → ((tables : Schema) (p : PlainProgram) (bank : Option (List SmallDb)) → HasOne (next tables p bank)) → HasOne (has_all s t b next)
+has_all_one s t b next further =
+    step_one (IsSchemaOf s) (refused (BreaksSchema s) schema_refusal) (λ tables. has_program tables t (λ p. has_store tables b (λ bank. next tables p bank))) (schema_one s)
+    (λ tables is. step_one (IsProgramOf tables t) (HasNoProgram tables t) (λ p. has_store tables b (λ bank. next tables p bank)) (program_one tables t)
+    (λ p read. step_one (IsBankOf tables b) (HasNoBank tables b) (λ bank. next tables p bank) (bank_one tables b)
+    (λ bank held. further tables p bank)))
 
-rewrite_one : (files : Given) (may : May) (o : Options) (schema source : List ℕ) → IsSome (files.told schema) → IsSome (files.told source) → ((name : List ℕ) → files.failed name → ⊥) → HasOne (rewrite files may o schema source)
-rewrite_one files may o schema source has_schema has_source calm =
-    step_one (IsRead files schema most_schema) (IsNotRead files schema most_schema (codes "schema")) (λ s. reads files source most_source (codes "source") (λ t. rewrite_of may o s t)) (read_one files schema most_schema (codes "schema") has_schema calm)
-    (λ s is. step_one (IsRead files source most_source) (IsNotRead files source most_source (codes "source")) (λ t. rewrite_of may o s t) (read_one files source most_source (codes "source") has_source calm)
-    (λ t has. rewrite_of_one may o s t))
+-- they are read in one way
+reads_all_one : (files : Given) (schema source : List ℕ) (store : Option (List ℕ)) (next : List ℕ → List ℕ → Option (List ℕ) → Ends) →
+    IsSome (files.told schema) → IsSome (files.told source) → ((name : List ℕ) → IsStoreName store name → IsSome (files.told name)) → ((name : List ℕ) → files.failed name → ⊥) →
+    ((s t : List ℕ) (b : Option (List ℕ)) → HasOne (next s t b)) → HasOne (reads_all files schema source store next)
+reads_all_one files schema source store next has_schema has_source has_names calm further =
+    step_one (IsRead files schema most_schema) (IsNotRead files schema most_schema (codes "schema")) (λ s. reads files source most_source (codes "source") (λ t. reads_store files store (λ b. next s t b))) (read_one files schema most_schema (codes "schema") has_schema calm)
+    (λ s is. step_one (IsRead files source most_source) (IsNotRead files source most_source (codes "source")) (λ t. reads_store files store (λ b. next s t b)) (read_one files source most_source (codes "source") has_source calm)
+    (λ t has. step_one (IsStoreRead files store) (IsStoreUnread files store) (λ b. next s t b) (store_read_one files store has_names calm)
+    (λ b there. further s t b)))
+
+rewrite_of_one : (may : May) (o : Options) (s t : List ℕ) (b : Option (List ℕ)) → HasOne (rewrite_of may o s t b)
+rewrite_of_one may o s t b =
+    has_all_one s t b (λ tables p bank. Rewrites (with_bank may bank) tables (size_of o) (budget_of o) t p)
+    (λ tables p bank. record { alike = λ x y a c. inr (rewrites_alike (with_bank may bank) (with_bank may bank) tables (size_of o) (budget_of o) t p x y a c) })
+
+rewrite_one : (files : Given) (may : May) (o : Options) (schema source : List ℕ) → IsSome (files.told schema) → IsSome (files.told source) → ((name : List ℕ) → IsStoreName o.store name → IsSome (files.told name)) → ((name : List ℕ) → files.failed name → ⊥) →
+    HasOne (rewrite files may o schema source)
+rewrite_one files may o schema source has_schema has_source has_names calm =
+    reads_all_one files schema source o.store (λ s t b. rewrite_of may o s t b) has_schema has_source has_names calm (λ s t b. rewrite_of_one may o s t b)
 
 -- ---- `prove`
 
-proves_alike : (may : May) (tables : Schema) (size budget : ℕ) (t : PlainProgram) (p q : Plan) → Proves may tables size budget t p → Proves may tables size budget t q → Alike p q
-proves_alike may tables size budget t p q a b =
-    inr (record {
+pub proves_alike : (first second : May) (tables : Schema) (size budget : ℕ) (t : PlainProgram) (p q : Plan) → Proves first tables size budget t p → Proves second tables size budget t q → AreAlike p q
+proves_alike first second tables size budget t p q a b =
+    record {
       lines = flat_map verdict_line (verdicts_of (all_tried tables size budget t));
       first = a.pruned;
       second = b.pruned;
@@ -86,19 +108,17 @@ proves_alike may tables size budget t p q a b =
       out = ap (λ (x : Plan). x.out) a.written ∙ sym (ap (λ (x : Plan). x.out) b.written);
       first_lines = ap (λ (x : Plan). x.rep) a.written;
       second_lines = ap (λ (x : Plan). x.rep) b.written;
-    })
+    }
 
-prove_of_one : (may : May) (o : Options) (s t : List ℕ) → HasOne (prove_of may o s t)
-prove_of_one may o s t =
-    step_one (IsSchemaOf s) (refused (BreaksSchema s) schema_refusal) (λ tables. has_program tables t (λ p. Proves may tables (size_of o) (budget_of o) p)) (schema_one s)
-    (λ tables is. step_one (IsProgramOf tables t) (HasNoProgram tables t) (λ p. Proves may tables (size_of o) (budget_of o) p) (program_one tables t)
-    (λ p read. record { alike = proves_alike may tables (size_of o) (budget_of o) p }))
+prove_of_one : (may : May) (o : Options) (s t : List ℕ) (b : Option (List ℕ)) → HasOne (prove_of may o s t b)
+prove_of_one may o s t b =
+    has_all_one s t b (λ tables p bank. Proves (with_bank may bank) tables (size_of o) (budget_of o) p)
+    (λ tables p bank. record { alike = λ x y a c. inr (proves_alike (with_bank may bank) (with_bank may bank) tables (size_of o) (budget_of o) p x y a c) })
 
-prove_one : (files : Given) (may : May) (o : Options) (schema source : List ℕ) → IsSome (files.told schema) → IsSome (files.told source) → ((name : List ℕ) → files.failed name → ⊥) → HasOne (prove files may o schema source)
-prove_one files may o schema source has_schema has_source calm =
-    step_one (IsRead files schema most_schema) (IsNotRead files schema most_schema (codes "schema")) (λ s. reads files source most_source (codes "source") (λ t. prove_of may o s t)) (read_one files schema most_schema (codes "schema") has_schema calm)
-    (λ s is. step_one (IsRead files source most_source) (IsNotRead files source most_source (codes "source")) (λ t. prove_of may o s t) (read_one files source most_source (codes "source") has_source calm)
-    (λ t has. prove_of_one may o s t))
+prove_one : (files : Given) (may : May) (o : Options) (schema source : List ℕ) → IsSome (files.told schema) → IsSome (files.told source) → ((name : List ℕ) → IsStoreName o.store name → IsSome (files.told name)) → ((name : List ℕ) → files.failed name → ⊥) →
+    HasOne (prove files may o schema source)
+prove_one files may o schema source has_schema has_source has_names calm =
+    reads_all_one files schema source o.store (λ s t b. prove_of may o s t b) has_schema has_source has_names calm (λ s t b. prove_of_one may o s t b)
 
 -- ---- `check`
 
@@ -230,20 +250,20 @@ unbuilt_one : HasOne (ends not_yet)
 unbuilt_one = record { alike = λ p q a b. inl (a ∙ sym b) }
 
 command_one : (files : Given) (may : May) (c : Command) → ((name : List ℕ) → MayRead files.told c name → IsSome (files.told name)) → ((name : List ℕ) → files.failed name → ⊥) → HasOne (built files may c)
-command_one files may (commands.Rewrite o schema source) told calm = record { alike = (rewrite_one files may o schema source (told schema (inl refl)) (told source (inr refl)) calm).alike }
+command_one files may (commands.Rewrite o schema source) told calm = record { alike = (rewrite_one files may o schema source (told schema (inl refl)) (told source (inr (inl refl))) (λ name is. told name (inr (inr is))) calm).alike }
 command_one files may (commands.Run o schema source folder method words) told calm =
     record {
       alike = (run_one files o schema source folder (record { method = method; words = words }) (told schema (inl refl)) (told source (inr (inl refl))) (λ name file. told name (inr (inr file))) calm).alike;
     }
 command_one files may (commands.Sql schema folder query) told calm = record { alike = (sql_one files schema folder query (told schema (inl refl)) (λ name file. told name (inr file)) calm).alike }
-command_one files may (commands.Prove o schema source) told calm = record { alike = (prove_one files may o schema source (told schema (inl refl)) (told source (inr refl)) calm).alike }
+command_one files may (commands.Prove o schema source) told calm = record { alike = (prove_one files may o schema source (told schema (inl refl)) (told source (inr (inl refl))) (λ name is. told name (inr (inr is))) calm).alike }
 command_one files may (commands.Check o schema source bundle) told calm =
     record { alike = (check_one files schema source bundle (told schema (inl refl)) (told source (inr (inl refl))) (told bundle (inr (inr refl))) calm).alike }
 command_one files may (commands.Make n) told calm = record { alike = (make_one n).alike }
-command_one files may (commands.Unnest o s t) told calm = record { alike = unbuilt_one.alike }
+command_one files may (commands.Unnest o s t) told calm = record { alike = (unnest_one files o s t (told s (inl refl)) (told t (inr refl)) calm).alike }
 command_one files may (commands.Narrow o s t) told calm = record { alike = (narrow_one files s t (told s (inl refl)) (told t (inr refl)) calm).alike }
 command_one files may (commands.Inline s t) told calm = record { alike = (inline_one files s t (told s (inl refl)) (told t (inr refl)) calm).alike }
-command_one files may (commands.Gather o s t) told calm = record { alike = unbuilt_one.alike }
+command_one files may (commands.Gather o s t) told calm = record { alike = (gather_one files o s t (told s (inl refl)) (told t (inr refl)) calm).alike }
 command_one files may (commands.Schema o d) told calm = record { alike = (draw_one files o d (told d refl) calm).alike }
 command_one files may (commands.View m s t) told calm = record { alike = unbuilt_one.alike }
 command_one files may (commands.Map es) told calm = record { alike = unbuilt_one.alike }

@@ -24,6 +24,11 @@ step_alike Is Stops next one further p q (inr x) (inr y) =
 pub step_one : {B : Type 0} (Is : B → Type 0) (Stops : Ends) (next : B → Ends) → IsOne {B = B} Is Stops → ((b : B) → Is b → HasOne (next b)) → HasOne (step {B = B} Is Stops next)
 step_one Is Stops next one further = record { alike = step_alike Is Stops next one further }
 
+-- where what a step asks for is so, the command goes on with it
+pub goes : {B : Type 0} (Is : B → Type 0) (Stops : Ends) (next : B → Ends) → IsOne {B = B} Is Stops → (b : B) → Is b → (plan : Plan) → step {B = B} Is Stops next plan → next b plan
+goes Is Stops next one b is plan (inl h) = absurd (one.apart b plan is h)
+goes Is Stops next one b is plan (inr h) = subst (λ x. next x plan) (one.same h.0 b h.1 is) h.2
+
 pub ends_one : (due : Plan) → HasOne (ends due)
 ends_one due = record { alike = λ p q a b. inl (a ∙ sym b) }
 

@@ -1,5 +1,5 @@
 -- The files that a command reads, in their order.
-use Rattle.std.proofs.Common.{◌≡◌, ◌≤◌, ◌⊎◌, ℕ, List, [], ◌∷◌, ◌++◌, Option, IfSome, Ok, refl, sym, subst, inl, inr}
+use Rattle.std.proofs.Common.{◌≡◌, ◌≤◌, ◌⊎◌, ℕ, List, [], ◌∷◌, ◌++◌, Option, IfSome, Ok, refl, subst, inl, inr}
 use Rattle.qbs_base.specs.declared.columns.Table.{Table}
 use Rattle.schema.specs.Schemas.{schema_of}
 use Rattle.deliveries.specs.Reads.{Looks, OnlyReads}

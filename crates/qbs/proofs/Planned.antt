@@ -2,7 +2,6 @@
 use Rattle.std.proofs.Common.{◌≡◌, ℕ, List, [], ◌++◌, Option, Result, Ok, Err, sym, ap, ◌∙◌, subst, inl, inr, codes}
 use Rattle.qbs_base.specs.Values.{Schema}
 use Rattle.qbs_base.specs.declared.columns.Table.{Table}
-use Rattle.words.specs.declared.command.Options.{Options}
 use Rattle.deliveries.specs.Limits.{most_schema, most_source, most_tables}
 use Rattle.deliveries.specs.declared.plan.Plan.{Plan}
 use Rattle.deliveries.specs.declared.fetch.Stop.{Stop}
@@ -12,9 +11,6 @@ use Rattle.deliveries.specs.Plan.{Given}
 use Rattle.deliveries.specs.Steps.{Ends, refused, IsRead, IsNotRead, reads}
 use Rattle.plans.specs.Tables.{AreRead, AreNotRead, Reads, reads_tables, over_tables}
 use Rattle.plans.proofs.Fetched.{read_there, not_read_there, are_read_there, are_not_read_there}
-use Rattle.qbs.specs.Pruners.{May}
-use Rattle.qbs.specs.Prove.{prove_of, prove}
-use Rattle.qbs.specs.Rewrite.{rewrite_of, rewrite}
 use Rattle.qbs.proofs.Going.{goes_on, stops_at}
 
 -- ---- a schema and a source
@@ -41,42 +37,6 @@ pub both_read : (told later : List ℕ → Option (List ℕ)) (rose after : List
 both_read told later rose after schema source next s t (Ok plan) same read has h = inr (s, read, inr (t, read_there told later after rose source most_source t same has, h))
 both_read told later rose after schema source next s t (Err (Stop.Due plan)) same read has h = inr (s, read, inr (t, read_there told later after rose source most_source t same has, h))
 both_read told later rose after schema source next s t (Err Stop.Memory) same read has h = tt
-
--- the same of `rewrite`
-pub rewrite_unread : (files : Given) (may : May) (o : Options) (schema source : List ℕ) (stop : Stop) →
-    Goes {A = List ℕ} (Err stop) (IsRead files schema most_schema) (IsNotRead files schema most_schema (codes "schema")) → OrMemory (Err stop) (rewrite files may o schema source)
-rewrite_unread files may o schema source stop h = first_unread files schema source (λ s t. rewrite_of may o s t) stop h
-
-pub rewrite_half_read : (told later : List ℕ → Option (List ℕ)) (rose after : List ℕ → Type 0) (may : May) (o : Options) (schema source s : List ℕ) (stop : Stop) →
-    later ≡ told → ((name : List ℕ) → after name → rose name) → IsRead (record { told = told; failed = rose }) schema most_schema s →
-    Goes {A = List ℕ} (Err stop) (IsRead (record { told = later; failed = after }) source most_source) (IsNotRead (record { told = later; failed = after }) source most_source (codes "source")) →
-    OrMemory (Err stop) (rewrite (record { told = told; failed = rose }) may o schema source)
-rewrite_half_read told later rose after may o schema source s stop same f read h = second_unread told later rose after schema source (λ s t. rewrite_of may o s t) s stop same f read h
-
-pub rewrite_read : (told later : List ℕ → Option (List ℕ)) (rose after : List ℕ → Type 0) (may : May) (o : Options) (schema source s t lent lent_too : List ℕ) (result : Result Plan Stop) →
-    later ≡ told → IsRead (record { told = told; failed = rose }) schema most_schema s → IsRead (record { told = later; failed = after }) source most_source t → lent ≡ s → lent_too ≡ t →
-    OrMemory result (rewrite_of may o lent lent_too) → OrMemory result (rewrite (record { told = told; failed = rose }) may o schema source)
-rewrite_read told later rose after may o schema source s t lent lent_too result same read has first second h =
-    both_read told later rose after schema source (λ s t. rewrite_of may o s t) s t result same read has
-    (subst (λ (x : List ℕ). OrMemory result (rewrite_of may o s x)) second (subst (λ (x : List ℕ). OrMemory result (rewrite_of may o x lent_too)) first h))
-
--- and of `prove`
-pub prove_unread : (files : Given) (may : May) (o : Options) (schema source : List ℕ) (stop : Stop) →
-    Goes {A = List ℕ} (Err stop) (IsRead files schema most_schema) (IsNotRead files schema most_schema (codes "schema")) → OrMemory (Err stop) (prove files may o schema source)
-prove_unread files may o schema source stop h = first_unread files schema source (λ s t. prove_of may o s t) stop h
-
-pub prove_half_read : (told later : List ℕ → Option (List ℕ)) (rose after : List ℕ → Type 0) (may : May) (o : Options) (schema source s : List ℕ) (stop : Stop) →
-    later ≡ told → ((name : List ℕ) → after name → rose name) → IsRead (record { told = told; failed = rose }) schema most_schema s →
-    Goes {A = List ℕ} (Err stop) (IsRead (record { told = later; failed = after }) source most_source) (IsNotRead (record { told = later; failed = after }) source most_source (codes "source")) →
-    OrMemory (Err stop) (prove (record { told = told; failed = rose }) may o schema source)
-prove_half_read told later rose after may o schema source s stop same f read h = second_unread told later rose after schema source (λ s t. prove_of may o s t) s stop same f read h
-
-pub prove_read : (told later : List ℕ → Option (List ℕ)) (rose after : List ℕ → Type 0) (may : May) (o : Options) (schema source s t lent lent_too : List ℕ) (result : Result Plan Stop) →
-    later ≡ told → IsRead (record { told = told; failed = rose }) schema most_schema s → IsRead (record { told = later; failed = after }) source most_source t → lent ≡ s → lent_too ≡ t →
-    OrMemory result (prove_of may o lent lent_too) → OrMemory result (prove (record { told = told; failed = rose }) may o schema source)
-prove_read told later rose after may o schema source s t lent lent_too result same read has first second h =
-    both_read told later rose after schema source (λ s t. prove_of may o s t) s t result same read has
-    (subst (λ (x : List ℕ). OrMemory result (prove_of may o s x)) second (subst (λ (x : List ℕ). OrMemory result (prove_of may o x lent_too)) first h))
 
 -- ---- a file that is read later
 

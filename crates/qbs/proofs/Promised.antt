@@ -8,6 +8,7 @@ use Rattle.qbs_base.specs.Status.{KeepsOutput}
 use Rattle.qbs_base.specs.declared.columns.Table.{Table}
 use Rattle.qbs_base.specs.Values.{Schema}
 use Rattle.kernel_lang.specs.Plain.{Fragment}
+use Rattle.small_dbs.specs.declared.small.SmallDb.{SmallDb}
 use Rattle.query_search.specs.Counted.{OneIs}
 use Rattle.rewrite_core.proofs.PrunedTries.{are_pruned, none_pruned}
 use Rattle.rewrite_core.specs.Pruned.{ArePruned}
@@ -19,7 +20,7 @@ use Rattle.words.specs.declared.command.Options.{Options}
 use Rattle.words.specs.Plain.{HasWords}
 use Rattle.words.specs.Reading.{plain}
 use Rattle.words.proofs.Exact.{reads_plain_words}
-use Rattle.deliveries.specs.Limits.{most_schema, most_source}
+use Rattle.deliveries.specs.Limits.{most_schema, most_source, most_store}
 use Rattle.deliveries.specs.declared.plan.Plan.{Plan}
 use Rattle.deliveries.specs.Deliver.{Change}
 use Rattle.plans.specs.Opening.{HasNoProgram}
@@ -30,8 +31,9 @@ use Rattle.qbs.specs.Commands.{is_built, where_built, command, HasNoWords, IsDue
 use Rattle.qbs.specs.Headline.{IsRewritten, IsHeadline, HasHeadline}
 use Rattle.verdicts.specs.Reports.{verdict_line, pruned_line}
 use Rattle.qbs.specs.Reports.{report_text}
-use Rattle.qbs.specs.Pruners.{May}
+use Rattle.qbs.specs.Pruners.{May, with_bank}
 use Rattle.qbs.specs.Rewrite.{size_of, budget_of, rewrite_of, rewrite}
+use Rattle.qbs.specs.Store.{IsStoreRead, IsStoreUnread, IsBankOf, HasNoBank}
 use Rattle.qbs.specs.Top.{IsDone, CutShort, MayRead, ReadFailed, HasReadFault}
 use Rattle.java_mean.proofs.Kept.{keeps_through}
 use Rattle.java_types.specs.Texts.{read_by}
@@ -93,9 +95,11 @@ promised files may words out rep result done =
 record Rewrote (files : Given) (may : May) (o : Options) (schema source : List ℕ) (plan : Plan) : Type 0 where
   schema_read : List ℕ
   source_read : List ℕ
+  store_read : Option (List ℕ)
   read_schema : IsRead files schema most_schema schema_read
   read_source : IsRead files source most_source source_read
-  is : IsRewritten may (size_of o) (budget_of o) schema_read source_read plan.out plan.rep
+  read_store : IsStoreRead files o.store store_read
+  is : IsRewritten may (size_of o) (budget_of o) schema_read source_read store_read plan.out plan.rep
 
 pub unread : (files : Given) (name : List ℕ) (limit : ℕ) (label : List ℕ) (plan : Plan) → IsNotRead files name limit label plan → plan.status ≡ statuses.Ok → ⊥
 unread files name limit label plan (inl h) ok = let e : statuses.ReadFault ≡ statuses.Ok = subst (λ (p : Plan). p.status ≡ statuses.Ok) h.1 ok in cc
@@ -111,11 +115,20 @@ no_program tables bytes plan (inl h) ok = let e : statuses.Source ≡ statuses.O
 no_program tables bytes plan (inr (inl h)) ok = let e : statuses.Source ≡ statuses.Ok = subst (λ (p : Plan). p.status ≡ statuses.Ok) h.2 ok in cc
 no_program tables bytes plan (inr (inr h)) ok = let e : statuses.Types ≡ statuses.Ok = subst (λ (p : Plan). p.status ≡ statuses.Ok) h.2 ok in cc
 
-rewritten_of : (may : May) (o : Options) (s t : List ℕ) (plan : Plan) → rewrite_of may o s t plan → plan.status ≡ statuses.Ok → IsRewritten may (size_of o) (budget_of o) s t plan.out plan.rep
-rewritten_of may o s t plan (inl h) ok = let e : statuses.Schema ≡ statuses.Ok = subst (λ (p : Plan). p.status ≡ statuses.Ok) h.2 ok in absurd cc
-rewritten_of may o s t plan (inr (tables, is, inl h)) ok = absurd (no_program tables t plan h ok)
-rewritten_of may o s t plan (inr (tables, is, inr (p, read, h))) ok =
-    subst (λ (x : Plan). IsRewritten may (size_of o) (budget_of o) s t x.out x.rep) (sym h.written)
+pub store_unread : (files : Given) (name : Option (List ℕ)) (plan : Plan) → IsStoreUnread files name plan → plan.status ≡ statuses.Ok → ⊥
+store_unread files None plan h ok = h
+store_unread files (Some name) plan h ok = unread files name most_store (codes "store") plan h ok
+
+pub no_bank : (tables : Schema) (store : Option (List ℕ)) (plan : Plan) → HasNoBank tables store plan → plan.status ≡ statuses.Ok → ⊥
+no_bank tables None plan h ok = h
+no_bank tables (Some bytes) plan h ok = let e : statuses.Store ≡ statuses.Ok = subst (λ (p : Plan). p.status ≡ statuses.Ok) h.2 ok in cc
+
+rewritten_of : (may : May) (o : Options) (s t : List ℕ) (b : Option (List ℕ)) (plan : Plan) → rewrite_of may o s t b plan → plan.status ≡ statuses.Ok → IsRewritten may (size_of o) (budget_of o) s t b plan.out plan.rep
+rewritten_of may o s t b plan (inl h) ok = let e : statuses.Schema ≡ statuses.Ok = subst (λ (p : Plan). p.status ≡ statuses.Ok) h.2 ok in absurd cc
+rewritten_of may o s t b plan (inr (tables, is, inl h)) ok = absurd (no_program tables t plan h ok)
+rewritten_of may o s t b plan (inr (tables, is, inr (p, read, inl h))) ok = absurd (no_bank tables b plan h ok)
+rewritten_of may o s t b plan (inr (tables, is, inr (p, read, inr (bank, held, h)))) ok =
+    subst (λ (x : Plan). IsRewritten may (size_of o) (budget_of o) s t b x.out x.rep) (sym h.written)
     (record {
       tables = tables;
       program = p;
@@ -129,6 +142,8 @@ rewritten_of may o s t plan (inr (tables, is, inr (p, read, h))) ok =
       output = h.output;
       keeps = keeps_through tables p (rewritten tables (size_of o) (budget_of o) p) h.text.read.program h.rewriting.keeps (keep_alike tables (rewritten tables (size_of o) (budget_of o) p) h.text.read.program (sym h.text.read.same));
       pruned = h.pruned;
+      bank = bank;
+      is_bank = held;
       counted = h.counted;
       report = refl;
       left = rewritten tables (size_of o) (budget_of o) p;
@@ -139,8 +154,9 @@ rewritten_of may o s t plan (inr (tables, is, inr (p, read, h))) ok =
 rewrote : (files : Given) (may : May) (o : Options) (schema source : List ℕ) (plan : Plan) → rewrite files may o schema source plan → plan.status ≡ statuses.Ok → Rewrote files may o schema source plan
 rewrote files may o schema source plan (inl h) ok = absurd (unread files schema most_schema (codes "schema") plan h ok)
 rewrote files may o schema source plan (inr (s, read, inl h)) ok = absurd (unread files source most_source (codes "source") plan h ok)
-rewrote files may o schema source plan (inr (s, read, inr (t, has, h))) ok =
-    record { schema_read = s; source_read = t; read_schema = read; read_source = has; is = rewritten_of may o s t plan h ok }
+rewrote files may o schema source plan (inr (s, read, inr (t, has, inl h))) ok = absurd (store_unread files o.store plan h ok)
+rewrote files may o schema source plan (inr (s, read, inr (t, has, inr (b, there, h)))) ok =
+    record { schema_read = s; source_read = t; store_read = b; read_schema = read; read_source = has; read_store = there; is = rewritten_of may o s t b plan h ok }
 
 -- what isn't built ends with no such status
 pub where_ends : (is : Bool) (next : Ends) (plan : Plan) → where_built is next plan → (plan.status ≡ statuses.NotYet → ⊥) → next plan
@@ -167,10 +183,12 @@ headline files may words out rep result done o schema source has ok =
           record {
             schema_read = h.schema_read;
             source_read = h.source_read;
+            store_read = h.store_read;
             text = done.plan.out;
             lines = done.plan.rep;
             read_schema = h.read_schema;
             read_source = h.read_source;
+            read_store = h.read_store;
             is = h.is;
             wrote_text = all.1;
             wrote_lines = all.2;
@@ -191,11 +209,27 @@ none_dropped may size ts n lines rep never counted report wrote =
       subst (λ (m : ℕ). Appends rep.old rep.new (report_text ts m)) none (subst (λ (text : List ℕ). Appends rep.old rep.new text) report wrote),
     )
 
+none_read : (files : Given) (name read : Option (List ℕ)) → name ≡ None → IsStoreRead files name read → read ≡ None
+none_read files None read e h = h
+none_read files (Some name) read e h = absurd cc
+
+none_held : (tables : Schema) (store : Option (List ℕ)) (bank : Option (List SmallDb)) → store ≡ None → IsBankOf tables store bank → bank ≡ None
+none_held tables None bank e h = h
+none_held tables (Some bytes) bank e h = absurd cc
+
+-- where words name no store, there is no bank
+pub none_dropped_without : (files : Given) (may : May) (name read : Option (List ℕ)) (tables : Schema) (bank : Option (List SmallDb)) (size : ℕ) (ts : List Tried) (n : ℕ) (lines : List ℕ) (rep : Change) →
+    name ≡ None → IsStoreRead files name read → IsBankOf tables read bank → ((f : Fragment) (c : List ℕ) → may.drops f c → ⊥) → ArePruned (with_bank may bank).drops (with_bank may bank).keeps size ts n →
+    lines ≡ report_text ts n → Appends rep.old rep.new lines → (front : List ℕ) × Appends rep.old rep.new (front ++ pruned_line 0)
+none_dropped_without files may name read tables bank size ts n lines rep e is held never counted report wrote =
+    let none : bank ≡ None = none_held tables read bank (none_read files name read e is) held in
+    none_dropped may size ts n lines rep never (subst (λ (k : Option (List SmallDb)). ArePruned (with_bank may k).drops (with_bank may k).keeps size ts n) none counted) report wrote
+
 pub rewrite_drops_none : (files : Given) (may : May) (words : List (List ℕ)) (out rep : Change) (result : Status) → IsDone files may words out rep result → ((f : Fragment) (c : List ℕ) → may.drops f c → ⊥) →
-    (o : Options) (schema source : List ℕ) → HasWords words (commands.Rewrite o schema source) → result ≡ statuses.Ok → (front : List ℕ) × Appends rep.old rep.new (front ++ pruned_line 0)
-rewrite_drops_none files may words out rep result done never o schema source has ok =
+    (o : Options) (schema source : List ℕ) → HasWords words (commands.Rewrite o schema source) → o.store ≡ None → result ≡ statuses.Ok → (front : List ℕ) × Appends rep.old rep.new (front ++ pruned_line 0)
+rewrite_drops_none files may words out rep result done never o schema source has e ok =
     let h : IsHeadline files may o schema source out rep = headline files may words out rep result done o schema source has ok in
-    none_dropped may (size_of o) h.is.tries h.is.pruned h.lines rep never h.is.counted h.is.report h.wrote_lines
+    none_dropped_without files may o.store h.store_read h.is.tables h.is.bank (size_of o) h.is.tries h.is.pruned h.lines rep e h.read_store h.is.is_bank never h.is.counted h.is.report h.wrote_lines
 
 pub no_one : {P : Type 0} (S : P → Type 0) (ps : List P) → ps ≡ [] → OneIs S ps → ⊥
 no_one S [] e h = h

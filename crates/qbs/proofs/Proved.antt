@@ -1,5 +1,5 @@
 -- What a rewriting answers is what `prove` writes, and its bundle is accepted.
-use Rattle.std.proofs.Common.{◌≡◌, ℕ, ◌<◌, ◌≤◌, ◌^◌, List, ◌++◌, length, refl, sym, ap, ◌∙◌, subst, arith}
+use Rattle.std.proofs.Common.{◌≡◌, ℕ, ◌<◌, ◌≤◌, ◌^◌, List, ◌++◌, length, refl, ap, ◌∙◌, subst, arith}
 use Rattle.std.specs.List.{flat_map}
 use Rattle.qbs_base.specs.declared.status.Status.{Status}
 use Rattle.qbs_base.specs.Values.{Schema}
@@ -11,7 +11,7 @@ use Rattle.java_grammar.proofs.TwoPlaces.{strict_tokens, one_path}
 use Rattle.java_types.specs.Texts.{read_by}
 use Rattle.deriv_check.specs.Bundles.{Entry}
 use Rattle.text_readers.specs.Offsets.{Each}
-use Rattle.deriv_check.specs.Grammar.{HasBundle, IsWritableEntry}
+use Rattle.deriv_check.specs.Grammar.{IsWritableEntry}
 use Rattle.deriv_check.specs.Texts.{bundle_text}
 use Rattle.verdicts.specs.declared.verdict.LoopVerdict.{LoopVerdict}
 use Rattle.rewrite_core.specs.Checking.{LoopsStandApart}

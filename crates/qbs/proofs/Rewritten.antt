@@ -1,5 +1,5 @@
--- What is due for the bytes of a schema and a source.
-use Rattle.std.proofs.Common.{◌≡◌, ℕ, Bool, true, false, List, Result, Ok, Err, refl, subst, inl, inr}
+-- What is due for a run of a program or of the rewritten one.
+use Rattle.std.proofs.Common.{◌≡◌, ℕ, Bool, true, false, List, Result, Err, refl, subst, inl}
 use Rattle.rewrite_core.specs.Trying.{rewritten}
 use Rattle.qbs_base.specs.Values.{Schema}
 use Rattle.java_ast.specs.Tree.{PlainProgram}
@@ -7,48 +7,13 @@ use Rattle.words.specs.declared.command.Options.{Options}
 use Rattle.deliveries.specs.declared.plan.Plan.{Plan}
 use Rattle.deliveries.specs.declared.fetch.Stop.{Stop}
 use Rattle.deliveries.specs.Code.{Goes, OrMemory}
-use Rattle.plans.specs.Opening.{IsSchemaOf, BreaksSchema, schema_refusal, IsProgramOf, HasNoProgram}
+use Rattle.plans.specs.Opening.{IsProgramOf, HasNoProgram}
 use Rattle.plans.specs.Calls.{Call}
-use Rattle.deliveries.specs.Steps.{refused}
 use Rattle.qbs.specs.Code.{run_called}
-use Rattle.qbs.specs.Pruners.{May}
-use Rattle.qbs.specs.Prove.{Proves, prove_of}
-use Rattle.qbs.specs.Rewrite.{size_of, budget_of, IsRewriting, Rewrites, rewrite_of}
+use Rattle.qbs.specs.Rewrite.{size_of, budget_of, IsRewriting}
 use Rattle.qbs.specs.Run.{IsChosen, chooses, call_of, run_of, turns_of}
 use Rattle.qbs.proofs.Going.{goes_on, due_as}
 use Rattle.qbs.proofs.Twins.{run_steps}
-
-pub schema_lacking : (may : May) (o : Options) (s t : List ℕ) (stop : Stop) → Goes {A = Schema} (Err stop) (IsSchemaOf s) (refused (BreaksSchema s) schema_refusal) → OrMemory (Err stop) (rewrite_of may o s t)
-schema_lacking may o s t (Stop.Due plan) h = inl h
-schema_lacking may o s t Stop.Memory h = tt
-
-pub program_lacking : {A : Type 0} (Is : A → Type 0) (may : May) (o : Options) (s t : List ℕ) (tables : Schema) (stop : Stop) → IsSchemaOf s tables → Goes {A = A} (Err stop) Is (HasNoProgram tables t) → OrMemory (Err stop) (rewrite_of may o s t)
-program_lacking Is may o s t tables (Stop.Due plan) is h = inr (tables, is, inl h)
-program_lacking Is may o s t tables Stop.Memory is h = tt
-
-pub all_found : (may : May) (o : Options) (s t : List ℕ) (tables : Schema) (p : PlainProgram) (result : Result Plan Stop) → IsSchemaOf s tables → IsProgramOf tables t p →
-    OrMemory result (Rewrites may tables (size_of o) (budget_of o) t p) → OrMemory result (rewrite_of may o s t)
-all_found may o s t tables p (Ok plan) is has h = inr (tables, is, inr (p, has, h))
-all_found may o s t tables p (Err (Stop.Due plan)) is has h = inr (tables, is, inr (p, has, h))
-all_found may o s t tables p (Err Stop.Memory) is has h = tt
-
--- ---- `prove`
-
-pub prove_schema_lacking : (may : May) (o : Options) (s t : List ℕ) (stop : Stop) → Goes {A = Schema} (Err stop) (IsSchemaOf s) (refused (BreaksSchema s) schema_refusal) → OrMemory (Err stop) (prove_of may o s t)
-prove_schema_lacking may o s t (Stop.Due plan) h = inl h
-prove_schema_lacking may o s t Stop.Memory h = tt
-
-pub prove_program_lacking : {A : Type 0} (Is : A → Type 0) (may : May) (o : Options) (s t : List ℕ) (tables : Schema) (stop : Stop) → IsSchemaOf s tables → Goes {A = A} (Err stop) Is (HasNoProgram tables t) → OrMemory (Err stop) (prove_of may o s t)
-prove_program_lacking Is may o s t tables (Stop.Due plan) is h = inr (tables, is, inl h)
-prove_program_lacking Is may o s t tables Stop.Memory is h = tt
-
-pub prove_found : (may : May) (o : Options) (s t : List ℕ) (tables : Schema) (p : PlainProgram) (result : Result Plan Stop) → IsSchemaOf s tables → IsProgramOf tables t p →
-    OrMemory result (Proves may tables (size_of o) (budget_of o) p) → OrMemory result (prove_of may o s t)
-prove_found may o s t tables p (Ok plan) is has h = inr (tables, is, inr (p, has, h))
-prove_found may o s t tables p (Err (Stop.Due plan)) is has h = inr (tables, is, inr (p, has, h))
-prove_found may o s t tables p (Err Stop.Memory) is has h = tt
-
--- ---- `run`
 
 pub run_lacking : {A : Type 0} (Is : A → Type 0) (o : Options) (tables : Schema) (call : Call) (source : List ℕ) (texts : List (List ℕ)) (stop : Stop) → Goes {A = A} (Err stop) Is (HasNoProgram tables source) → OrMemory (Err stop) (run_of o tables call source texts)
 run_lacking Is o tables call source texts (Stop.Due plan) h = inl h

@@ -13,10 +13,11 @@ use Rattle.deliveries.specs.Code.{OrMemory, StopsFor}
 use Rattle.deliveries.specs.Deliver.{Change, Delivers}
 use Rattle.deliveries.specs.Plan.{Given, not_yet}
 use Rattle.deliveries.specs.Steps.{ends}
-use Rattle.deliveries.specs.Reads.{Looks, OnlyReads}
+use Rattle.deliveries.specs.Reads.{Looks}
 use Rattle.deliveries.proofs.Reading.{reads_none}
 use Rattle.qbs.specs.Commands.{is_built, built, where_built, command, HasNoWords, AreRefused, program}
 use Rattle.qbs.specs.Pruners.{May}
+use Rattle.qbs.specs.Store.{store_names}
 use Rattle.qbs.specs.Top.{IsDone, ReadsBuilt, ReadsWhere, ReadsInOrder, ReadsAsNamed}
 use Rattle.qbs.specs.Within.{IsWithin}
 use Rattle.qbs.proofs.Going.{goes_on}
@@ -107,16 +108,16 @@ make_within c n is h = let few : n ≤ 100000 = subst IsWithin is h in omega ari
 
 -- nothing is read where a command stops before its first file
 pub none_read : {D : Type 0} (l : Looks D) (c : Command) (files : D) → ReadsBuilt l c files files
-none_read l (commands.Rewrite o s t) files = reads_none l (s ∷ t ∷ []) files
-none_read l (commands.Prove o s t) files = reads_none l (s ∷ t ∷ []) files
+none_read l (commands.Rewrite o s t) files = reads_none l (s ∷ t ∷ store_names o.store) files
+none_read l (commands.Prove o s t) files = reads_none l (s ∷ t ∷ store_names o.store) files
 none_read l (commands.Check o s t b) files = reads_none l (s ∷ t ∷ b ∷ []) files
 none_read l (commands.Run o s t d method words) files = record { tables = []; of_schema = inl refl; reads = reads_none l (s ∷ t ∷ []) files }
 none_read l (commands.Sql s d q) files = record { tables = []; of_schema = inl refl; reads = reads_none l (s ∷ []) files }
 none_read l (commands.Make n) files = reads_none l [] files
-none_read l (commands.Unnest o s t) files = reads_none l [] files
+none_read l (commands.Unnest o s t) files = reads_none l (s ∷ t ∷ []) files
 none_read l (commands.Narrow o s t) files = reads_none l (s ∷ t ∷ []) files
 none_read l (commands.Inline s t) files = reads_none l (s ∷ t ∷ []) files
-none_read l (commands.Gather o s t) files = reads_none l [] files
+none_read l (commands.Gather o s t) files = reads_none l (s ∷ t ∷ []) files
 none_read l (commands.Schema o d) files = reads_none l (d ∷ []) files
 none_read l (commands.View m s t) files = reads_none l [] files
 none_read l (commands.Map es) files = reads_none l [] files
@@ -144,21 +145,23 @@ pub other_due : (files : Given) (may : May) (c : Command) (stop : Stop) →
     ((o : Options) (d : List ℕ) → c ≡ commands.Schema o d → ⊥) →
     ((s t : List ℕ) → c ≡ commands.Inline s t → ⊥) →
     ((o : Options) (s t : List ℕ) → c ≡ commands.Narrow o s t → ⊥) →
+    ((o : Options) (s t : List ℕ) → c ≡ commands.Unnest o s t → ⊥) →
+    ((o : Options) (s t : List ℕ) → c ≡ commands.Gather o s t → ⊥) →
     StopsFor Status.NotYet (codes "qbs: not yet") [] stop → OrMemory (Err stop) (built files may c)
-other_due files may (commands.Rewrite o s t) stop rewrite prove check run sql make schema inline narrow due = absurd (rewrite o s t refl)
-other_due files may (commands.Prove o s t) stop rewrite prove check run sql make schema inline narrow due = absurd (prove o s t refl)
-other_due files may (commands.Check o s t b) stop rewrite prove check run sql make schema inline narrow due = absurd (check o s t b refl)
-other_due files may (commands.Run o s t d method words) stop rewrite prove check run sql make schema inline narrow due = absurd (run o s t d method words refl)
-other_due files may (commands.Sql s d q) stop rewrite prove check run sql make schema inline narrow due = absurd (sql s d q refl)
-other_due files may (commands.Make n) stop rewrite prove check run sql make schema inline narrow due = absurd (make n refl)
-other_due files may (commands.Unnest o s t) stop rewrite prove check run sql make schema inline narrow due = refused_due stop due
-other_due files may (commands.Narrow o s t) stop rewrite prove check run sql make schema inline narrow due = absurd (narrow o s t refl)
-other_due files may (commands.Inline s t) stop rewrite prove check run sql make schema inline narrow due = absurd (inline s t refl)
-other_due files may (commands.Gather o s t) stop rewrite prove check run sql make schema inline narrow due = refused_due stop due
-other_due files may (commands.Schema o d) stop rewrite prove check run sql make schema inline narrow due = absurd (schema o d refl)
-other_due files may (commands.View m s t) stop rewrite prove check run sql make schema inline narrow due = refused_due stop due
-other_due files may (commands.Map es) stop rewrite prove check run sql make schema inline narrow due = refused_due stop due
-other_due files may (commands.CheckMap m s) stop rewrite prove check run sql make schema inline narrow due = refused_due stop due
+other_due files may (commands.Rewrite o s t) stop rewrite prove check run sql make schema inline narrow unnest gather due = absurd (rewrite o s t refl)
+other_due files may (commands.Prove o s t) stop rewrite prove check run sql make schema inline narrow unnest gather due = absurd (prove o s t refl)
+other_due files may (commands.Check o s t b) stop rewrite prove check run sql make schema inline narrow unnest gather due = absurd (check o s t b refl)
+other_due files may (commands.Run o s t d method words) stop rewrite prove check run sql make schema inline narrow unnest gather due = absurd (run o s t d method words refl)
+other_due files may (commands.Sql s d q) stop rewrite prove check run sql make schema inline narrow unnest gather due = absurd (sql s d q refl)
+other_due files may (commands.Make n) stop rewrite prove check run sql make schema inline narrow unnest gather due = absurd (make n refl)
+other_due files may (commands.Unnest o s t) stop rewrite prove check run sql make schema inline narrow unnest gather due = absurd (unnest o s t refl)
+other_due files may (commands.Narrow o s t) stop rewrite prove check run sql make schema inline narrow unnest gather due = absurd (narrow o s t refl)
+other_due files may (commands.Inline s t) stop rewrite prove check run sql make schema inline narrow unnest gather due = absurd (inline s t refl)
+other_due files may (commands.Gather o s t) stop rewrite prove check run sql make schema inline narrow unnest gather due = absurd (gather o s t refl)
+other_due files may (commands.Schema o d) stop rewrite prove check run sql make schema inline narrow unnest gather due = absurd (schema o d refl)
+other_due files may (commands.View m s t) stop rewrite prove check run sql make schema inline narrow unnest gather due = refused_due stop due
+other_due files may (commands.Map es) stop rewrite prove check run sql make schema inline narrow unnest gather due = refused_due stop due
+other_due files may (commands.CheckMap m s) stop rewrite prove check run sql make schema inline narrow unnest gather due = refused_due stop due
 
 -- a plan that is due and delivered
 pub done_by : (files : Given) (may : May) (words : List (List ℕ)) (out rep : Change) (status : Status) (result : Result Plan Stop) (plan : Plan) →

@@ -1,5 +1,5 @@
 -- The whole: the plans that the top call may end with, for words and files.
-use Rattle.std.specs.Prelude.{◌≡◌, ◌⊎◌, ◌&&◌, ℕ, List, Bool, true, false, is_none}
+use Rattle.std.specs.Prelude.{◌≡◌, ◌⊎◌, ℕ, List, Bool, true, false, is_none}
 use Rattle.words.specs.declared.command.Command.{Command}
 use Rattle.words.specs.declared.command.Command.TheVariants as commands
 use Rattle.words.specs.declared.command.Options.{Options}
@@ -8,6 +8,7 @@ use Rattle.deliveries.specs.Plan.{Given, no_memory, not_yet, bad_words}
 use Rattle.deliveries.specs.Steps.{Ends, ends, step}
 use Rattle.qbs.specs.Check.{check}
 use Rattle.qbs.specs.Draw.{draw}
+use Rattle.qbs.specs.Gather.{gather}
 use Rattle.qbs.specs.Inline.{inline}
 use Rattle.qbs.specs.Narrow.{narrow}
 use Rattle.qbs.specs.Pruners.{May}
@@ -16,10 +17,11 @@ use Rattle.qbs.specs.Make.{make}
 use Rattle.qbs.specs.Rewrite.{rewrite}
 use Rattle.qbs.specs.Run.{run}
 use Rattle.qbs.specs.Sql.{sql}
+use Rattle.qbs.specs.Unnest.{unnest}
 
--- no option is set that isn't built yet: a store, or a view
+-- no option is set that isn't built yet: a view
 abbrev pub is_plain : Options → Bool
-is_plain o = is_none o.store && is_none o.view
+is_plain o = is_none o.view
 
 -- which commands are built, and with which options
 abbrev pub is_built : Command → Bool
@@ -32,6 +34,8 @@ is_built (commands.Make n) = true
 is_built (commands.Schema o dump) = true
 is_built (commands.Inline schema source) = true
 is_built (commands.Narrow o schema source) = is_plain o
+is_built (commands.Unnest o schema source) = is_plain o
+is_built (commands.Gather o schema source) = is_plain o
 is_built _ = false
 
 -- what is due for a command that is built
@@ -45,6 +49,8 @@ built files may (commands.Make n) plan = make n plan
 built files may (commands.Schema o dump) plan = draw files o dump plan
 built files may (commands.Inline schema source) plan = inline files schema source plan
 built files may (commands.Narrow o schema source) plan = narrow files schema source plan
+built files may (commands.Unnest o schema source) plan = unnest files o schema source plan
+built files may (commands.Gather o schema source) plan = gather files o schema source plan
 built files may _ plan = ends not_yet plan
 
 abbrev pub where_built : Bool → Ends → Ends

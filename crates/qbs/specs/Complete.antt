@@ -1,20 +1,22 @@
 -- Which statuses a command ends with where all that it reads is right.
 use Rattle.std.specs.Prelude.{◌≡◌, ◌≤◌, ◌-◌, ◌⊎◌, ℕ, List, [], ◌∷◌, Bool, true, false, length}
 use Rattle.std.specs.declared.option.Option.{Option}
-use Rattle.std.specs.declared.option.Option.TheVariants.{Some}
+use Rattle.std.specs.declared.option.Option.TheVariants.{Some, None}
 use Rattle.qbs_base.specs.declared.columns.Table.{Table}
 use Rattle.qbs_base.specs.declared.status.Status.{Status}
 use Rattle.qbs_base.specs.Values.{Schema, Database}
 use Rattle.java_ast.specs.Tree.{PlainProgram}
 use Rattle.deriv_check.specs.Bundles.{Entry}
 use Rattle.deriv_check.specs.Grammar.{HasBundle}
+use Rattle.small_dbs.specs.declared.small.SmallDb.{SmallDb}
+use Rattle.proof_store.specs.Grammar.{HasStore}
 use Rattle.sql_ast.specs.Tree.{PlainQuery}
 use Rattle.words.specs.declared.command.Command.{Command}
 use Rattle.words.specs.declared.command.Command.TheVariants as commands
 use Rattle.words.specs.Plain.{HasWords}
 use Rattle.plans.specs.Calls.{Call, Called, Calls}
 use Rattle.plans.specs.Opening.{IsSchemaOf, IsProgramOf}
-use Rattle.deliveries.specs.Limits.{most_schema, most_source, most_bundle, most_tables, most_dump}
+use Rattle.deliveries.specs.Limits.{most_schema, most_source, most_bundle, most_tables, most_dump, most_store}
 use Rattle.deliveries.specs.Plan.{Given}
 use Rattle.plans.specs.Tables.{table_file, HasRows}
 use Rattle.qbs.specs.Commands.{is_built}
@@ -54,6 +56,11 @@ pub record HasTables (told : List ℕ → Option (List ℕ)) (folder : List ℕ)
   pub have : HaveTexts told folder tables most_tables texts
   pub rows : HasRows tables texts db
 
+-- where words name a store, its file has one of the schema
+abbrev pub HasStoreFile : (List ℕ → Option (List ℕ)) → Option (List ℕ) → Schema → Type 0
+HasStoreFile told None tables = Unit {0}
+HasStoreFile told (Some name) tables = HasFile told name most_store (λ bytes. (items : List SmallDb) × HasStore tables bytes items)
+
 -- the words call a method of the program
 pub record HasCall (p : PlainProgram) (call : Call) : Type 0 where
   pub called : Called
@@ -69,8 +76,8 @@ pub record HasWhole (tables : Schema) (bytes : List ℕ) : Type 0 where
 
 -- all that the command reads is right
 abbrev pub IsRight : (List ℕ → Option (List ℕ)) → Command → Type 0
-IsRight told (commands.Rewrite o schema source) = HasSchema told schema (λ tables. HasSource told source tables (λ p. Unit {0}))
-IsRight told (commands.Prove o schema source) = HasSchema told schema (λ tables. HasSource told source tables (λ p. Unit {0}))
+IsRight told (commands.Rewrite o schema source) = HasSchema told schema (λ tables. HasSource told source tables (λ p. Unit {0}) × HasStoreFile told o.store tables)
+IsRight told (commands.Prove o schema source) = HasSchema told schema (λ tables. HasSource told source tables (λ p. Unit {0}) × HasStoreFile told o.store tables)
 IsRight told (commands.Check o schema source bundle) =
     HasSchema told schema (λ tables. HasSource told source tables (λ p. Unit {0})) × HasFile told bundle most_bundle (λ bytes. (entries : List Entry) × HasBundle bytes entries)
 IsRight told (commands.Run o schema source folder method words) =
@@ -79,6 +86,8 @@ IsRight told (commands.Sql schema folder query) =
     HasSchema told schema (λ tables. ((q : PlainQuery) × IsAsked tables query q) × HasTables told folder tables)
 IsRight told (commands.Inline schema source) = HasSchema told schema (λ tables. HasFile told source most_source (HasWhole tables))
 IsRight told (commands.Narrow o schema source) = HasSchema told schema (λ tables. HasSource told source tables (λ p. Unit {0}))
+IsRight told (commands.Unnest o schema source) = HasSchema told schema (λ tables. HasSource told source tables (λ p. Unit {0}))
+IsRight told (commands.Gather o schema source) = HasSchema told schema (λ tables. HasSource told source tables (λ p. Unit {0}))
 IsRight told (commands.Schema o dump) = HasFile told dump most_dump (λ bytes. Unit {0})
 IsRight told _ = Unit {0}
 
@@ -95,6 +104,8 @@ IsEnd (commands.Make n) status = (status ≡ Status.Ok) ⊎ (status ≡ Status.F
 IsEnd (commands.Schema o dump) status = status ≡ Status.Ok
 IsEnd (commands.Inline schema source) status = status ≡ Status.Ok
 IsEnd (commands.Narrow o schema source) status = status ≡ Status.Ok
+IsEnd (commands.Unnest o schema source) status = status ≡ Status.Ok
+IsEnd (commands.Gather o schema source) status = status ≡ Status.Ok
 IsEnd _ status = status ≡ Status.NotYet
 
 abbrev pub IsEndWhere : Bool → Command → Status → Type 0

@@ -1,11 +1,13 @@
 -- What bundles are worth: what `prove` wrote and what `check` said, of the very program and the very bytes that were read.
 use Rattle.std.specs.Prelude.{◌≡◌, ℕ, List, [], length}
 use Rattle.std.specs.Io.KnownBytes.{Appends}
+use Rattle.std.specs.declared.option.Option.{Option}
 use Rattle.qbs_base.specs.declared.status.Status.{Status}
 use Rattle.qbs_base.specs.Values.{Schema}
 use Rattle.java_ast.specs.Tree.{PlainProgram}
 use Rattle.deriv_check.specs.Bundles.{Entry}
 use Rattle.deriv_check.specs.Grammar.{HasBundle}
+use Rattle.small_dbs.specs.declared.small.SmallDb.{SmallDb}
 use Rattle.rewrite_core.specs.Checking.{Refused, checked_from}
 use Rattle.rewrite_core.specs.Pruned.{ArePruned}
 use Rattle.rewrite_core.specs.Rewriting.{StandAsTried}
@@ -20,14 +22,15 @@ use Rattle.deliveries.specs.Plan.{Given}
 use Rattle.deliveries.specs.Steps.{IsRead}
 use Rattle.qbs.specs.Check.{AreAccepted, accepted_line, refused_line}
 use Rattle.qbs.specs.Reports.{report_text}
-use Rattle.qbs.specs.Pruners.{May}
+use Rattle.qbs.specs.Pruners.{May, with_bank}
 use Rattle.qbs.specs.Prove.{entries_for}
 use Rattle.qbs.specs.Rewrite.{size_of, budget_of}
+use Rattle.qbs.specs.Store.{IsStoreRead, IsBankOf}
 
 -- ---- `prove`
 
--- what `prove` wrote for the bytes of a schema and a source
-pub record IsProved (may : May) (size budget : ℕ) (schema source out rep : List ℕ) : Type 0 where
+-- what `prove` wrote for the bytes of a schema and a source, and of a store where the words name one
+pub record IsProved (may : May) (size budget : ℕ) (schema source : List ℕ) (store : Option (List ℕ)) (out rep : List ℕ) : Type 0 where
   -- the schema, and the well-typed program that the source has
   pub tables : Schema
   pub program : PlainProgram
@@ -37,22 +40,26 @@ pub record IsProved (may : May) (size budget : ℕ) (schema source out rep : Lis
   -- typed and does what the program read does.
   pub bundle : HasBundle out (entries_for tables size budget program)
   pub accepted : AreAccepted tables (entries_for tables size budget program) program (rewritten tables size budget program)
-  -- report: a line for each loop that was tried, and how many candidates were dropped
+  -- report: a line for each loop that was tried, and how many candidates were dropped, by the pruners or by the bank of the store
   pub pruned : ℕ
-  pub counted : ArePruned may.drops may.keeps size (all_tried tables size budget program) pruned
+  pub bank : Option (List SmallDb)
+  pub is_bank : IsBankOf tables store bank
+  pub counted : ArePruned (with_bank may bank).drops (with_bank may bank).keeps size (all_tried tables size budget program) pruned
   pub report : rep ≡ report_text (all_tried tables size budget program) pruned
   -- each loop that no entry is of stands as it was tried
   pub standing : StandAsTried (all_tried tables size budget program) (rewritten tables size budget program)
 
--- both files were read, and both sinks have grown by what is written
+-- the files were read, and both sinks have grown by what is written
 pub record IsProof (files : Given) (may : May) (o : Options) (schema source : List ℕ) (out rep : Change) : Type 0 where
   pub schema_read : List ℕ
   pub source_read : List ℕ
+  pub store_read : Option (List ℕ)
   pub text : List ℕ
   pub lines : List ℕ
   pub read_schema : IsRead files schema most_schema schema_read
   pub read_source : IsRead files source most_source source_read
-  pub is : IsProved may (size_of o) (budget_of o) schema_read source_read text lines
+  pub read_store : IsStoreRead files o.store store_read
+  pub is : IsProved may (size_of o) (budget_of o) schema_read source_read store_read text lines
   pub wrote_text : Appends out.old out.new text
   pub wrote_lines : Appends rep.old rep.new lines
 

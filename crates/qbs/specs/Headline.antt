@@ -1,6 +1,8 @@
 -- The headline: what `rewrite` wrote where it ends well, of the very program and the very bytes that were read.
 use Rattle.std.specs.Prelude.{◌≡◌, ◌⊎◌, ℕ, List, ◌++◌, Ok}
 use Rattle.std.specs.Io.KnownBytes.{Appends}
+use Rattle.std.specs.declared.option.Option.{Option}
+use Rattle.std.specs.declared.option.Option.TheVariants.{None}
 use Rattle.qbs_base.specs.declared.status.Status.{Status}
 use Rattle.qbs_base.specs.Values.{Schema}
 use Rattle.java_ast.specs.Tree.{PlainProgram}
@@ -11,10 +13,11 @@ use Rattle.java_mean.specs.Keeps.{Keeps}
 use Rattle.java_mean.specs.WellTyped.{IsWellTyped}
 use Rattle.java_grammar.specs.Grammar.{IsProgram}
 use Rattle.java_types.specs.Texts.{read_by}
+use Rattle.small_dbs.specs.declared.small.SmallDb.{SmallDb}
 use Rattle.rewrite_core.specs.Patches.{patched_text}
 use Rattle.rewrite_core.specs.Pruned.{ArePruned}
 use Rattle.rewrite_core.specs.Rewriting.{StandAsTried}
-use Rattle.rewrite_core.specs.Trying.{Tried, all_tried, rewritten}
+use Rattle.rewrite_core.specs.Trying.{Tried, all_tried}
 use Rattle.words.specs.declared.command.Command.TheVariants as commands
 use Rattle.words.specs.declared.command.Options.{Options}
 use Rattle.words.specs.Plain.{HasWords}
@@ -25,8 +28,9 @@ use Rattle.deliveries.specs.Steps.{IsRead}
 use Rattle.plans.specs.Opening.{IsSchemaOf, IsProgramOf}
 use Rattle.verdicts.specs.Reports.{pruned_line}
 use Rattle.qbs.specs.Reports.{report_text}
-use Rattle.qbs.specs.Pruners.{May}
+use Rattle.qbs.specs.Pruners.{May, with_bank}
 use Rattle.qbs.specs.Rewrite.{size_of, budget_of}
+use Rattle.qbs.specs.Store.{IsStoreRead, IsBankOf}
 
 -- the text is one of this program: its tokens have it, how deep they stand left aside
 pub record HasText (text : List ℕ) (p : PlainProgram) : Type 0 where
@@ -34,8 +38,8 @@ pub record HasText (text : List ℕ) (p : PlainProgram) : Type 0 where
   pub lexed : lexed text ≡ Ok tokens
   pub has : IsProgram tokens.list p
 
--- What `rewrite` read, as `schema` and `source`, and what it wrote, as `out` and `rep`.
-pub record IsRewritten (may : May) (size budget : ℕ) (schema source out rep : List ℕ) : Type 0 where
+-- What `rewrite` read, as `schema` and `source`, and as `store` where the words name one, and what it wrote, as `out` and `rep`.
+pub record IsRewritten (may : May) (size budget : ℕ) (schema source : List ℕ) (store : Option (List ℕ)) (out rep : List ℕ) : Type 0 where
   -- the schema's bytes are a schema, and the source's bytes have a well-typed program under it
   pub tables : Schema
   pub program : PlainProgram
@@ -52,24 +56,28 @@ pub record IsRewritten (may : May) (size budget : ℕ) (schema source out rep : 
   pub output : out ≡ patched_text source tries
   -- meaning
   pub keeps : Keeps program written tables
-  -- report: a line for each loop that was tried, and how many candidates were dropped
+  -- report: a line for each loop that was tried, and how many candidates were dropped, by the pruners or by the bank of the store
   pub pruned : ℕ
-  pub counted : ArePruned may.drops may.keeps size tries pruned
+  pub bank : Option (List SmallDb)
+  pub is_bank : IsBankOf tables store bank
+  pub counted : ArePruned (with_bank may bank).drops (with_bank may bank).keeps size tries pruned
   pub report : rep ≡ report_text tries pruned
   -- each loop that is left stands as it was tried, in the program written but for its places
   pub left : PlainProgram
   pub alike : unplaced_program written ≡ unplaced_program left
   pub standing : StandAsTried tries left
 
--- both files were read, and both sinks have grown by what is written
+-- the files were read, and both sinks have grown by what is written
 pub record IsHeadline (files : Given) (may : May) (o : Options) (schema source : List ℕ) (out rep : Change) : Type 0 where
   pub schema_read : List ℕ
   pub source_read : List ℕ
+  pub store_read : Option (List ℕ)
   pub text : List ℕ
   pub lines : List ℕ
   pub read_schema : IsRead files schema most_schema schema_read
   pub read_source : IsRead files source most_source source_read
-  pub is : IsRewritten may (size_of o) (budget_of o) schema_read source_read text lines
+  pub read_store : IsStoreRead files o.store store_read
+  pub is : IsRewritten may (size_of o) (budget_of o) schema_read source_read store_read text lines
   pub wrote_text : Appends out.old out.new text
   pub wrote_lines : Appends rep.old rep.new lines
 
@@ -77,7 +85,7 @@ abbrev pub HasHeadline : Given → May → List (List ℕ) → Change → Change
 HasHeadline files may words out rep result =
     (o : Options) (schema source : List ℕ) → HasWords words (commands.Rewrite o schema source) → result ≡ Status.Ok → IsHeadline files may o schema source out rep
 
--- the report of `rewrite`, or of `prove`, says last that no candidate was dropped
+-- the report of `rewrite`, or of `prove`, says last that no candidate was dropped, where the words name no store
 abbrev pub DropsNone : List (List ℕ) → Change → Status → Type 0
 DropsNone words rep result =
-    (o : Options) (schema source : List ℕ) → HasWords words (commands.Rewrite o schema source) ⊎ HasWords words (commands.Prove o schema source) → result ≡ Status.Ok → (lines : List ℕ) × Appends rep.old rep.new (lines ++ pruned_line 0)
+    (o : Options) (schema source : List ℕ) → HasWords words (commands.Rewrite o schema source) ⊎ HasWords words (commands.Prove o schema source) → o.store ≡ None → result ≡ Status.Ok → (lines : List ℕ) × Appends rep.old rep.new (lines ++ pruned_line 0)

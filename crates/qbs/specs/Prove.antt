@@ -1,5 +1,6 @@
 -- The command `prove`: loops are tried as `rewrite` tries them, and the bundle of those that gave way is written.
-use Rattle.std.specs.Prelude.{◌≡◌, ℕ, List, codes, length}
+use Rattle.std.specs.Prelude.{◌≡◌, ℕ, List, length}
+use Rattle.std.specs.declared.option.Option.{Option}
 use Rattle.qbs_base.specs.Values.{Schema}
 use Rattle.java_ast.specs.Tree.{PlainProgram}
 use Rattle.deriv_check.specs.Bundles.{Entry}
@@ -10,12 +11,11 @@ use Rattle.rewrite_core.specs.Pruned.{ArePruned}
 use Rattle.rewrite_core.specs.Rewriting.{bundle_of}
 use Rattle.rewrite_core.specs.Trying.{all_tried, rewritten}
 use Rattle.words.specs.declared.command.Options.{Options}
-use Rattle.deliveries.specs.Limits.{most_schema, most_source}
 use Rattle.deliveries.specs.declared.plan.Plan.{Plan}
-use Rattle.plans.specs.Opening.{has_schema, has_program}
 use Rattle.deliveries.specs.Plan.{Given}
-use Rattle.deliveries.specs.Steps.{Ends, reads}
-use Rattle.qbs.specs.Pruners.{May}
+use Rattle.deliveries.specs.Steps.{Ends}
+use Rattle.qbs.specs.Pruners.{May, with_bank}
+use Rattle.qbs.specs.Opened.{reads_all, has_all}
 use Rattle.qbs.specs.Rewrite.{size_of, budget_of, IsRewriting, rewriting_plan}
 
 -- an entry for each loop that gives way, in the order of the tries
@@ -34,10 +34,9 @@ pub record Proves (may : May) (tables : Schema) (size budget : ℕ) (p : PlainPr
 
 -- ---- The command
 
--- over the bytes of a schema and a source
-abbrev pub prove_of : May → Options → List ℕ → List ℕ → Ends
-prove_of may o schema source = has_schema schema (λ tables. has_program tables source (λ p. Proves may tables (size_of o) (budget_of o) p))
+-- over the bytes of a schema and a source, and of a store, where there is one
+abbrev pub prove_of : May → Options → List ℕ → List ℕ → Option (List ℕ) → Ends
+prove_of may o schema source store = has_all schema source store (λ tables p bank. Proves (with_bank may bank) tables (size_of o) (budget_of o) p)
 
 abbrev pub prove : Given → May → Options → List ℕ → List ℕ → Ends
-prove files may o schema source =
-    reads files schema most_schema (codes "schema") (λ s. reads files source most_source (codes "source") (λ t. prove_of may o s t))
+prove files may o schema source = reads_all files schema source o.store (λ s t b. prove_of may o s t b)

@@ -1,5 +1,5 @@
 -- The command `rewrite`: the loops of a program are tried, and the source is written with patches in place of those that gave way.
-use Rattle.std.specs.Prelude.{◌≡◌, ℕ, List, codes}
+use Rattle.std.specs.Prelude.{◌≡◌, ℕ, List}
 use Rattle.std.specs.declared.option.Option.{Option}
 use Rattle.std.specs.declared.option.Option.TheVariants.{Some, None}
 use Rattle.qbs_base.specs.declared.status.Status.{Status}
@@ -14,13 +14,12 @@ use Rattle.rewrite_core.specs.Pruned.{ArePruned}
 use Rattle.rewrite_core.specs.Rewriting.{StandAsTried}
 use Rattle.rewrite_core.specs.Trying.{all_tried, rewritten}
 use Rattle.words.specs.declared.command.Options.{Options}
-use Rattle.deliveries.specs.Limits.{most_schema, most_source}
 use Rattle.deliveries.specs.declared.plan.Plan.{Plan}
-use Rattle.plans.specs.Opening.{has_schema, has_program}
 use Rattle.deliveries.specs.Plan.{Given}
-use Rattle.deliveries.specs.Steps.{Ends, reads}
+use Rattle.deliveries.specs.Steps.{Ends}
 use Rattle.qbs.specs.Reports.{report_text}
-use Rattle.qbs.specs.Pruners.{May}
+use Rattle.qbs.specs.Pruners.{May, with_bank}
+use Rattle.qbs.specs.Opened.{reads_all, has_all}
 
 -- ---- Options
 
@@ -59,10 +58,9 @@ pub record Rewrites (may : May) (tables : Schema) (size budget : ℕ) (source : 
 
 -- ---- The command
 
--- over the bytes of a schema and a source
-abbrev pub rewrite_of : May → Options → List ℕ → List ℕ → Ends
-rewrite_of may o schema source = has_schema schema (λ tables. has_program tables source (λ p. Rewrites may tables (size_of o) (budget_of o) source p))
+-- over the bytes of a schema and a source, and of a store, where there is one
+abbrev pub rewrite_of : May → Options → List ℕ → List ℕ → Option (List ℕ) → Ends
+rewrite_of may o schema source store = has_all schema source store (λ tables p bank. Rewrites (with_bank may bank) tables (size_of o) (budget_of o) source p)
 
 abbrev pub rewrite : Given → May → Options → List ℕ → List ℕ → Ends
-rewrite files may o schema source =
-    reads files schema most_schema (codes "schema") (λ s. reads files source most_source (codes "source") (λ t. rewrite_of may o s t))
+rewrite files may o schema source = reads_all files schema source o.store (λ s t b. rewrite_of may o s t b)

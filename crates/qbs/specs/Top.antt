@@ -1,11 +1,13 @@
 -- What the top call promises: a plan that is due is written, and there is one.
 use Rattle.std.specs.Prelude.{◌≡◌, ◌≤◌, ◌⊎◌, ℕ, List, [], ◌∷◌, ◌++◌, IsSome, IfSome, Ok, Bool, true, false}
 use Rattle.std.specs.declared.option.Option.{Option}
+use Rattle.std.specs.declared.option.Option.TheVariants.{Some, None}
 use Rattle.std.specs.Io.KnownBytes.{Appends}
 use Rattle.qbs_base.specs.declared.columns.Table.{Table}
 use Rattle.qbs_base.specs.declared.status.Status.{Status}
 use Rattle.words.specs.declared.command.Command.{Command}
 use Rattle.words.specs.declared.command.Command.TheVariants as commands
+use Rattle.words.specs.declared.command.Options.{Options}
 use Rattle.words.specs.Plain.{HasWords}
 use Rattle.deliveries.specs.declared.plan.Plan.{Plan}
 use Rattle.deliveries.specs.Deliver.{Change, Delivers, IsCut}
@@ -16,6 +18,7 @@ use Rattle.schema.specs.Schemas.{schema_of}
 use Rattle.qbs.specs.Commands.{is_built, HasNoWords, program, IsDue}
 use Rattle.verdicts.specs.Reports.{pruned_line}
 use Rattle.qbs.specs.Pruners.{May}
+use Rattle.qbs.specs.Store.{store_names, IsStoreName}
 
 -- a plan that is due was delivered
 pub record IsDone (files : Given) (may : May) (words : List (List ℕ)) (out rep : Change) (result : Status) : Type 0 where
@@ -33,14 +36,16 @@ pub record CutShort (files : Given) (may : May) (words : List (List ℕ)) (out r
 
 -- the files that a command may read
 abbrev pub MayRead : (List ℕ → Option (List ℕ)) → Command → List ℕ → Type 0
-MayRead told (commands.Rewrite o schema source) name = (name ≡ schema) ⊎ (name ≡ source)
-MayRead told (commands.Prove o schema source) name = (name ≡ schema) ⊎ (name ≡ source)
+MayRead told (commands.Rewrite o schema source) name = (name ≡ schema) ⊎ (name ≡ source) ⊎ IsStoreName o.store name
+MayRead told (commands.Prove o schema source) name = (name ≡ schema) ⊎ (name ≡ source) ⊎ IsStoreName o.store name
 MayRead told (commands.Check o schema source bundle) name = (name ≡ schema) ⊎ (name ≡ source) ⊎ (name ≡ bundle)
 MayRead told (commands.Run o schema source folder method words) name = (name ≡ schema) ⊎ (name ≡ source) ⊎ IsTableFile told schema folder name
 MayRead told (commands.Sql schema folder query) name = (name ≡ schema) ⊎ IsTableFile told schema folder name
 MayRead told (commands.Schema o dump) name = name ≡ dump
 MayRead told (commands.Inline schema source) name = (name ≡ schema) ⊎ (name ≡ source)
 MayRead told (commands.Narrow o schema source) name = (name ≡ schema) ⊎ (name ≡ source)
+MayRead told (commands.Unnest o schema source) name = (name ≡ schema) ⊎ (name ≡ source)
+MayRead told (commands.Gather o schema source) name = (name ≡ schema) ⊎ (name ≡ source)
 MayRead told _ name = ⊥
 
 -- they are told, and none of the reads failed
@@ -64,6 +69,21 @@ Alike p q = (p ≡ q) ⊎ AreAlike p q
 -- where all that is read is told, two plans that are due without want of memory are one but for the number of dropped candidates
 abbrev pub HasOnePlan : Given → May → List (List ℕ) → Type 0
 HasOnePlan files may words = AreTold files words → (p q : Plan) → program files may words p → program files may words q → Alike p q
+
+-- ---- A store
+
+-- The words are those of `rewrite` or of `prove` with a store, and others those of the same command without it.
+pub data AreWithout : Command → Command → Type 0 where
+  rewrite : (o : Options) (schema source name : List ℕ) → o.store ≡ Some name → AreWithout (commands.Rewrite o schema source) (commands.Rewrite (record o { store = None }) schema source)
+  prove : (o : Options) (schema source name : List ℕ) → o.store ≡ Some name → AreWithout (commands.Prove o schema source) (commands.Prove (record o { store = None }) schema source)
+
+-- Where all that is read is told and a plan with a store is due that ends well, the plan that is due without the store is one with it but for
+-- the number of dropped candidates.
+abbrev pub HasNeutralStore : Given → May → List (List ℕ) → Type 0
+HasNeutralStore files may words =
+    AreTold files words
+    → (c d : Command) (others : List (List ℕ)) → HasWords words c → HasWords others d → AreWithout c d
+    → (p q : Plan) → program files may words p → p.status ≡ Status.Ok → program files may others q → AreAlike p q
 
 -- ---- The words
 
@@ -101,14 +121,16 @@ pub record ReadsTablesOf {D : Type 0} (l : Looks D) (folder bytes : List ℕ) (o
 
 -- the files that a command that is built reads, in this order, each once
 abbrev pub ReadsBuilt : {D : Type 0} → Looks D → Command → D → D → Type 0
-ReadsBuilt l (commands.Rewrite o schema source) old new = OnlyReads l (schema ∷ source ∷ []) old new
-ReadsBuilt l (commands.Prove o schema source) old new = OnlyReads l (schema ∷ source ∷ []) old new
+ReadsBuilt l (commands.Rewrite o schema source) old new = OnlyReads l (schema ∷ source ∷ store_names o.store) old new
+ReadsBuilt l (commands.Prove o schema source) old new = OnlyReads l (schema ∷ source ∷ store_names o.store) old new
 ReadsBuilt l (commands.Check o schema source bundle) old new = OnlyReads l (schema ∷ source ∷ bundle ∷ []) old new
 ReadsBuilt l (commands.Run o schema source folder method words) old new = ReadsTables l (schema ∷ source ∷ []) folder schema old new
 ReadsBuilt l (commands.Sql schema folder query) old new = ReadsTables l (schema ∷ []) folder schema old new
 ReadsBuilt l (commands.Schema o dump) old new = OnlyReads l (dump ∷ []) old new
 ReadsBuilt l (commands.Inline schema source) old new = OnlyReads l (schema ∷ source ∷ []) old new
 ReadsBuilt l (commands.Narrow o schema source) old new = OnlyReads l (schema ∷ source ∷ []) old new
+ReadsBuilt l (commands.Unnest o schema source) old new = OnlyReads l (schema ∷ source ∷ []) old new
+ReadsBuilt l (commands.Gather o schema source) old new = OnlyReads l (schema ∷ source ∷ []) old new
 ReadsBuilt l _ old new = OnlyReads l [] old new
 
 -- none are read for what isn't built

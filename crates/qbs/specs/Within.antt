@@ -11,6 +11,8 @@ pub record AreWithin (o : Options) : Type 0 where
 abbrev pub IsWithin : Command → Type 0
 IsWithin (commands.Rewrite o schema source) = AreWithin o
 IsWithin (commands.Prove o schema source) = AreWithin o
+IsWithin (commands.Unnest o schema source) = AreWithin o
+IsWithin (commands.Gather o schema source) = AreWithin o
 IsWithin (commands.Run o schema source folder method words) = AreWithin o
 IsWithin (commands.Make n) = n ≤ 100000
 IsWithin _ = Unit {0}

@@ -4,15 +4,19 @@
 mod check;
 mod clean;
 mod draw;
+mod gather;
 mod inline;
 pub mod laws;
 mod make;
 mod narrow;
+mod opened;
 mod prove;
 mod rewrite;
 mod run;
 mod sql;
+mod stored;
 mod top;
+mod unnest;
 
 pub use clean::qbs_main_over_clean_ends;
 pub use deliveries::fetch::MOST_SCHEMA;

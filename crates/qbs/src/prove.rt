@@ -1,5 +1,5 @@
 // The command `prove`.
-ghost use Rattle.std.specs.Prelude.{◌≡◌, ◌≤◌, ◌++◌, IfOk, length, ◌∷◌, []};
+ghost use Rattle.std.specs.Prelude.{◌≡◌, ◌≤◌, ◌++◌, IfOk, length, ◌∷◌};
 ghost use Rattle.std.specs.List.{flat_map};
 ghost use Rattle.java_ast.specs.Reading.{program as plain_program};
 ghost use Rattle.deriv_check.specs.Bundles.{entries_of};
@@ -10,28 +10,31 @@ ghost use Rattle.deliveries.specs.Limits.{most_source};
 ghost use Rattle.deliveries.specs.Plan.{given};
 ghost use Rattle.deliveries.specs.Reads.{looks, OnlyReads};
 ghost use Rattle.verdicts.specs.Reports.{verdict_line, pruned_line};
-ghost use Rattle.qbs.specs.Pruners.{may};
+ghost use Rattle.qbs.specs.Pruners.{may, with_bank};
 ghost use Rattle.qbs.specs.Prove.{Proves, prove_of, prove};
 ghost use Rattle.qbs.specs.Rewrite.{size_of as size_in, budget_of as budget_in};
+ghost use Rattle.qbs.specs.Store.{store_names};
 ghost use Rattle.qbs.specs.Within.{AreWithin};
 
+use crate::opened::{Fetched, fetch_files, open_files};
 use crate::rewrite::{budget_of, size_of};
+use crate::stored::rewrite_past_store;
 use deliveries::Plan;
-use deliveries::fetch::{Stop, fetch_schema, fetch_source};
+use deliveries::fetch::Stop;
 use deriv_check::print_bundle;
 use files_sinks::Files;
 use java_types::Typed;
 use kernel_lang::{Candidate, KFragment, PruneAnswer};
-use plans::opening::{open_program, open_schema};
+use proof_store::Bank;
 use qbs_base::{Bytes, NoMemory, Status, Text};
 use query_search::Pruner;
-use rewrite_core::{Rewritten, rewrite};
+use rewrite_core::Rewritten;
 use schema::Schema;
 use std::alloc::Global;
 use verdicts::report;
 use words::Options;
 
-/// What is due for the files of a schema and a source.
+/// What is due for the files of a schema and a source, and of the store that the options may name.
 pub fn plan_prove<F: Files>(
     alloc: Global,
     files: &mut F,
@@ -41,39 +44,38 @@ pub fn plan_prove<F: Files>(
     pruners: &[Pruner],
 ) -> Result<Plan, Stop>
     requires { AreWithin options.now }
-    ensures reads { OnlyReads (looks F.told F.faults F.may_fail F.by_read) (schema.now ∷ source.now ∷ []) files.old files.new }
+    ensures reads { OnlyReads (looks F.told F.faults F.may_fail F.by_read) (schema.now ∷ source.now ∷ store_names options.now.store) files.old files.new }
     ensures due { OrMemory result (prove (given F.told F.faults F.may_fail files.old files.new)
         (may (λ p. ⟦<Box<dyn Fn(&KFragment, &Candidate) -> PruneAnswer> as Fn(&KFragment, &Candidate) -> PruneAnswer>⟧.post p.call) pruners.now)
         options.now schema.now source.now) }
 {
-    let schema = fetch_schema(alloc, files, schema)?;
-    let source = fetch_source(alloc, files, source)?;
-    plan_texts(
-        alloc,
-        options,
-        schema.as_slice(),
-        source.as_slice(),
-        pruners,
-    )
+    let fetched = fetch_files(alloc, files, schema, source, &options.store)?;
+    plan_texts(alloc, options, &fetched, pruners)
 }
 
 // What is due for their bytes.
 fn plan_texts(
     alloc: Global,
     options: &Options,
-    schema: &[u8],
-    source: &[u8],
+    files: &Fetched,
     pruners: &[Pruner],
 ) -> Result<Plan, Stop>
     requires within { AreWithin options.now }
-    requires short { length source.now ≤ most_source }
+    requires short { length files.now.source ≤ most_source }
     ensures { OrMemory result (prove_of
         (may (λ p. ⟦<Box<dyn Fn(&KFragment, &Candidate) -> PruneAnswer> as Fn(&KFragment, &Candidate) -> PruneAnswer>⟧.post p.call) pruners.now)
-        options.now schema.now source.now) }
+        options.now files.now.schema files.now.source files.now.store) }
 {
-    let schema = open_schema(alloc, schema)?;
-    let typed = open_program(alloc, &schema, source)?;
-    plan_program(alloc, options, &schema, source, &typed, pruners)
+    let opened = open_files(alloc, files)?;
+    plan_program(
+        alloc,
+        options,
+        &opened.schema,
+        files.source.as_slice(),
+        &opened.typed,
+        pruners,
+        &opened.bank,
+    )
 }
 
 // The bundle of the loops that give way, and the report.
@@ -84,17 +86,18 @@ fn plan_program(
     source: &[u8],
     typed: &Typed,
     pruners: &[Pruner],
+    bank: &Option<Bank>,
 ) -> Result<Plan, Stop>
     requires within { AreWithin options.now }
     requires short { length source.now ≤ most_source }
     requires program { IsProgramOf schema.now source.now (plain_program typed.now.program) }
     ensures { OrMemory result (Proves
-        (may (λ p. ⟦<Box<dyn Fn(&KFragment, &Candidate) -> PruneAnswer> as Fn(&KFragment, &Candidate) -> PruneAnswer>⟧.post p.call) pruners.now)
+        (with_bank (may (λ p. ⟦<Box<dyn Fn(&KFragment, &Candidate) -> PruneAnswer> as Fn(&KFragment, &Candidate) -> PruneAnswer>⟧.post p.call) pruners.now) bank.now)
         schema.now (size_in options.now) (budget_in options.now) (plain_program typed.now.program)) }
 {
     let size = size_of(options);
     let budget = budget_of(options);
-    let rewritten = rewrite(alloc, schema, typed, source, size, budget, pruners)?;
+    let rewritten = rewrite_past_store(alloc, schema, typed, source, size, budget, pruners, bank)?;
     Ok(plan_entries(alloc, &rewritten)?)
 }
 

@@ -20,7 +20,7 @@ use plans::lines::{fault_refused, nowhere, word_refused};
 use plans::opening::{open_query, open_schema};
 use plans::results::output;
 use plans::tables::{TableTexts, fetch_tables, load_tables};
-use qbs_base::{Scalars, Table, Text, Ty, Value};
+use qbs_base::{Scalars, Table, Text, Value};
 use schema::Schema;
 use sql_ast::{Query, order_complete};
 use sql_exec::{Answer, answer_indexed};

@@ -10,15 +10,18 @@ ghost use Rattle.qbs.specs.Commands.{HasNoWords, program, command as command_end
 ghost use Rattle.qbs.specs.Complete.{IsComplete};
 ghost use Rattle.qbs.specs.Draw.{HasDrawn};
 ghost use Rattle.qbs.specs.Evidence.{HasProof, HasCheck};
+ghost use Rattle.qbs.specs.Gather.{HasGathering};
 ghost use Rattle.qbs.specs.Headline.{HasHeadline, DropsNone};
 ghost use Rattle.qbs.specs.Inline.{HasInlining};
 ghost use Rattle.qbs.specs.Narrow.{HasNarrowing};
 ghost use Rattle.qbs.specs.Pruners.{may};
-ghost use Rattle.qbs.specs.Top.{IsDone, CutShort, HasOnePlan, HasReadFault, ReadsAsNamed, ReadsBuilt, ReadsInOrder, Refuses, IsSame};
+ghost use Rattle.qbs.specs.Top.{IsDone, CutShort, HasNeutralStore, HasOnePlan, HasReadFault, ReadsAsNamed, ReadsBuilt, ReadsInOrder, Refuses, IsSame};
+ghost use Rattle.qbs.specs.Unnest.{HasUnnesting};
 ghost use Rattle.qbs.specs.Within.{IsWithin};
 
 use crate::check::plan_check;
 use crate::draw::plan_schema;
+use crate::gather::plan_gather;
 use crate::inline::plan_inline;
 use crate::make::plan_make;
 use crate::narrow::plan_narrow;
@@ -26,12 +29,13 @@ use crate::prove::plan_prove;
 use crate::rewrite::plan_rewrite;
 use crate::run::{Asked, plan_run};
 use crate::sql::plan_sql;
+use crate::unnest::plan_unnest;
 use deliveries::Plan;
 use deliveries::deliver::{deliver, deliver_plan};
 use deliveries::fetch::{Stop, refused};
 use files_sinks::{Files, Sink};
 use kernel_lang::{Candidate, KFragment, PruneAnswer};
-use qbs_base::{Status, Text, Words};
+use qbs_base::{Status, Words};
 use query_search::Pruner;
 use std::alloc::Global;
 use words::{Command, Options, read_words};
@@ -83,10 +87,21 @@ pub fn qbs_main<F: Files, O: Sink, E: Sink>(
     // stay, if that is a text of the narrowed program.
     ensures narrowed { HasNarrowing (given F.told F.faults F.may_fail files.old files.new) words.now (change O.told O.faults O.by_write out.old out.new) (change E.told E.faults E.by_write rep.old rep.new) result }
 
+    // Where `unnest` ends well, what is written does what the program read does. All bytes of the source outside of what gave way stay.
+    ensures unnested { HasUnnesting (given F.told F.faults F.may_fail files.old files.new) words.now (change O.told O.faults O.by_write out.old out.new) (change E.told E.faults E.by_write rep.old rep.new) result }
+
+    // Where `gather` ends well, what is written is the store of the small databases that refute candidates of the program read.
+    ensures gathered { HasGathering (given F.told F.faults F.may_fail files.old files.new) words.now (change O.told O.faults O.by_write out.old out.new) (change E.told E.faults E.by_write rep.old rep.new) result }
+
+    // With a store `rewrite` and `prove` write what they write without it, but for the number of dropped candidates.
+    ensures neutral { HasNeutralStore (given F.told F.faults F.may_fail files.old files.new)
+        (may (λ p. ⟦<Box<dyn Fn(&KFragment, &Candidate) -> PruneAnswer> as Fn(&KFragment, &Candidate) -> PruneAnswer>⟧.post p.call) pruners.now)
+        words.now }
+
     // Where words are plain and all that is read is right, it ends as the command may end then.
     ensures complete { IsComplete (given F.told F.faults F.may_fail files.old files.new) words.now result }
 
-    // With no pruners no candidate is dropped.
+    // With no pruners and no store no candidate is dropped.
     ensures unpruned { pruners.now ≡ [] → DropsNone words.now (change E.told E.faults E.by_write rep.old rep.new) result }
 
     // Words that aren't plain are refused, and nothing is read.
@@ -164,6 +179,8 @@ fn is_built(command: &Command) -> bool
         Command::Schema { .. } => true,
         Command::Inline { .. } => true,
         Command::Narrow { options, .. } => is_plain(options),
+        Command::Unnest { options, .. } => is_plain(options),
+        Command::Gather { options, .. } => is_plain(options),
         _ => false,
     }
 }
@@ -171,7 +188,7 @@ fn is_built(command: &Command) -> bool
 fn is_plain(options: &Options) -> bool
     ensures { result ≡ plain_options options.now }
 {
-    options.store.is_none() && options.view.is_none()
+    options.view.is_none()
 }
 
 // What is due for a command.
@@ -231,6 +248,16 @@ fn plan_built<F: Files>(
         Command::Narrow { schema, source, .. } => {
             plan_narrow(alloc, files, schema, source, pruners)
         }
+        Command::Unnest {
+            options,
+            schema,
+            source,
+        } => plan_unnest(alloc, files, options, schema, source),
+        Command::Gather {
+            options,
+            schema,
+            source,
+        } => plan_gather(alloc, files, options, schema, source),
         Command::Sql {
             schema,
             folder,

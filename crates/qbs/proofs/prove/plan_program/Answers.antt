@@ -4,8 +4,8 @@ use Rattle.qbs.proofs.Proved.{proved_as}
 use Rattle.qbs.proofs.Rewrote.{is_source}
 use Rattle.qbs.proofs.prove.plan_program.Goals as goal
 
-pub rewrite-requires-clause-source : goal.rewrite-requires-clause-source
-rewrite-requires-clause-source g c = is_source c.args.schema.now c.args.source.now (plain_program c.args.typed.now.program) c.requires.program
+pub rewrite_past_store-requires-clause-source : goal.rewrite_past_store-requires-clause-source
+rewrite_past_store-requires-clause-source g c = is_source c.args.schema.now c.args.source.now (plain_program c.args.typed.now.program) c.requires.program
 
 pub returns : goal.returns
 returns g c =

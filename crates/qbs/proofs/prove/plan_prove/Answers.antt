@@ -1,46 +1,19 @@
-use Rattle.std.proofs.Common.{◌≤◌, List, ℕ, length, subst, sym, [], ◌∷◌}
 use Rattle.std.proofs.lemmas.Result.{err_from_is_err_and}
-use Rattle.deliveries.specs.Limits.{most_source}
-use Rattle.deliveries.specs.Plan.{Failed, given}
-use Rattle.deliveries.specs.Reads.{looks}
-use Rattle.deliveries.proofs.Reading.{reads_first, reads_then}
-use Rattle.plans.proofs.Fetched.{failed_later}
-use Rattle.qbs.proofs.Planned.{prove_unread, prove_half_read, prove_read}
+use Rattle.deliveries.specs.Plan.{given}
+use Rattle.qbs.proofs.Beginning.{unread_due, read_due}
 use Rattle.qbs.proofs.prove.plan_prove.Goals as goal
 
-pub returns-in_err-schema-clause-due : goal.returns-in_err-schema-clause-due
-returns-in_err-schema-clause-due g c =
+pub plan_texts-requires-clause-short : goal.plan_texts-requires-clause-short
+plan_texts-requires-clause-short g c = rw c.deref.ensures c.in_ok-fetched.ensures.read.read_source.0
+
+pub returns-in_err-fetched-clause-due : goal.returns-in_err-fetched-clause-due
+returns-in_err-fetched-clause-due g c =
     let p = err_from_is_err_and c.from_residual.result c.from_residual.ensures.1 in
     rw (p.1, p.2)
-    (prove_unread (given g.F.Files.told g.F.Files.faults g.F.Files.may_fail c.args.files.now c.fetch_schema.new.files) _ c.args.options.now c.args.schema.now c.args.source.now c.in_err-schema.field-0.0 c.in_err-schema.ensures.read)
-
-pub returns-in_err-source-clause-due : goal.returns-in_err-source-clause-due
-returns-in_err-source-clause-due g c =
-    let p = err_from_is_err_and c.from_residual-in_err-source.result c.from_residual-in_err-source.ensures.1 in
-    rw (p.1, p.2)
-    (prove_half_read (g.F.Files.told c.args.files.now) (g.F.Files.told c.fetch_schema.new.files) (Failed g.F.Files.faults g.F.Files.may_fail c.args.files.now c.fetch_source.new.files) (Failed g.F.Files.faults g.F.Files.may_fail c.fetch_schema.new.files c.fetch_source.new.files)
-    _ c.args.options.now c.args.schema.now c.args.source.now c.in_ok-schema.schema c.in_err-source.field-0.0
-    c.fetch_schema.ensures.same (failed_later g.F.Files.faults g.F.Files.may_fail c.args.files.now c.fetch_schema.new.files c.fetch_source.new.files c.fetch_schema.ensures.later c.fetch_schema.ensures.fewer)
-    c.in_ok-schema.ensures.read c.in_err-source.ensures.read)
-
-pub plan_texts-requires-clause-short : goal.plan_texts-requires-clause-short
-plan_texts-requires-clause-short g c = subst (λ (bytes : List ℕ). length bytes ≤ most_source) (sym c.as_slice-2.ensures) c.in_ok-source.ensures.read.0
+    (unread_due _ (given g.F.Files.told g.F.Files.faults g.F.Files.may_fail c.args.files.now c.fetch_files.new.files) c.args.schema.now c.args.source.now c.args.options.now.store _ c.in_err-fetched.field-0.0 c.in_err-fetched.ensures.read)
 
 pub returns-clause-due : goal.returns-clause-due
 returns-clause-due g c =
-    prove_read (g.F.Files.told c.args.files.now) (g.F.Files.told c.fetch_schema.new.files) (Failed g.F.Files.faults g.F.Files.may_fail c.args.files.now c.fetch_source.new.files) (Failed g.F.Files.faults g.F.Files.may_fail c.fetch_schema.new.files c.fetch_source.new.files)
-    _ c.args.options.now c.args.schema.now c.args.source.now c.in_ok-schema.schema c.in_ok-source.source c.as_slice.result.now c.as_slice-2.result.now c.plan_texts.result
-    c.fetch_schema.ensures.same c.in_ok-schema.ensures.read c.in_ok-source.ensures.read c.as_slice.ensures c.as_slice-2.ensures c.plan_texts.ensures
-
-pub returns-in_err-schema-clause-reads : goal.returns-in_err-schema-clause-reads
-returns-in_err-schema-clause-reads g c = reads_first (looks g.F.Files.told g.F.Files.faults g.F.Files.may_fail g.F.Files.by_read) c.args.schema.now (c.args.source.now ∷ []) c.args.files.now c.fetch_schema.new.files c.fetch_schema.ensures.once c.fetch_schema.ensures.same c.fetch_schema.ensures.later c.fetch_schema.ensures.fewer
-
-pub returns-in_err-source-clause-reads : goal.returns-in_err-source-clause-reads
-returns-in_err-source-clause-reads g c =
-    reads_then (looks g.F.Files.told g.F.Files.faults g.F.Files.may_fail g.F.Files.by_read) c.args.schema.now (c.args.source.now ∷ []) c.args.files.now c.fetch_schema.new.files c.fetch_source.new.files c.fetch_schema.ensures.once c.fetch_schema.ensures.same c.fetch_schema.ensures.later c.fetch_schema.ensures.fewer
-    (reads_first (looks g.F.Files.told g.F.Files.faults g.F.Files.may_fail g.F.Files.by_read) c.args.source.now [] c.fetch_schema.new.files c.fetch_source.new.files c.fetch_source.ensures.once c.fetch_source.ensures.same c.fetch_source.ensures.later c.fetch_source.ensures.fewer)
-
-pub returns-clause-reads : goal.returns-clause-reads
-returns-clause-reads g c =
-    reads_then (looks g.F.Files.told g.F.Files.faults g.F.Files.may_fail g.F.Files.by_read) c.args.schema.now (c.args.source.now ∷ []) c.args.files.now c.fetch_schema.new.files c.fetch_source.new.files c.fetch_schema.ensures.once c.fetch_schema.ensures.same c.fetch_schema.ensures.later c.fetch_schema.ensures.fewer
-    (reads_first (looks g.F.Files.told g.F.Files.faults g.F.Files.may_fail g.F.Files.by_read) c.args.source.now [] c.fetch_schema.new.files c.fetch_source.new.files c.fetch_source.ensures.once c.fetch_source.ensures.same c.fetch_source.ensures.later c.fetch_source.ensures.fewer)
+    let fetched = c.in_ok-fetched.fetched.value in
+    read_due (given g.F.Files.told g.F.Files.faults g.F.Files.may_fail c.args.files.now c.fetch_files.new.files) c.args.schema.now c.args.source.now c.args.options.now.store _ fetched.schema fetched.source fetched.store c.plan_texts.result c.in_ok-fetched.ensures.read
+    (rw c.deref.ensures at c.plan_texts.ensures)

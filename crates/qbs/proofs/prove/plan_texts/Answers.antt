@@ -1,20 +1,19 @@
 use Rattle.std.proofs.lemmas.Result.{err_from_is_err_and}
 use Rattle.java_ast.specs.Reading.{program as plain_program}
-use Rattle.java_types.specs.declared.checking.Typed.{Typed}
-use Rattle.plans.specs.Opening.{IsProgramOf}
-use Rattle.qbs.proofs.Rewritten.{prove_schema_lacking, prove_program_lacking, prove_found}
+use Rattle.qbs.proofs.Beginning.{unheld_due, held_due}
 use Rattle.qbs.proofs.prove.plan_texts.Goals as goal
 
-pub returns-in_err-schema : goal.returns-in_err-schema
-returns-in_err-schema g c =
-    let p = err_from_is_err_and c.from_residual.result c.from_residual.ensures.1 in
-    rw (p.1, p.2) (prove_schema_lacking _ c.args.options.now c.args.schema.now c.args.source.now c.in_err-schema.field-0.0 c.in_err-schema.ensures)
+pub plan_program-requires-clause-program : goal.plan_program-requires-clause-program
+plan_program-requires-clause-program g c = rw (c.deref.ensures, c.as_slice.ensures, c.deref-2.ensures) c.in_ok-opened.ensures.is_program
 
-pub returns-in_err-typed : goal.returns-in_err-typed
-returns-in_err-typed g c =
-    let p = err_from_is_err_and c.from_residual-in_err-typed.result c.from_residual-in_err-typed.ensures.1 in
+pub returns-in_err-opened : goal.returns-in_err-opened
+returns-in_err-opened g c =
+    let p = err_from_is_err_and c.from_residual.result c.from_residual.ensures.1 in
     rw (p.1, p.2)
-    (prove_program_lacking (λ (t : Typed). IsProgramOf c.in_ok-schema.schema c.args.source.now (plain_program t.program)) _ c.args.options.now c.args.schema.now c.args.source.now c.in_ok-schema.schema c.in_err-typed.field-0.0 c.in_ok-schema.ensures c.in_err-typed.ensures)
+    (unheld_due _ c.args.files.now.schema c.args.files.now.source c.args.files.now.store _ c.in_err-opened.field-0.0 c.in_err-opened.ensures)
 
 pub returns : goal.returns
-returns g c = prove_found _ c.args.options.now c.args.schema.now c.args.source.now c.in_ok-schema.schema (plain_program c.in_ok-typed.typed.program) c.plan_program.result c.in_ok-schema.ensures c.in_ok-typed.ensures c.plan_program.ensures
+returns g c =
+    let opened = c.in_ok-opened.opened.value in
+    held_due c.args.files.now.schema c.args.files.now.source c.args.files.now.store _ opened.schema (plain_program opened.typed.program) opened.bank c.plan_program.result c.in_ok-opened.ensures
+    (rw (c.deref.ensures, c.deref-2.ensures, c.deref-3.ensures) at c.plan_program.ensures)

@@ -57,8 +57,20 @@ returns-in-Narrow-clause-due g c = as_due _ _ c.args.command.now _ c.plan_narrow
 pub returns-in-Narrow-clause-reads : goal.returns-in-Narrow-clause-reads
 returns-in-Narrow-clause-reads g c = as_read _ c.args.command.now _ _ _ c.in-Narrow.is c.plan_narrow.ensures.reads
 
+pub returns-in-Unnest-clause-due : goal.returns-in-Unnest-clause-due
+returns-in-Unnest-clause-due g c = as_due _ _ c.args.command.now _ c.plan_unnest.result c.in-Unnest.is c.plan_unnest.ensures.due
+
+pub returns-in-Unnest-clause-reads : goal.returns-in-Unnest-clause-reads
+returns-in-Unnest-clause-reads g c = as_read _ c.args.command.now _ _ _ c.in-Unnest.is c.plan_unnest.ensures.reads
+
+pub returns-in-Gather-clause-due : goal.returns-in-Gather-clause-due
+returns-in-Gather-clause-due g c = as_due _ _ c.args.command.now _ c.plan_gather.result c.in-Gather.is c.plan_gather.ensures.due
+
+pub returns-in-Gather-clause-reads : goal.returns-in-Gather-clause-reads
+returns-in-Gather-clause-reads g c = as_read _ c.args.command.now _ _ _ c.in-Gather.is c.plan_gather.ensures.reads
+
 pub returns-in_default : goal.returns-in_default
 returns-in_default g c = record {
-  due = other_due (given g.F.Files.told g.F.Files.faults g.F.Files.may_fail c.args.files.now c.args.files.now) _ c.args.command.now c.refused.result c.in_default.not-Rewrite c.in_default.not-Prove c.in_default.not-Check c.in_default.not-Run c.in_default.not-Sql c.in_default.not-Make c.in_default.not-Schema c.in_default.not-Inline c.in_default.not-Narrow c.refused.ensures;
+  due = other_due (given g.F.Files.told g.F.Files.faults g.F.Files.may_fail c.args.files.now c.args.files.now) _ c.args.command.now c.refused.result c.in_default.not-Rewrite c.in_default.not-Prove c.in_default.not-Check c.in_default.not-Run c.in_default.not-Sql c.in_default.not-Make c.in_default.not-Schema c.in_default.not-Inline c.in_default.not-Narrow c.in_default.not-Unnest c.in_default.not-Gather c.refused.ensures;
   reads = none_read (looks g.F.Files.told g.F.Files.faults g.F.Files.may_fail g.F.Files.by_read) c.args.command.now c.args.files.now;
 }

@@ -5,6 +5,9 @@ use Rattle.qbs.proofs.Inlining.{inlined}
 use Rattle.qbs.proofs.Narrowing.{narrowed}
 use Rattle.qbs.proofs.OnePlan.{one_plan}
 use Rattle.qbs.proofs.Promised.{promised, headline, no_one}
+use Rattle.qbs.proofs.Gathering.{gathered}
+use Rattle.qbs.proofs.Neutral.{neutral}
+use Rattle.qbs.proofs.Unnesting.{unnested}
 use Rattle.qbs.proofs.top.qbs_main.Goals as goal
 
 pub returns-clause-one_plan : goal.returns-clause-one_plan
@@ -27,6 +30,15 @@ returns-clause-inlined g c = inlined _ _ _ _ _ _ c.carry_out.ensures.done
 
 pub returns-clause-narrowed : goal.returns-clause-narrowed
 returns-clause-narrowed g c = narrowed _ _ _ _ _ _ c.carry_out.ensures.done
+
+pub returns-clause-unnested : goal.returns-clause-unnested
+returns-clause-unnested g c = unnested _ _ _ _ _ _ c.carry_out.ensures.done
+
+pub returns-clause-gathered : goal.returns-clause-gathered
+returns-clause-gathered g c = gathered _ _ _ _ _ _ c.carry_out.ensures.done
+
+pub returns-clause-neutral : goal.returns-clause-neutral
+returns-clause-neutral g c = neutral _ _ _
 
 pub returns-clause-words : goal.returns-clause-words
 returns-clause-words g c = record {
