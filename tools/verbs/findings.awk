@@ -1,5 +1,5 @@
 # A line for each loop of a source that was read, parted by tabs, and the new text in the file TO; with java.awk, places.awk and patches.awk. A line has
-#  1 line, 2 column, 3 kind (found, outside, none, budget; error comes from faults.awk), 4 rule, 5, 6 line and column that it speaks of, 7 message,
+#  1 line, 2 column, 3 kind (found as FOUND names it, outside, none, budget; error comes from faults.awk), 4 rule, 5, 6 line and column that it speaks of, 7 message,
 #  8, 9 line and column behind the loop, 10 what it walks (table, list), 11 how many (int) its stretch has, 12 lines of comments that are kept, 13 that go,
 #  14 to 17 the place of all that goes with it, 18 what takes its place, 19 to 21 are for faults, 22 columns as characters (of 2, 9, 15 and 17), 23 the pass, where
 #  there is more than one, 24 the method that --inline prints anew, where its place is told instead.
@@ -18,7 +18,7 @@ END {
         if (kind[number] == "found") message[number] = answer(self)
         g = kind[number] == "found" ? stretch_of[self] : 0
         place = g ? token_line[stretch_first[g]] "\t" token_column[stretch_first[g]] "\t" token_last[stretch_last[g]] "\t" token_end[stretch_last[g]] "\t" packed(stretch_text[g]) : "\t\t\t\t"
-        print said_line[number] "\t" said_column[number] "\t" kind[number] "\t" rule[number] "\t" where_line[number] "\t" where_column[number] "\t" message[number] "\t" token_last[last[self]] "\t" token_end[last[self]] "\t" (over_table(self) || g ? "table" : "list") "\t" (g ? casts_of(self) : "") "\t" substr(comments_kept[self], 2) "\t" substr(comments_gone[self], 2) "\t" place "\t\t\t\t" characters(self, g) "\t" ENVIRON["PASS"]
+        print said_line[number] "\t" said_column[number] "\t" (kind[number] == "found" ? ENVIRON["FOUND"] : kind[number]) "\t" rule[number] "\t" where_line[number] "\t" where_column[number] "\t" message[number] "\t" token_last[last[self]] "\t" token_end[last[self]] "\t" (over_table(self) || g ? "table" : "list") "\t" (g ? casts_of(self) : "") "\t" substr(comments_kept[self], 2) "\t" substr(comments_gone[self], 2) "\t" place "\t\t\t\t" characters(self, g) "\t" ENVIRON["PASS"]
     }
     print silenced + 0 >ENVIRON["SILENCED"]
 }

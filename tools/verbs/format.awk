@@ -6,7 +6,7 @@ BEGIN {
 }
 {
     says = $7
-    if ($3 == "found") said = "found" ($11 ? ", and javac wants a long" : "") ": " says going()
+    if ($3 ~ /^(found|unnested)$/) said = $3 ($11 ? ", and javac wants a long" : "") ": " says going()
     else if ($3 == "error") said = "error: " says " [" $4 "]"
     else if ($3 == "outside") said = "outside " $4 " at " $5 ":" $6 ": " says
     else if ($3 == "narrowed") said = "narrowed: " says
@@ -14,7 +14,7 @@ BEGIN {
     else said = $3 == "none" ? says : $3 ": " says
     if ($24 != "") said = said " (at " ($24 == "class" ? "the class" : "the method " $24) ", which --inline prints anew)"
     if (format == "text") {
-        print shown(file, "plain") ":" $1 ":" $2 ": " painted($3 == "error" ? "31" : $3 ~ /^(found|narrowed)$/ ? "32" : "33", shown(said, "plain"))
+        print shown(file, "plain") ":" $1 ":" $2 ": " painted($3 == "error" ? "31" : $3 ~ /^(found|unnested|narrowed)$/ ? "32" : "33", shown(said, "plain"))
         if ($21 != "") show_place()
     } else if (format == "github")
         print "::" ($3 == "error" ? "warning" : "notice") " file=" shown(file, "property") ",line=" $1 ",col=" $2 ",title=qbs::" shown(said cure(), "github")
@@ -91,7 +91,7 @@ function result(    part, where, id) {
     split($22, part, " ")
     where = "{\"uri\":" quoted(uri(file)) "}"
     id = $4 == "" ? $3 : $4
-    return "{\"ruleId\":" quoted(id) ",\"level\":\"" ($3 == "error" ? "warning" : "note") "\",\"message\":{\"text\":" quoted(said cure()) "},\"locations\":[{\"physicalLocation\":{\"artifactLocation\":" where ",\"region\":" region($1, part[1], $8, part[2]) "}}]" ($14 == "" ? "" : ",\"fixes\":[{\"description\":{\"text\":\"the query in place of the " ($3 == "found" ? "loop" : "fetch") "\"},\"artifactChanges\":[{\"artifactLocation\":" where ",\"replacements\":[{\"deletedRegion\":" region($14, part[3], $16, part[4]) ",\"insertedContent\":{\"text\":" quoted(unpacked($18)) "}}]}]}]") "}"
+    return "{\"ruleId\":" quoted(id) ",\"level\":\"" ($3 == "error" ? "warning" : "note") "\",\"message\":{\"text\":" quoted(said cure()) "},\"locations\":[{\"physicalLocation\":{\"artifactLocation\":" where ",\"region\":" region($1, part[1], $8, part[2]) "}}]" ($14 == "" ? "" : ",\"fixes\":[{\"description\":{\"text\":\"the query in place of the " ($3 == "narrowed" ? "fetch" : "loop") "\"},\"artifactChanges\":[{\"artifactLocation\":" where ",\"replacements\":[{\"deletedRegion\":" region($14, part[3], $16, part[4]) ",\"insertedContent\":{\"text\":" quoted(unpacked($18)) "}}]}]}]") "}"
 }
 # A name of a file as a URI: all but letters, digits, `/`, `.`, `_`, `~` and `-` is written as %XX.
 function uri(name,    at, character, out) {

@@ -1,6 +1,7 @@
 # docs/RULES.md as help: a line for each rule, its name and then its prose without the examples, and for `found` what is found.
 BEGIN {
     print "found\tA query that is proved to give what the loop gives, in its place."
+    print "unnested\tOne query that is proved to give what the loop gives, in place of the loop and of the queries that it asks for each row."
     print "narrowed\tA query for the rows that the loop wants, in place of its fetch. The loop stays."
     print "none\tNone of the queries that were tried is proved to give what the loop gives."
     print "budget\tNot all queries were tried."

@@ -1,6 +1,6 @@
 # The findings of all passes, with java.awk: it reads the file, the text that came of it, and a line for each finding, as findings.awk has them, at a place of what its pass
 # read. Each comes with its place in the file, and a fix with what becomes of which bytes of the file. The text goes to the file TO. The files AT.inline.moves,
-# AT.rewrite.moves and AT.narrow.moves say what each pass moved. A method that was printed anew stays as it was where no other pass did anything in it; of each other
+# AT.rewrite.moves, AT.unnest.moves and AT.narrow.moves say what each pass moved. A method that was printed anew stays as it was where no other pass did anything in it; of each other
 # one the file ANEW has a line, with its name and the lines of the comments that go.
 FILENAME == ARGV[1] { take_line($0); next }
 FILENAME == ARGV[2] { came[++came_lines] = $0; next }
@@ -11,17 +11,24 @@ END {
     came[came_lines] = substr(came[came_lines], 1, length(came[came_lines]) - 1)
     read_moves("inline")
     read_moves("rewrite")
+    read_moves("unnest")
     read_moves("narrow")
-    join_moves("inline", "rewrite", "both")
-    join_moves("both", "narrow", "all")
+    join_moves("inline", "rewrite", "before unnest")
+    join_moves("before unnest", "unnest", "before narrow")
+    join_moves("before narrow", "narrow", "all")
     for (number = 1; number <= findings; number++) tell(number)
-    if (!later) later = findings + 1
-    # (those of rewrite come first, and then those of narrow, each in the order of the text)
+    # (those of each pass come in the order of the text, and at one place those of an earlier pass first)
     for (number = 1; number <= findings; number++) {
-        for (; late[number] == "" && later <= findings && is_before(later, number); later++) print out[later]
-        if (late[number] == "") print out[number]
+        if (number == 1 || turn[number] != turn[number - 1]) turns[++groups] = number
     }
-    for (; later <= findings; later++) print out[later]
+    turns[groups + 1] = findings + 1
+    for (number = 1; number <= groups; number++) next_of[number] = turns[number]
+    for (number = 1; number <= findings; number++) {
+        chosen = 0
+        for (group = 1; group <= groups; group++)
+            if (next_of[group] < turns[group + 1] && (!chosen || is_before(next_of[group], next_of[chosen]))) chosen = group
+        print out[next_of[chosen]++]
+    }
     write_all(ENVIRON["TO"])
     if (count["inline"]) tell_anew(ENVIRON["ANEW"])
 }
@@ -102,9 +109,8 @@ function put(to, number, at) {
 
 function tell(number,    field, list, anew, change, at, line) {
     split(finding[number], field, "\t")
-    list = field[23] == "narrow" ? "both" : "inline"
-    if (list == "both" && !later) later = number
-    late[number] = list == "both" ? "late" : ""
+    list = field[23] ~ /^(unnest|narrow)$/ ? "before " field[23] : "inline"
+    turn[number] = list
     # (a method printed anew has one place for all that is in it)
     anew = back(list, field[1], field[2])
     if (anew && of[list, anew] == "") anew = 0

@@ -13,7 +13,7 @@ FILENAME == ARGV[1] {
     # (the lines of the loop, and of all that goes with it, where that is told)
     first[loops] = field[14] ? field[14] : field[1]
     last[loops] = field[16] ? field[16] : field[8] ? field[8] : field[1]
-    if (field[3] !~ /^(found|narrowed)$/) note[field[1]] = note[field[1]] verdict(field[3], field[4], field[5] ":" field[6], field[7])
+    if (field[3] !~ /^(found|unnested|narrowed)$/) note[field[1]] = note[field[1]] verdict(field[3], field[4], field[5] ":" field[6], field[7])
     next
 }
 FILENAME == ARGV[2] {

@@ -1,7 +1,7 @@
 # Of the findings of a file that changed, what is said beside the change: how many loops gave way, how many (int) were put in, and which comments go. With `all` as one
 # line, else only what isn't seen in a diff. With bytes.awk; FILE names the file.
 BEGIN { FS = "\t" }
-$3 == "found" {
+$3 ~ /^(found|unnested)$/ {
     found++
     casts += $11
     if ($13 != "") gone = gone " " $13

@@ -3,6 +3,7 @@ BEGIN {
     FS = "\t"
     split("found none budget error", names, " ")
     title["found"] = "gave way to a query"
+    title["unnested"] = "gave way with the queries that it asked for each row"
     title["narrowed"] = "asks for the rows alone that it wants"
     title["none"] = "none of the queries that were tried"
     title["budget"] = "too many queries to try"
@@ -21,6 +22,7 @@ END {
     for (name in count) if (count[name] > most) most = count[name]
     print "<table class=\"totals\">"
     bar("found", "found")
+    bar("unnested", "found")
     bar("narrowed", "narrowed")
     for (number = 1; number <= 9; number++) bar("K" number, "outside")
     for (number = 1; number in reason; number++) bar(reason[number], "stays")

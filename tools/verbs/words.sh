@@ -93,17 +93,17 @@ fits() {
     schema | stdin-name) [ -n "$2" ] || why="--$1 names a file" ;;
     fail-on)
         for kind in ${2//,/ }; do
-            case $kind in found | narrowed | outside | none | budget | stays | error) ;; *) why="--fail-on has found, narrowed, outside, none, budget, stays and error, parted by commas" ;; esac
+            case $kind in found | unnested | narrowed | outside | none | budget | stays | error) ;; *) why="--fail-on has found, unnested, narrowed, outside, none, budget, stays and error, parted by commas" ;; esac
         done
-        case $2 in *[!a-z,]*) why="--fail-on has found, narrowed, outside, none, budget, stays and error, parted by commas" ;; esac
+        case $2 in *[!a-z,]*) why="--fail-on has found, unnested, narrowed, outside, none, budget, stays and error, parted by commas" ;; esac
         ;;
     all | inline) [ "$2" = yes ] || why="--$1 has no value" ;;
     only)
         for kind in ${2//,/ }; do
-            case $kind in rewrite | narrow) ;; unnest) why="--only: unnest isn't built" ;; *) why=${why:-"--only has rewrite and narrow, parted by commas"} ;; esac
+            case $kind in rewrite | unnest | narrow) ;; *) why="--only has rewrite, unnest and narrow, parted by commas" ;; esac
         done
-        case $2 in *[a-z]*) ;; *) why="--only has rewrite and narrow, parted by commas" ;; esac
-        case $2 in *[!a-z,]*) why="--only has rewrite and narrow, parted by commas" ;; esac
+        case $2 in *[a-z]*) ;; *) why="--only has rewrite, unnest and narrow, parted by commas" ;; esac
+        case $2 in *[!a-z,]*) why="--only has rewrite, unnest and narrow, parted by commas" ;; esac
         ;;
     esac
     [ -z "$why" ]

@@ -9,7 +9,7 @@ take() {
 # outputs AT READ: what the pass at hand makes of a source: a text (AT.made), a report (AT.report) and its status (AT.status).
 outputs() {
     local limits=()
-    [ "$pass" != rewrite ] || limits=("--size=$size" "--candidates=$candidates")
+    case $pass in rewrite | unnest) limits=("--size=$size" "--candidates=$candidates") ;; esac
     "$program" "$pass" ${limits[@]+"${limits[@]}"} -- "$schema_read" "$2" >"$1.made" 2>"$1.report"
     status=$?
     echo "$status" >"$1.status"
@@ -19,34 +19,45 @@ knows() {
     "$program" "$1" -- /dev/null /dev/null >/dev/null 2>&1
     [ $? != 14 ]
 }
-# probe_passes: where narrow is one of the passes whether the program has it, asked once for all files.
+# probe_passes: which of unnest and narrow the program has, asked once for all files that use them, in `known`.
 probe_passes() {
-    local number
-    knows_narrow=
+    local number kind asked=
+    known=rewrite
     if [ -n "${says['0 inline']:-}" ] && ! knows inline; then
         say "$verb: the program has no inline"
         exit 2
     fi
     for number in "${!files[@]}"; do
-        set_for "$number" only rewrite,narrow
-        case ,$value, in *,narrow,*) ;; *) continue ;; esac
-        [ -n "$knows_narrow" ] || ! knows narrow || knows_narrow=yes
-        [ -z "$knows_narrow" ] || return 0
+        set_for "$number" only rewrite,unnest,narrow
+        for kind in unnest narrow; do
+            case ,$value, in *,"$kind",*) ;; *) continue ;; esac
+            case ,$asked, in *,"$kind",*) continue ;; esac
+            asked+=,$kind
+            ! knows "$kind" || known+=,$kind
+        done
+    done
+    for number in "${!files[@]}"; do
         set_for "$number" only ''
-        [ -n "$value" ] || continue
-        say "$verb: the program has no narrow"
-        exit 2
+        for kind in unnest narrow; do
+            case ,$value, in *,"$kind",*) ;; *) continue ;; esac
+            case ,$known, in *,"$kind",*) continue ;; esac
+            say "$verb: the program has no $kind"
+            exit 2
+        done
     done
 }
 # passes_of N: the passes that a file goes through, in `passes`. Where there is but one, and nobody chose it, `passes_said` is empty: nothing says which it is.
 passes_of() {
+    local kind
     passes=()
-    set_for "$1" only "$knows_narrow"
+    set_for "$1" only "${known#rewrite}"
     passes_said=${value:+rewrite}
     [ -z "${says['0 inline']:-}" ] || passes=(inline)
-    set_for "$1" only rewrite,narrow
-    case ,$value, in *,rewrite,*) passes+=(rewrite) ;; esac
-    case ,$value, in *,narrow,*) [ -z "$knows_narrow" ] || passes+=(narrow) ;; esac
+    set_for "$1" only rewrite,unnest,narrow
+    for kind in rewrite unnest narrow; do
+        case ,$value, in *,"$kind",*) ;; *) continue ;; esac
+        case ,$known, in *,"$kind",*) passes+=("$kind") ;; esac
+    done
 }
 
 # whole FILE: its bytes for java.awk, which shows whether a line end stands last. (no byte of a source that is read is 255, and awk wants none that is 0)
@@ -109,7 +120,7 @@ told_by_inline() {
 told_by_narrow() {
     local sole=
     grep -q '^loop ' "$1.report" || return 0
-    case " ${passes[*]} " in *' rewrite '*) ;; *) sole=yes ;; esac
+    case " ${passes[*]} " in *' rewrite '* | *' unnest '*) ;; *) sole=yes ;; esac
     SOLE=$sole MOVES=$1.narrow.moves TO=$1.new SILENCED=$1.silenced awk -f "$verbs/java.awk" -f "$verbs/places.awk" -f "$verbs/patches.awk" -f "$verbs/narrowed.awk" "$rules" "$1.report" <(whole "$1.read") <(whole "$1.made") <(whole "$1.before") >>"$1.findings" || return
     tr '\377' '\000' <"$1.new" >"$1.text"
 }
@@ -121,14 +132,22 @@ joined() {
     mv "$1.joined" "$1.findings" && tr '\377' '\000' <"$1.new" >"$1.text"
 }
 
-# told_by_rewrite AT: what the report says of the loops, and the text with what stands in their place.
+# told_by_rewrite AT, told_by_unnest AT: what the report says of the loops, and the text with what stands in their place.
 told_by_rewrite() {
+    told_by_search "$1" "$passes_said" found
+}
+told_by_unnest() {
+    told_by_search "$1" unnest unnested
+}
+# told_by_search AT PASS KIND: the same, where a loop that gave way is of this kind. A silenced loop is one for all passes, and counts where the first one passes it over.
+told_by_search() {
     local mark=
     grep -q '^loop ' "$1.report" || return 0
     silence "$1" || return
     [ "$(<"$1.status")" = 0 ] || return 0
-    PASS=$passes_said MOVES=$1.rewrite.moves MARK=${mark:+"System.out.println(\"$mark\");"} END_MARK=${mark:+"/*$mark*/"} SHIFTS=${mark:+"$1.shifts"} TO=$1.new SILENCED=$1.silenced KEEP=$keep SIZE=$size CANDIDATES=$candidates \
-        awk -f "$verbs/java.awk" -f "$verbs/places.awk" -f "$verbs/patches.awk" -f "$verbs/findings.awk" "$rules" "$1.report" <(whole "$1.read") <(whole "$1.made") <(whole "$1.before") >"$1.findings" || return
+    PASS=$2 FOUND=$3 MOVES=$1.$pass.moves MARK=${mark:+"System.out.println(\"$mark\");"} END_MARK=${mark:+"/*$mark*/"} SHIFTS=${mark:+"$1.shifts"} TO=$1.new SILENCED=$1.$pass.silenced KEEP=$keep SIZE=$size CANDIDATES=$candidates \
+        awk -f "$verbs/java.awk" -f "$verbs/places.awk" -f "$verbs/patches.awk" -f "$verbs/findings.awk" "$rules" "$1.report" <(whole "$1.read") <(whole "$1.made") <(whole "$1.before") >>"$1.findings" || return
+    [ -s "$1.silenced" ] || mv "$1.$pass.silenced" "$1.silenced"
     tr '\377' '\000' <"$1.new" >"$1.text"
 }
 
@@ -248,7 +267,7 @@ progress() {
     nap 1
     while :; do
         ended=("$room"/*.status)
-        found=$(cat "$room"/*.findings 2>/dev/null | awk -F'\t' '$3 == "found" { count++ } END { print count + 0 }')
+        found=$(cat "$room"/*.findings 2>/dev/null | awk -F'\t' '$3 ~ /^(found|unnested)$/ { count++ } END { print count + 0 }')
         [ -e "${ended[0]}" ] || ended=()
         printf '\r\033[Kqbs %s: %d of %d files, loops found: %d' "$verb" "${#ended[@]}" "${#files[@]}" "$found" >&2
         nap 0.2
