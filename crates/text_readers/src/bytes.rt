@@ -1,5 +1,5 @@
 // Single bytes, words and numbers, from left to right.
-ghost use Rattle.std.specs.Prelude.{◌≡◌, ◌<◌, ◌≤◌, IfOk, length, nat_eq};
+ghost use Rattle.std.specs.Prelude.{◌≡◌, ◌<◌, ◌≤◌, IfOk, IfErr, length, nat_eq};
 ghost use Rattle.readers.specs.Reading.{Gives, first_passes, is_over};
 ghost use Rattle.text_readers.specs.Bytes.{byte_at, word_at, digit_in, below, with_digit as with_digit_of, digits_from, number_at};
 
@@ -34,7 +34,8 @@ pub fn is_over_at(expected: u8, bytes: &[u8]) -> bool
 
 /// What stands behind this byte.
 pub fn byte(expected: u8, bytes: &[u8]) -> Result<&[u8], ReadError>
-    ensures { Gives (λ x. (tt, x.now)) result (byte_at expected bytes.now) }
+    ensures exact { Gives (λ x. (tt, x.now)) result (byte_at expected bytes.now) }
+    ensures no_memory { IfErr result (λ e. e ≡ ReadError.Memory → ⊥) }
 {
     match bytes {
         [first, rest @ ..] if *first == expected => Ok(rest),
@@ -45,7 +46,8 @@ pub fn byte(expected: u8, bytes: &[u8]) -> Result<&[u8], ReadError>
 /// What stands behind these bytes.
 #[tactic(auto, unfolding(crate::specs::Bytes::word_at))]
 pub fn word<'a>(expected: &[u8], bytes: &'a [u8]) -> Result<&'a [u8], ReadError>
-    ensures { Gives (λ x. (tt, x.now)) result (word_at expected.now bytes.now) }
+    ensures exact { Gives (λ x. (tt, x.now)) result (word_at expected.now bytes.now) }
+    ensures no_memory { IfErr result (λ e. e ≡ ReadError.Memory → ⊥) }
 {
     match expected {
         [] => Ok(bytes),
@@ -104,7 +106,8 @@ fn digits(limit: u64, value: u64, bytes: &[u8]) -> (u64, &[u8])
 
 #[tactic(auto, unfolding(crate::specs::Bytes::number_at))]
 fn number_below(limit: u64, bytes: &[u8]) -> Result<(u64, &[u8]), ReadError>
-    ensures { Gives (λ x. (x.0, x.1.now)) result (number_at limit bytes.now) }
+    ensures exact { Gives (λ x. (x.0, x.1.now)) result (number_at limit bytes.now) }
+    ensures no_memory { IfErr result (λ e. e ≡ ReadError.Memory → ⊥) }
 {
     match bytes {
         [] => Err(unexpected(bytes)),
@@ -122,6 +125,7 @@ pub fn number(limit: u64, bytes: &[u8]) -> Result<(u64, &[u8]), ReadError>
     requires { 10 ≤ limit }
     ensures exact { Gives (λ x. (x.0, x.1.now)) result (number_at limit bytes.now) }
     ensures below { IfOk result (λ x. x.0 < limit) }
+    ensures no_memory { IfErr result (λ e. e ≡ ReadError.Memory → ⊥) }
 {
     number_below(limit, bytes)
 }
