@@ -1,11 +1,11 @@
-// How deep the parts of a program may stand in each other, so that what reads and walks them fits a small stack.
+// How deep the parts of a program may stand in each other, so that what reads and walks them fits the stack.
 //
 // The reader calls itself for each statement and each parenthesis that stands in another one, and for each operator of a chain; typing, runs, copies,
 // texts and the drop of a tree go as deep as the tree is. The grammar allows 64 things open at a place and, in each, chains of 64 operators of each
-// rank: trees 12,000 deep. A statement takes up to 2.7 KB of stack, a parenthesis up to 2.3, a call up to 3.1, `||` and what stands in it up to 3.1
-// where a loop's condition becomes one of a query, and any other operator up to 1.0. Here a statement, a block, `||` and `&&` weigh five, a
-// parenthesis four, another operator two and a dot one, and what stands in each other weighs 330 at most: that takes some 210 KB, so that a program
-// with a stack of 256 KB ends with a status.
+// rank: trees 24,000 deep. A statement takes up to 2.7 KB of stack, a parenthesis up to 2.3, a call up to 3.7, and an operator of a chain up to 1.1.
+// Here a statement or a block weighs five, a parenthesis four, a dot three and any other operator two, so that a weight takes half a KB. What stands
+// in each other weighs 10,000 at most, which takes 5.0 MB where it is read and typed, and 1.8 beside the answer of a query that is asked in it. So a
+// program with the usual stack of 8 MB ends with a status and a third of it to spare, and what weighs 330 takes less than 256 KB.
 use java_lex::{Token, TokenNode};
 use qbs_base::NoMemory;
 use std::alloc::Global;
@@ -20,7 +20,7 @@ const STATEMENT: u64 = 5;
 const PARENTHESIS: u64 = 4;
 
 /// What an operator of a rank weighs.
-const OPERATOR: [u64; RANKS] = [5, 5, 2, 2, 2, 2, 2, 1];
+const OPERATOR: [u64; RANKS] = [2, 2, 2, 2, 2, 2, 2, 3];
 
 /// What is open between two parentheses, or in a block outside of them.
 #[derive(Clone, Copy)]

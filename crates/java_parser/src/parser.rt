@@ -138,12 +138,12 @@ pub fn parse_expression(alloc: Global, tokens: &Tokens) -> Result<Expr, Fail<Par
     }
 }
 
-/// Whether reading these tokens, and walking the program, fits a small stack.
+/// Whether reading these tokens, and walking the program, fits the stack.
 fn is_light(alloc: Global, room: u32, tokens: &[Token]) -> bool {
     if room <= DEEPEST {
-        matches!(fits_stack(alloc, tokens, 330, 64, 64), Ok(true))
+        matches!(fits_stack(alloc, tokens, 10_000, 64, 64), Ok(true))
     } else {
-        matches!(fits_stack(alloc, tokens, 352, 512, 8193), Ok(true))
+        matches!(fits_stack(alloc, tokens, 10_100, 512, 8193), Ok(true))
     }
 }
 
@@ -166,8 +166,8 @@ fn whole_program(alloc: Global, room: u32, tokens: &[Token]) -> Result<Program, 
 /// The fault that is kept stands at the first token with which no program goes on, or at the end:
 /// `TooDeep` where one would go on if the token's depth were left aside, else `Unexpected`.
 ///
-/// The stack is memory too, and wants where too much stands in each other: a statement, a block, `||` and `&&` weigh five, an open parenthesis
-/// four, another operator two and a dot one, and a sum of 330 is the most. A stack of 256 KB is enough for all others.
+/// The stack is memory too, and wants where too much stands in each other: a statement and a block weigh five, an open parenthesis four, a dot
+/// three and any other operator two, and a sum of 10,000 is the most. A stack of 8 MB is enough for all others, with a third of it to spare.
 pub fn parse(alloc: Global, tokens: &Tokens) -> Result<Program, Fail<ParseFault>>
     // What is read has these tokens.
     ensures found { IfOk result (λ p. IsReadable tokens.now.list (program_of p)) }
@@ -191,7 +191,7 @@ const ROOMIEST: u32 = 512;
 /// none where they are no program. It reads canonical texts again, in which one parenthesis more may
 /// be open than in the source, and chains may be longer.
 ///
-/// The stack is memory too, and wants where too much stands in each other, as for `parse`: a sum of 352 is the most here.
+/// The stack is memory too, and wants where too much stands in each other, as for `parse`: a sum of 10,100 is the most here.
 pub fn parse_grammar(alloc: Global, tokens: &Tokens) -> Result<Option<Program>, NoMemory>
     // What is read has these tokens.
     ensures found { IfOk result (λ r. IfSome r (λ p. IsProgram tokens.now.list (program_of p))) }

@@ -25,7 +25,7 @@ use schema::Schema;
 use sql_ast::{Query, SqlRule};
 use std::alloc::Global;
 
-/// What a text says. A text whose reading might not fit a small stack is want of memory.
+/// What a text says. A text whose reading might not fit the stack is want of memory.
 fn say(alloc: Global, text: &Text) -> Result<Box<RawQuery>, Stop>
     ensures { Gives (λ q. query_of q.value) result (written_in text.now) }
 {
@@ -68,8 +68,8 @@ pub fn read_length(text: &Text)
 /// Reads the query that a text has under a schema. The fault is the smallest rule that the text
 /// breaks: `BadToken` where it isn't in the grammar, and of a text in the grammar `Unknown`,
 /// `Mismatch`, `BadGroup` or `BadParameter`, whichever comes first. The time that it takes grows
-/// with the text, times the logarithm of how many FROM items there are. A text with more than 32 parentheses open at one time, 256 AND, OR and NOT
-/// or 128 commas is answered by want of memory, so that a stack of 256 KB is enough for all others.
+/// with the text, times the logarithm of how many FROM items there are. A text that weighs more than 7,500 is answered by want of memory, where a
+/// parenthesis weighs five while it is open, and each AND, OR, NOT and comma between FROM items one. So a stack of 8 MB is enough for all others.
 pub fn parse_query(alloc: Global, schema: &Schema, text: &Text) -> Result<Query, Fail<SqlFault>>
     // It answers what reading the text from left to right gives.
     ensures exact { Answers plain_query result (query_of_text schema.now text.now) }
