@@ -17,7 +17,7 @@ use java_mean::{Ending, RunFault};
 use java_steps::gather::gather;
 use java_steps::held::{Held, Variable, value};
 use java_steps::known::Queries;
-use java_steps::machine::Machine;
+use java_steps::machine::{MOST_PRINTED, Machine};
 use java_steps::numbers::Numbers;
 use java_steps::source::Source;
 use java_steps::stop::Stop;
@@ -97,6 +97,7 @@ fn reach<'a>(
             source.numbers.len(),
         )?,
         lines: Texts::new(alloc),
+        room: MOST_PRINTED,
         turns,
         returned: None,
     };
@@ -153,7 +154,7 @@ fn method_at<'a>(typed: &'a Typed, number: u64) -> &'a Method
 /// What the method with this number comes to on these arguments, with so many turns.
 ///
 /// A turn is taken by each member that a for-each comes to and by each true test of a `while`. The
-/// only error is want of memory, and nothing grows with the turns but what the method itself keeps.
+/// only error is want of memory, and nothing grows with the turns but what the method itself keeps. What it prints may take 64 MiB.
 pub fn run_method<'a>(
     alloc: Global,
     schema: &'a Schema,

@@ -25,6 +25,9 @@ use java_mean::Ending;
 use qbs_base::{Name, NoMemory, Row, Scalar, Text, copy_text};
 use std::alloc::Global;
 
+// What a line takes beside its bytes.
+const LINE: u64 = 8;
+
 /// The truth value of a condition.
 #[inline(always)]
 pub fn test<'a>(source: &Source<'a>, cond: &Expr, m: &Machine<'a>) -> Result<bool, Stop>
@@ -223,10 +226,21 @@ fn printed(alloc: Global, x: &Scalar) -> Result<Text, NoMemory>
     }
 }
 
+// What is left of the room for lines behind this one.
+fn room_behind(room: u64, line: &Text) -> Result<u64, NoMemory> {
+    let taken = (line.as_str().len() as u64).saturating_add(LINE);
+    match room.checked_sub(taken) {
+        Some(left) => Ok(left),
+        None => Err(NoMemory),
+    }
+}
+
 fn put_line(alloc: Global, x: &Scalar, m: &mut Machine) -> Result<(), NoMemory>
     ensures { OnOk result (state m.new ≡ meant.with_line (state m.old) (meant.printed x.now)) }
 {
-    m.lines.push(printed(alloc, x)?)?;
+    let line = printed(alloc, x)?;
+    m.room = room_behind(m.room, &line)?;
+    m.lines.push(line)?;
     Ok(())
 }
 
