@@ -2,11 +2,14 @@ pub mod Chosen
 pub mod Coming
 pub mod Computed
 pub mod Finding
+pub mod Folded
 pub mod Groups
+pub mod InOrder
 pub mod Inner
 pub mod Judged
 pub mod Narrowing
 pub mod Listed
+pub mod Putting
 pub mod Sorted
 pub mod Steps
 pub mod Walked

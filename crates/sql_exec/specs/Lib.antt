@@ -1,4 +1,5 @@
 pub mod Found
+pub mod Folds
 pub mod Answered
 pub mod Early
 pub mod Narrows

@@ -16,5 +16,5 @@ pub use columns::{cell_at, cell_of, column, is_next, place_at, table_rows};
 pub use compare::value_order;
 pub use grouping::first_values;
 pub use place::{Cell, Keyed, Lookup, Place};
-pub use sorting::sort_and_cut;
+pub use sorting::{leave_first, sort_and_cut};
 pub use sums::{is_long, sum};

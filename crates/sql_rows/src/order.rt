@@ -32,7 +32,7 @@ fn key_order(key: &SqlKey, c: &[Place], d: &[Place]) -> Ordering
 }
 
 /// The order of two combinations by keys, the first key first.
-fn order(keys: &[SqlKey], c: &[Place], d: &[Place]) -> Ordering
+pub fn order(keys: &[SqlKey], c: &[Place], d: &[Place]) -> Ordering
     ensures { is_lt result ≡ before keys.now (combination c.now) (combination d.now) }
 {
     for key in keys {
