@@ -3,5 +3,7 @@ pub mod Literals
 pub mod Chosen
 pub mod Adding
 pub mod Small
+pub mod Endings
+pub mod Remembered
 pub mod Pruned
 pub mod Worked

@@ -3,19 +3,21 @@
 
 mod cells;
 mod choice;
+mod endings;
 mod entries;
 mod fitting;
 pub mod laws;
 mod literals;
 mod made;
-mod pruning;
-mod refute;
+mod readied;
+mod remembering;
 mod small;
 mod tables;
 mod values;
 
+pub use endings::{Endings, ending, refutes_by};
 pub use fitting::fits;
 pub use made::{small_db_at, small_dbs};
-pub use pruning::prune;
-pub use refute::refutes;
+pub use readied::one_refutes;
+pub use remembering::Remembering;
 pub use small::{SmallDb, SmallDbs};
