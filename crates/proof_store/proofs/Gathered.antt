@@ -3,15 +3,12 @@ use Rattle.std.proofs.Common.{◌≡◌, ◌↔◌, IsTrue, ℕ, zero, suc, ◌+
 use Rattle.std.specs.Prelude.{slice_index_or, OnOk, IfSome}
 use Rattle.std.specs.declared.result.Result.{Result}
 use Rattle.std.specs.declared.result.Result.TheVariants.{Ok, Err}
-use Rattle.std.specs.List.{AllByRecursion, Contains, list_all}
+use Rattle.std.specs.List.{Contains, list_all}
 use Rattle.qbs_base.specs.Values.{Schema}
-use Rattle.kernel_lang.specs.Fitting.{PartsFit}
 use Rattle.kernel_lang.specs.Plain.{Fragment}
-use Rattle.kernel_lang.specs.Typed.{is_typed}
 use Rattle.kernel_lang.specs.Refuted.{Refutes}
 use Rattle.small_dbs.specs.declared.small.SmallDb.{SmallDb}
 use Rattle.small_dbs.specs.Small.{small, smalls}
-use Rattle.small_dbs.proofs.Fitted.{small_fits}
 use Rattle.templates.specs.Numbered.{candidates_of}
 use Rattle.proof_store.specs.Banks.{Refuses, Puts, put, refused}
 use Rattle.proof_store.specs.Gathering.{IsFirst, none, here, later, PutsIf, Gathers}
@@ -216,9 +213,3 @@ module _ (schema : Schema) (f : Fragment) (size : ℕ) where
 
   pub one_put : {A E : Type 0} (k n : ℕ) (items end : List SmallDb) (marks : List Bool) (r : Result A E) → n ≡ 1 → OnOk r (ArePut schema f size k 1 items end marks) → OnOk r (ArePut schema f size k n items end marks)
   one_put k n items end marks r e h = subst (λ (m : ℕ). OnOk r (ArePut schema f size k m items end marks)) (sym e) h
-
--- the eight fit
-pub all_fit : (schema : Schema) (f : Fragment) (own : List SmallDb) → own ≡ smalls schema f → is_typed schema f ≡ true → AllByRecursion (λ (s : SmallDb). PartsFit f s.db s.entry) own
-all_fit schema f own e t =
-    subst (AllByRecursion (λ (s : SmallDb). PartsFit f s.db s.entry)) (sym e)
-    (small_fits schema f 0 t, (small_fits schema f 1 t, (small_fits schema f 2 t, (small_fits schema f 3 t, (small_fits schema f 4 t, (small_fits schema f 5 t, (small_fits schema f 6 t, (small_fits schema f 7 t, tt))))))))

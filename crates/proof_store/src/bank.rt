@@ -1,16 +1,11 @@
 // A bank of small databases.
-ghost use Rattle.std.specs.Prelude.{◌≡◌, [], List, false, true, IfOk, OnErr, ◌↔◌, IsTrue};
-ghost use Rattle.kernel_lang.specs.Pools.{IsCandidateOf};
-ghost use Rattle.kernel_lang.specs.Whole.{fragment_of};
+ghost use Rattle.std.specs.Prelude.{◌≡◌, [], List, false, true, IfOk, OnErr, ◌↔◌};
 ghost use Rattle.small_dbs.specs.declared.small.SmallDb.{SmallDb as Item};
-ghost use Rattle.small_dbs.specs.Pruned.{OneRefutes};
 ghost use Rattle.proof_store.specs.Banks.{Puts, Refuses};
 ghost use Rattle.proof_store.specs.Grammar.{IsStored};
 ghost use Rattle.proof_store.specs.Limits.{is_within};
 
-use crate::asked::one_refutes;
 use crate::same::{are_numbered, refuses};
-use kernel_lang::{Candidate, KFragment};
 use qbs_base::{Items, NoMemory};
 use small_dbs::{SmallDb, SmallDbs};
 use std::alloc::Global;
@@ -72,19 +67,5 @@ impl Bank {
         }
         self.items.push(item)?;
         Ok(true)
-    }
-
-    /// Whether some item refutes a candidate of a fragment: the parts of the fragment fit it, and it ends there, not as the candidate claims.
-    /// Only want of memory is an error.
-    pub fn refutes(
-        &self,
-        alloc: Global,
-        frag: &KFragment,
-        cand: &Candidate,
-    ) -> Result<bool, NoMemory>
-        requires { IsCandidateOf (fragment_of frag.now) cand.now }
-        ensures exact { IfOk result (λ b. IsTrue b ↔ OneRefutes (fragment_of frag.now) cand.now self.now) }
-    {
-        one_refutes(alloc, frag, cand, self.items.as_slice())
     }
 }

@@ -1,10 +1,10 @@
 // What the candidates of a fragment leave in a bank.
-ghost use Rattle.std.specs.Prelude.{◌≡◌, ◌+◌, ◌≤◌, ◌<◌, ◌^◌, IsTrue, Some, true, false, replicate, take, length, slice_get, IfOk, IfSome, OnOk};
+ghost use Rattle.std.specs.Prelude.{◌≡◌, ◌+◌, ◌≤◌, ◌<◌, ◌^◌, IsTrue, Some, true, false, replicate, take, length, slice_get, map, IfOk, IfSome, OnOk};
 ghost use Rattle.std.specs.List.{AllByRecursion};
-ghost use Rattle.kernel_lang.specs.Fitting.{PartsFit};
 ghost use Rattle.kernel_lang.specs.Pools.{IsCandidateOf};
 ghost use Rattle.kernel_lang.specs.Typed.{is_typed};
 ghost use Rattle.kernel_lang.specs.Whole.{fragment_of};
+ghost use Rattle.small_dbs.specs.Endings.{ending as ending_of};
 ghost use Rattle.small_dbs.specs.Small.{small};
 ghost use Rattle.templates.specs.Numbered.{candidates_of};
 ghost use Rattle.proof_store.specs.Banks.{Puts};
@@ -16,9 +16,9 @@ use crate::bank::Bank;
 use crate::searched::Searched;
 use crate::within::is_within;
 use kernel_lang::{Candidate, KFragment};
-use qbs_base::NoMemory;
+use qbs_base::{Items, NoMemory, Values};
 use schema::Schema;
-use small_dbs::{SmallDb, refutes, small_db_at, small_dbs};
+use small_dbs::{Endings, SmallDb, ending, refutes_by, small_db_at, small_dbs};
 use std::alloc::Global;
 use templates::nth;
 
@@ -31,28 +31,32 @@ fn candidate(searched: Searched, k: u64) -> Result<Candidate, NoMemory>
     nth(searched.alloc, searched.frag, k)
 }
 
-// The number of the first of these that refutes a candidate.
+// The number of the first of these that refutes a candidate, by what the fragment ends with on each.
 fn first_refuting(
     searched: Searched,
     cand: &Candidate,
     smalls: &[SmallDb],
+    ends: &[Option<Values>],
 ) -> Result<Option<usize>, NoMemory>
     requires candidate { IsCandidateOf (fragment_of searched.frag.now) cand.now }
-    requires fit { AllByRecursion (λ small. PartsFit (fragment_of searched.frag.now) small.db small.entry) smalls.now }
+    requires ended { ends.now ≡ map (ending_of (fragment_of searched.frag.now)) smalls.now }
     ensures first { IfOk result (λ o. IsFirst (fragment_of searched.entry.frag.now) cand.now smalls.now (item_at smalls.now o)) }
     ensures within { IfOk result (λ o. IfSome o (λ d. d < length smalls.now)) }
 {
     match smalls.split_first() {
         None => Ok(None),
-        Some((small, rest)) => {
-            if refutes(searched.alloc, searched.frag, cand, small)? {
-                return Ok(Some(0));
+        Some((small, rest)) => match ends.split_first() {
+            None => unreachable!(),
+            Some((end, others)) => {
+                if refutes_by(searched.alloc, searched.frag, cand, small, end)? {
+                    return Ok(Some(0));
+                }
+                match first_refuting(searched, cand, rest, others)? {
+                    None => Ok(None),
+                    Some(d) => Ok(Some(d + 1)),
+                }
             }
-            match first_refuting(searched, cand, rest)? {
-                None => Ok(None),
-                Some(d) => Ok(Some(d + 1)),
-            }
-        }
+        },
     }
 }
 
@@ -113,7 +117,7 @@ fn gather_one(
     ensures put { OnOk result (ArePut searched.entry.schema.now (fragment_of searched.entry.frag.now) searched.entry.size k 1 bank.old bank.new marks.new.items) }
 {
     let cand = candidate(searched, k)?;
-    match first_refuting(searched, &cand, searched.smalls)? {
+    match first_refuting(searched, &cand, searched.smalls, searched.ends)? {
         None => Ok(()),
         Some(d) => put_small(searched, d, marks, bank),
     }
@@ -145,6 +149,17 @@ fn gather_part(
     gather_part(searched, k + half, n - half, marks, bank)
 }
 
+// What a fragment ends with on each of these.
+fn all_endings(alloc: Global, frag: &KFragment, smalls: &[SmallDb]) -> Result<Endings, NoMemory>
+    ensures { IfOk result (λ all. all ≡ map (ending_of (fragment_of frag.now)) smalls.now) }
+{
+    let mut all = Items::new(alloc);
+    for small in smalls {
+        all.push(ending(alloc, frag, small)?)?;
+    }
+    Ok(all)
+}
+
 /// Of each of the first candidates of a fragment of at most `size` formulas, so many in their order, puts the first of the fragment's small
 /// databases that refutes it, where there is one. What is in the bank stays, each item once, up to 256. Only want of memory is an error.
 pub fn gather(
@@ -162,6 +177,7 @@ pub fn gather(
     ensures items { AllByRecursion (IsItemOf schema.now) bank.old → OnOk result (AllByRecursion (IsItemOf schema.now) bank.new) }
 {
     let all = small_dbs(alloc, schema, frag)?;
+    let ends = all_endings(alloc, frag, all.as_slice())?;
     let mut marks = no_marks(alloc)?;
     let searched = Searched {
         alloc,
@@ -169,6 +185,7 @@ pub fn gather(
         frag,
         size,
         smalls: all.as_slice(),
+        ends: ends.as_slice(),
     };
     gather_part(searched, 0, before, &mut marks, bank)
 }

@@ -13,7 +13,7 @@ mod same;
 mod searched;
 mod within;
 
-pub use asked::answer;
+pub use asked::{AskedBank, Held};
 pub use bank::Bank;
 pub use fault::StoreFault;
 pub use gathering::gather;

@@ -1,4 +1,5 @@
-use Rattle.std.proofs.Common.{◌≡◌, ◌∙◌, Bool, true, not, List, take, refl, sym, subst}
+use Rattle.std.proofs.Common.{◌≡◌, ◌∙◌, Bool, true, not, List, map, take, refl, sym, ap, subst}
+use Rattle.small_dbs.specs.Endings.{ending}
 use Rattle.std.specs.List.{list_all}
 use Rattle.kernel_lang.specs.Whole.{fragment_of}
 use Rattle.templates.specs.Numbered.{candidates_of}
@@ -7,7 +8,13 @@ use Rattle.proof_store.proofs.OneType.{items_gathered}
 use Rattle.proof_store.proofs.gathering.gather.Goals as goal
 
 pub invariant_of-searched : goal.invariant_of-searched
-invariant_of-searched c = record { low = c.requires.size; typed = c.requires.typed; own = c.as_slice.ensures ∙ c.in_ok-all.ensures.exact }
+invariant_of-searched c =
+    record {
+      low = c.requires.size;
+      typed = c.requires.typed;
+      own = c.as_slice-2.ensures ∙ c.in_ok-all.ensures.exact;
+      ended = c.as_slice-3.ensures ∙ c.in_ok-ends.ensures ∙ ap (map (ending (fragment_of c.args.frag.now))) (c.as_slice.ensures ∙ sym c.as_slice-2.ensures);
+    }
 
 pub gather_part-requires-clause-marked : goal.gather_part-requires-clause-marked
 gather_part-requires-clause-marked c = unmarked c.args.schema.now (fragment_of c.args.frag.now) c.args.bank.now c.in_ok-marks.marks.items (subst (λ (ms : List Bool). list_all not ms ≡ true) (sym c.in_ok-marks.ensures) refl)

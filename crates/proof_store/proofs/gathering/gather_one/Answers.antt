@@ -1,5 +1,5 @@
 use Rattle.kernel_lang.specs.Whole.{fragment_of}
-use Rattle.proof_store.proofs.Gathered.{none_put, some_put, below_eight, all_fit}
+use Rattle.proof_store.proofs.Gathered.{none_put, some_put, below_eight}
 use Rattle.proof_store.proofs.gathering.gather_one.Goals as goal
 
 pub returns-in-None-clause-put : goal.returns-in-None-clause-put
@@ -17,6 +17,3 @@ returns-clause-put c =
     c.args.searched.own
     (below_eight c.args.searched.schema.now (fragment_of c.args.searched.frag.now) c.args.searched.size c.args.searched.smalls.now _ c.in-Some.d c.args.searched.own c.in-Some.is c.in_ok-first_refuting.ensures.within) c.in_ok-cand.ensures.exact
     c.in-Some.is c.in_ok-first_refuting.ensures.first c.put_small.ensures.puts c.put_small.ensures.marked
-
-pub first_refuting-requires-clause-fit : goal.first_refuting-requires-clause-fit
-first_refuting-requires-clause-fit c = all_fit c.args.searched.schema.now (fragment_of c.args.searched.frag.now) c.args.searched.smalls.now c.args.searched.own c.args.searched.typed
