@@ -1,0 +1,4 @@
+use Rattle.view_shapes.proofs.blocks.+add_inner.Given as goal
+
+abbrev pub decreases-add_inner : goal.decreases-add_inner
+decreases-add_inner l = l.levels

@@ -1,0 +1,7 @@
+pub mod Blocks
+pub mod Found
+pub mod Members
+pub mod Mentions
+pub mod Statements
+pub mod Uses
+pub mod Worked
