@@ -1,0 +1,11 @@
+pub mod Constants
+pub mod Fetches
+pub mod Keys
+pub mod Maps
+pub mod Patterns
+pub mod Reading
+pub mod RuleNames
+pub mod Tables
+pub mod Templates
+pub mod Words
+pub mod Worked
