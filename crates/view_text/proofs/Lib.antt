@@ -1,0 +1,9 @@
+pub mod Steps
+pub mod Placed
+pub mod Fronts
+pub mod Pieces
+pub mod Alone
+pub mod TokensRead
+pub mod Holding
+pub mod TokenCells
+pub mod WorkedText

@@ -1,0 +1,4 @@
+pub mod Roles
+pub mod Layout
+pub mod Tokens
+pub mod Worked
