@@ -14,12 +14,13 @@ ghost use Rattle.qbs.specs.Pruners.{may, with_bank};
 
 use java_types::Typed;
 use kernel_lang::{Candidate, KFragment, PruneAnswer};
-use proof_store::{Bank, answer};
+use proof_store::{AskedBank, Bank, Held};
 use qbs_base::NoMemory;
 use query_search::{Extra, Pruner};
 use rewrite_core::{Rewritten, rewrite, rewrite_with};
 use schema::Schema;
 use std::alloc::Global;
+use std::marker::Brand;
 
 // With a closure that answers as the bank does.
 fn rewrite_stored<F: Fn(&KFragment, &Candidate) -> PruneAnswer>(
@@ -52,7 +53,8 @@ fn rewrite_stored<F: Fn(&KFragment, &Candidate) -> PruneAnswer>(
     rewrite_with(alloc, schema, typed, source, size, budget, pruners, extra)
 }
 
-fn rewrite_by_bank(
+// With what the bank holds as picked.
+fn rewrite_by_bank<B: Held>(
     alloc: Global,
     schema: &Schema,
     typed: &Typed,
@@ -66,17 +68,19 @@ fn rewrite_by_bank(
     requires source { IsSourceOf source.now (plain_program typed.now.program) }
     requires size { size ≤ 8 }
     requires budget { budget ≤ 1000000 }
+    requires held { bank.now ≡ B.items }
     ensures { IfOk result (
         IsRewritingOf
         (with_bank (may (λ p. ⟦<Box<dyn Fn(&KFragment, &Candidate) -> PruneAnswer> as Fn(&KFragment, &Candidate) -> PruneAnswer>⟧.post p.call) pruners.now) (Some bank.now)).drops
         (with_bank (may (λ p. ⟦<Box<dyn Fn(&KFragment, &Candidate) -> PruneAnswer> as Fn(&KFragment, &Candidate) -> PruneAnswer>⟧.post p.call) pruners.now) (Some bank.now)).keeps
         schema.now size budget source.now (plain_program typed.now.program)) }
 {
+    let own = AskedBank::<B>::new(bank);
     let ask = |asked: &KFragment, cand: &Candidate|
         requires { IsCandidateOf (fragment_of asked.now) cand.now }
-        ensures exact { IsAnswered (fragment_of asked.now) cand.now bank.entry.now result }
+        ensures exact { IsAnswered (fragment_of asked.now) cand.now B.items result }
         ensures justified { result ≡ answers.Drop → ∥ IsRefuted (fragment_of asked.now) cand.now ∥₁ }
-    { answer(alloc, bank, asked, cand) };
+    { own.answer(alloc, asked, cand) };
     let extra = Extra::new(ask);
     rewrite_stored(
         alloc, schema, typed, source, size, budget, pruners, &extra, bank,
@@ -107,6 +111,8 @@ pub fn rewrite_past_store(
 {
     match bank {
         None => rewrite(alloc, schema, typed, source, size, budget, pruners),
-        Some(bank) => rewrite_by_bank(alloc, schema, typed, source, size, budget, pruners, bank),
+        Some(bank) => rewrite_by_bank::<Brand>(
+            alloc, schema, typed, source, size, budget, pruners, bank,
+        ),
     }
 }

@@ -17,8 +17,9 @@ use query_search::{Call, Pruner};
 use read_once::ReadOnce;
 use schema::Schema;
 use schema_text::parse_schema;
-use small_dbs::prune;
+use small_dbs::Remembering;
 use std::alloc::Global;
+use std::cell::Cell;
 use std::process::ExitCode;
 use std::rt::Env;
 use std::{env, io};
@@ -43,6 +44,25 @@ fn schema_of(alloc: Global, answer: &ReadAnswer) -> Option<Schema> {
     }
 }
 
+// What a pruner answers that is out of its cell while it is asked, and put back behind that: so it is there each time.
+fn ask_kept(
+    alloc: Global,
+    kept: &Cell<Option<Remembering>>,
+    frag: &KFragment,
+    cand: &Candidate,
+) -> PruneAnswer
+    requires { IsCandidateOf (fragment_of frag.now) cand.now }
+    ensures { result ≡ answers.Drop → ∥ IsRefuted (fragment_of frag.now) cand.now ∥₁ }
+{
+    let Some(own) = kept.take() else {
+        return PruneAnswer::Keep;
+    };
+    let mut own = own;
+    let answer = own.ask(alloc, frag, cand);
+    kept.set(Some(own));
+    answer
+}
+
 // The pruner over a schema, where there is memory for it.
 fn pruned<F: Files, O: Sink, E: Sink>(
     alloc: Global,
@@ -52,10 +72,11 @@ fn pruned<F: Files, O: Sink, E: Sink>(
     out: &mut O,
     rep: &mut E,
 ) -> Status {
+    let kept = Cell::new(Some(Remembering::new(alloc, schema)));
     let ask = move |frag: &KFragment, cand: &Candidate|
         requires { IsCandidateOf (fragment_of frag.now) cand.now }
         ensures { result ≡ answers.Drop → ∥ IsRefuted (fragment_of frag.now) cand.now ∥₁ }
-    { prune(alloc, &schema, frag, cand) };
+    { ask_kept(alloc, &kept, frag, cand) };
     match Box::new(alloc, ask) {
         Ok(boxed) => {
             let call: Call = boxed;
