@@ -13,7 +13,11 @@ trap '' XFSZ
 # (what the verbs make stands in a folder of TMPDIR, and its names are words of awk and diff: from / on they are never options)
 case ${TMPDIR-} in '' | /*) ;; *) export TMPDIR=$PWD/$TMPDIR ;; esac
 
-say() { printf 'qbs: %s\n' "$1" >&2; }
+# ends LINE: with a line, where it can be written, and 70.
+ends() {
+    printf 'qbs: %s\n' "$1" >&2 || :
+    exit 70
+}
 [ "$#" != 0 ] || { "$top/tools/verbs/help" >&2; exit 2; }
 case $1 in
 help | -h | --help) shift && exec "$top/tools/verbs/help" "$@" ;;
@@ -21,7 +25,7 @@ help | -h | --help) shift && exec "$top/tools/verbs/help" "$@" ;;
 esac
 case $1 in '' | *[!a-z]*) ;; *) case ${2-} in -h | --help) [ ! -f "$top/tools/help/$1.txt" ] || exec "$top/tools/verbs/help" "$1" ;; esac ;; esac
 if [ "$*" = build ]; then
-    [ -d "$top/crates" ] || { say 'there are no sources here to build from, and release/ has the program'; exit 70; }
+    [ -d "$top/crates" ] || ends 'there are no sources here to build from, and release/ has the program'
     exec "$top/tools/build"
 fi
 
@@ -32,38 +36,24 @@ case $1 in lint | diff | apply | page)
     shift
     ;;
 esac
-answer() { exec -- ${verb:+"$verb"} "$@"; }
-
-if [ -n "${QBS_PROGRAM:-}" ]; then
-    if ! program=$(type -P -- "$QBS_PROGRAM") || [ ! -f "$program" ]; then
-        say 'QBS_PROGRAM names no program'
-        exit 70
-    fi
-    # (also where it comes back here by a script of its own)
-    if [ "$(readlink -f -- "$program")" = "$self" ] || [ -n "${QBS_ASKED:-}" ]; then
-        say 'QBS_PROGRAM names the launcher, or what runs it again, and has to name a program'
-        exit 70
-    fi
-    export QBS_ASKED=1
-    answer "$program" "$@"
-fi
+# answer WORD..: the program, or the verb with it, in place of this shell.
+answer() {
+    shopt -s execfail
+    exec -- ${verb:+"$verb"} "$program" "$@" || ends "$program can't be run"
+}
 
 # shellcheck source=tools/choose.sh
 . "$top/tools/choose.sh"
 case $chosen in
-proved) answer "$program" "$@" ;;
-unlike)
-    say "$program is not the program that the SUM beside it names, so it doesn't run"
-    exit 70
-    ;;
+named) QBS_ASKED=1 && export QBS_ASKED && answer "$@" ;;
+misnamed) ends "$why" ;;
+proved) answer "$@" ;;
+unlike) ends "$program is not the program that the SUM beside it names, so it doesn't run" ;;
+barred) ends "$program may not be executed here, by its rights or by those of its disk" ;;
 esac
-if ! command -v rt >/dev/null; then
-    say 'this source has no program yet, and rt, which builds it, is not on the path'
-    exit 70
-fi
-if [ -n "$verb" ]; then
-    say 'this source has no proved program yet: ./qbs build makes it, and QBS_PROGRAM may name another'
-    exit 70
-fi
-say 'an unproved build of this source answers, in a minute; ./qbs build proves it and keeps the program'
-answer "$top/tools/try" "$@"
+[ -d "$top/crates" ] || ends 'release/ has no program with its SUM, and there are no sources to build one from'
+command -v rt >/dev/null || ends 'this source has no program yet, and rt, which builds it, is not on the path'
+[ -z "$verb" ] || ends 'this source has no proved program yet: ./qbs build makes it, and QBS_PROGRAM may name another'
+printf 'qbs: %s\n' 'an unproved build of this source answers, in a minute; ./qbs build proves it and keeps the program' >&2
+program=$top/tools/try
+answer "$@"

@@ -28,7 +28,21 @@ to_out() {
     [ "$?" != 141 ] || exit 141
     broken "${1##*/}"
 }
-for tool in awk cmp cp diff grep head mktemp tr; do
+# has WORD..: whether grep finds it; alike FILE FILE: whether two files are. One that can't tell is the end, for the file that is tried (`at`) too.
+has() {
+    grep "$@"
+    told "$?" grep
+}
+alike() {
+    cmp -s -- "$1" "$2"
+    told "$?" cmp
+}
+told() {
+    case $1 in 0 | 1) return "$1" ;; esac
+    [ -z "${at-}" ] || echo broken >"$at.status"
+    broken "$2"
+}
+for tool in awk cat cmp cp cut diff grep head mktemp mv sed sort tail tr; do
     command -v "$tool" >/dev/null || broken "$tool"
 done
 

@@ -144,6 +144,12 @@ add_file() {
     local pattern
     settings_of "$1"
     while [ -n "${says["$found leave-out"]:-}" ] && IFS= read -r pattern; do
+        # (nothing but * stands for other bytes)
+        # shellcheck disable=SC1003
+        pattern=${pattern//'\'/'\\'}
+        pattern=${pattern//'['/'\['}
+        pattern=${pattern//'?'/'\?'}
+        pattern=${pattern//'('/'\('}
         # shellcheck disable=SC2053
         if [ -n "$pattern" ] && [[ $beneath == $pattern ]]; then
             left_out=$((left_out + 1))

@@ -81,10 +81,8 @@ try() {
     keep=$value
     schema_of "$1"
     passes_of "$1"
-    : >"$at.findings"
-    : >"$at.diff"
-    cp "$at.java" "$at.text"
-    go_through "$at" || echo broken >"$at.status"
+    # (each copy has to be whole: a disk may be full)
+    if ! { : >"$at.findings" && : >"$at.diff" && cp "$at.java" "$at.text" && go_through "$at"; }; then echo broken >"$at.status"; fi
 }
 # go_through AT: the passes, each on what the one before it wrote (.before), with what it did (.PASS.moves). One that ends with another status than 0 is the last.
 go_through() {
@@ -106,20 +104,20 @@ go_through() {
 # as_read AT: the (int) that stand where apply writes them are blank to the program.
 as_read() {
     cp "$1.before" "$1.read" || return
-    grep -aqE '\([[:space:]]*int[[:space:]]*\)' "$1.before" || return 0
+    has -aqE '\([[:space:]]*int[[:space:]]*\)' "$1.before" || return 0
     whole "$1.before" | awk -f "$verbs/java.awk" -f "$verbs/casts.awk" | tr '\377' '\000' >"$1.read"
 }
 
 # told_by_inline AT: the text with the methods in which a call stood as they came.
 told_by_inline() {
-    cmp -s "$1.read" "$1.made" && return
+    alike "$1.read" "$1.made" && return
     MOVES=$1.inline.moves TO=$1.new awk -f "$verbs/java.awk" -f "$verbs/places.awk" -f "$verbs/patches.awk" -f "$verbs/anew.awk" /dev/null /dev/null <(whole "$1.read") <(whole "$1.made") <(whole "$1.before") || return
     tr '\377' '\000' <"$1.new" >"$1.text"
 }
 # told_by_narrow AT: what the report says of the for-eachs, and the text with queries in place of their fetches.
 told_by_narrow() {
     local sole=
-    grep -q '^loop ' "$1.report" || return 0
+    has -q '^loop ' "$1.report" || return 0
     case " ${passes[*]} " in *' rewrite '* | *' unnest '*) ;; *) sole=yes ;; esac
     SOLE=$sole MOVES=$1.narrow.moves TO=$1.new SILENCED=$1.silenced awk -f "$verbs/java.awk" -f "$verbs/places.awk" -f "$verbs/patches.awk" -f "$verbs/narrowed.awk" "$rules" "$1.report" <(whole "$1.read") <(whole "$1.made") <(whole "$1.before") >>"$1.findings" || return
     tr '\377' '\000' <"$1.new" >"$1.text"
@@ -142,20 +140,20 @@ told_by_unnest() {
 # told_by_search AT PASS KIND: the same, where a loop that gave way is of this kind. A silenced loop is one for all passes, and counts where the first one passes it over.
 told_by_search() {
     local mark=
-    grep -q '^loop ' "$1.report" || return 0
+    has -q '^loop ' "$1.report" || return 0
     silence "$1" || return
     [ "$(<"$1.status")" = 0 ] || return 0
     PASS=$2 FOUND=$3 MOVES=$1.$pass.moves MARK=${mark:+"System.out.println(\"$mark\");"} END_MARK=${mark:+"/*$mark*/"} SHIFTS=${mark:+"$1.shifts"} TO=$1.new SILENCED=$1.$pass.silenced KEEP=$keep SIZE=$size CANDIDATES=$candidates \
         awk -f "$verbs/java.awk" -f "$verbs/places.awk" -f "$verbs/patches.awk" -f "$verbs/findings.awk" "$rules" "$1.report" <(whole "$1.read") <(whole "$1.made") <(whole "$1.before") >>"$1.findings" || return
-    [ -s "$1.silenced" ] || mv "$1.$pass.silenced" "$1.silenced"
+    [ -s "$1.silenced" ] || mv "$1.$pass.silenced" "$1.silenced" || return
     tr '\377' '\000' <"$1.new" >"$1.text"
 }
 
 # silence AT: where a loop that gave way is silenced by a comment, the program reads the source once more, so that the loop stands.
 silence() {
-    if ! grep -aqF 'qbs:off' "$1.read" || ! grep -q ' found [0-9]*$' "$1.report"; then return 0; fi
+    if ! has -aqF 'qbs:off' "$1.read" || ! has -q ' found [0-9]*$' "$1.report"; then return 0; fi
     mark=qbs-off-$RANDOM$RANDOM
-    while grep -aqF "$mark" "$1.read"; do mark=$mark$RANDOM; done
+    while has -aqF "$mark" "$1.read"; do mark=$mark$RANDOM; done
     MARK="System.out.println(\"$mark\");" END_MARK="/*$mark*/" SHIFTS=$1.shifts \
         awk -f "$verbs/java.awk" -f "$verbs/places.awk" -f "$verbs/silence.awk" "$rules" "$1.report" <(whole "$1.read") /dev/null >"$1.held"
     case $? in
@@ -169,21 +167,22 @@ silence() {
 faults() {
     local first=$status left=$1.read turns=0 by_inline=
     # (a class that is read where calls give way to the methods' bodies)
-    if [ "$first" = 6 ] && [ "$pass" != inline ] && grep -q ' parse 1 ' "$1.report" && "$program" inline -- "$schema_read" "$1.read" >/dev/null 2>&1; then by_inline=yes; fi
+    if [ "$first" = 6 ] && [ "$pass" != inline ] && has -q ' parse 1 ' "$1.report" && "$program" inline -- "$schema_read" "$1.read" >/dev/null 2>&1; then by_inline=yes; fi
     while [ "$status" = 6 ] || [ "$status" = 7 ]; do
-        cat "$1.report" >>"$1.faults"
+        cat "$1.report" >>"$1.faults" || return
         turns=$((turns + 1))
         [ "$turns" -lt 50 ] || break
         awk -f "$verbs/java.awk" -f "$verbs/members.awk" "$1.report" <(whole "$left") >"$1.blank"
         case $? in
-        0) tr '\377' '\000' <"$1.blank" >"$1.left" && left=$1.left ;;
+        0) tr '\377' '\000' <"$1.blank" >"$1.left" || return ;;
         1) break ;;
         *) return 1 ;;
         esac
+        left=$1.left
         outputs "$1" "$left"
     done
-    [ "$first" != 5 ] || cp "$1.report" "$1.faults"
-    echo "$first" >"$1.status"
+    [ "$first" != 5 ] || cp "$1.report" "$1.faults" || return
+    echo "$first" >"$1.status" || return
     if [ "$first" = 5 ]; then left=$schema_read; else left=$1.java; fi
     INLINE=$by_inline CHARACTERS=yes awk -f "$verbs/java.awk" -f "$verbs/faults.awk" -f "$verbs/constructs.awk" "$rules" "$verbs/../cures.tsv" "$1.faults" <(whole "$left") >"$1.findings"
 }
@@ -216,8 +215,8 @@ draw() {
     "$program" rewrite -- "$2" /dev/null >/dev/null 2>&1
     case $? in 5 | 13) ;; *) return 0 ;; esac
     "$program" schema -- "$2" >"$2.drawn" 2>"$2.counts" || return 0
-    grep -q '^CREATE TABLE ' "$2.drawn" || return 0
-    if grep -q '^-- table .*: left out, more than 64 tables' "$2.drawn"; then draw_named "$2" || return 0; fi
+    has -q '^CREATE TABLE ' "$2.drawn" || return 0
+    if has -q '^-- table .*: left out, more than 64 tables' "$2.drawn"; then draw_named "$2" || return 0; fi
     # (what is left out would count for the size of a schema)
     grep -v '^ *--' "$2.drawn" >"$2.bare" || broken grep
     mv "$2.bare" "$2.drawn"
@@ -232,7 +231,7 @@ draw_named() {
     sed -nE 's/^(CREATE TABLE|-- table) ([A-Za-z0-9_]+)( \(|: left out, more than 64 tables.*)$/\2/p' "$1.drawn" | sort -u >"$1.tables" || broken sed
     for number in "${!files[@]}"; do
         if [ "$number" = "${stdin_number:-}" ]; then cat "$room/stdin"; else cat -- "${files[$number]}" 2>/dev/null; fi
-    done | grep -aoE '[A-Za-z_][A-Za-z0-9_]*' | sort -u | comm -12 - "$1.tables" | paste -sd , >"$1.named"
+    done | { grep -aoE '[A-Za-z_][A-Za-z0-9_]*' || [ "$?" = 1 ]; } | sort -u | comm -12 - "$1.tables" | paste -sd , >"$1.named" || broken 'grep, sort, comm or paste'
     named=$(<"$1.named")
     [ -z "$named" ] || "$program" schema --tables="$named" -- "$1" >"$1.drawn" 2>"$1.counts"
 }
@@ -300,7 +299,7 @@ judged() {
     broken) broken 'diff or awk' ;;
     12) say "$verb: memory, for ${files[$1]}" ;;
     13)
-        if grep -q schema "$at.report"; then
+        if has -q schema "$at.report"; then
             say "$verb: limit: schema"
             exit 2
         fi
