@@ -284,10 +284,33 @@ stop_progress() {
     printf '\r\033[K' >&2
 }
 
+# wants_memory SOURCE: whether the program wants memory where it reads this source, and is asked nothing more of it.
+wants_memory() {
+    "$program" check -- "$schema_read" "$1" /dev/null >/dev/null 2>&1
+    [ "$?" = 12 ]
+}
+# too_deep AT: where a source gets too deep for the stack, if that is why memory is wanted: from there on the fronts of the source want it as well. The program's answer
+# has no place, so it is asked of fronts that end behind a token, each time of the middle one of those that are left.
+too_deep() {
+    local low=0 high all middle
+    wants_memory "$1.java" || return 0
+    awk -f "$verbs/java.awk" -f "$verbs/fronts.awk" <(whole "$1.java") >"$1.ends" || broken awk
+    all=$(wc -l <"$1.ends")
+    high=$all
+    while [ $((high - low)) -gt 1 ]; do
+        middle=$(((low + high) / 2))
+        head -c "$(sed -n "${middle}s/ .*//p" "$1.ends")" "$1.java" >"$1.front"
+        if wants_memory "$1.front"; then high=$middle; else low=$middle; fi
+    done
+    # (no front wants it, so that something else does than how deep the source is)
+    [ "$high" -lt "$all" ] || return 0
+    sed -n "${high}s/.* /: too deep for the stack, at /p" "$1.ends"
+}
+
 # judged NUMBER: whether the program said what becomes of the file. Else a line says why not, and `trouble` is 1.
 # A file with a fault is judged; `fault` says whether it has one, and whether it is the schema's.
 judged() {
-    local status at=$room/$1
+    local status at=$room/$1 schema_read
     status=$(cat "$at.status" 2>/dev/null)
     fault=
     case $status in
@@ -297,7 +320,10 @@ judged() {
     read) say "$verb: read ${files[$1]}" ;;
     2) refuse "a number out of range, or an option twice" ;;
     broken) broken 'diff or awk' ;;
-    12) say "$verb: memory, for ${files[$1]}" ;;
+    12)
+        schema_of "$1"
+        say "$verb: memory, for ${files[$1]}$(too_deep "$at")"
+        ;;
     13)
         if has -q schema "$at.report"; then
             say "$verb: limit: schema"
