@@ -5,4 +5,5 @@ pub mod Listed
 pub mod Looking
 pub mod Numbers
 pub mod Parts
+pub mod Prefixed
 pub mod Round

@@ -1,6 +1,7 @@
 -- Where a name stands so that it can't be declared there: a list of what is allowed.
 use Rattle.std.specs.Prelude.{ℕ, zero, suc, ◌+◌, ◌-◌, Bool, true, false, ◌||◌, ◌&&◌, ◌==◌, nat_le, not, List, [], ◌∷◌, length, codes, slice_get, if◌then◌else◌}
-use Rattle.std.specs.List.{list_all}
+use Rattle.std.specs.List.{list_any, list_all}
+use Rattle.std.specs.Str.{bytes_eq}
 use Rattle.std.specs.declared.option.Option.{Option}
 use Rattle.std.specs.declared.option.Option.TheVariants.{Some, None}
 use Rattle.view_items.specs.declared.item.Item.{Item}
@@ -22,6 +23,10 @@ keywords =
 
 abbrev pub is_keyword : List Item → ℕ → Bool
 is_keyword items k = is_one_of_words keywords items k
+
+-- the bytes are such a word
+unfoldable pub is_keyword_name : List ℕ → Bool
+is_keyword_name bytes = list_any (λ w. bytes_eq w bytes) keywords
 
 abbrev pub signs_before_uses : List (List ℕ)
 signs_before_uses =

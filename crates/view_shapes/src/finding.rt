@@ -21,7 +21,8 @@ fn same_kind(one: ItemKind, other: ItemKind) -> bool
 }
 
 pub fn has_kind(kind: ItemKind, items: &[Item], number: usize) -> bool
-    ensures { result ≡ specs.has_kind kind items.now number }
+    ensures value { result ≡ specs.has_kind kind items.now number }
+    ensures within { IsTrue result → number < length items.now }
 {
     match items.get(number) {
         None => false,
@@ -29,13 +30,13 @@ pub fn has_kind(kind: ItemKind, items: &[Item], number: usize) -> bool
     }
 }
 
-fn is_item(kind: ItemKind, text: &str, items: &[Item], number: usize) -> bool
-    ensures value { result ≡ specs.is_item kind text.now items.now number }
+fn is_item(kind: ItemKind, bytes: &[u8], items: &[Item], number: usize) -> bool
+    ensures value { result ≡ specs.is_item kind bytes.now items.now number }
     ensures within { IsTrue result → number < length items.now }
 {
     match items.get(number) {
         None => false,
-        Some(item) => same_kind(item.kind, kind) && item.bytes.as_slice() == text.as_bytes(),
+        Some(item) => same_kind(item.kind, kind) && item.bytes.as_slice() == bytes,
     }
 }
 
@@ -44,7 +45,7 @@ pub fn is_word(word: &str, items: &[Item], number: usize) -> bool
     ensures value { result ≡ specs.is_word word.now items.now number }
     ensures within { IsTrue result → number < length items.now }
 {
-    is_item(ItemKind::Name, word, items, number)
+    is_item(ItemKind::Name, word.as_bytes(), items, number)
 }
 
 /// Whether the item with this number is this sign.
@@ -52,18 +53,29 @@ pub fn is_sign(sign: &str, items: &[Item], number: usize) -> bool
     ensures value { result ≡ specs.is_sign sign.now items.now number }
     ensures within { IsTrue result → number < length items.now }
 {
-    is_item(ItemKind::Sign, sign, items, number)
+    is_item(ItemKind::Sign, sign.as_bytes(), items, number)
+}
+
+/// Whether the item with this number is the name of these bytes.
+pub fn has_name(items: &[Item], name: &[u8], number: usize) -> bool
+    ensures value { result ≡ specs.is_word name.now items.now number }
+    ensures within { IsTrue result → number < length items.now }
+{
+    is_item(ItemKind::Name, name, items, number)
 }
 
 /// Whether the item with this number is a name or a word of the language.
 pub fn is_name(items: &[Item], number: usize) -> bool
     ensures value { result ≡ specs.is_name items.now number }
+    ensures within { IsTrue result → number < length items.now }
 {
     has_kind(ItemKind::Name, items, number)
 }
 
+/// Whether the item with this number is one of these words.
 pub fn is_one_of_words(words: &[&str], items: &[Item], number: usize) -> bool
-    ensures { result ≡ specs.is_one_of_words (map (λ w. w.now) words.now) items.now number }
+    ensures value { result ≡ specs.is_one_of_words (map (λ w. w.now) words.now) items.now number }
+    ensures within { IsTrue result → number < length items.now }
 {
     match words {
         [] => false,
@@ -73,8 +85,10 @@ pub fn is_one_of_words(words: &[&str], items: &[Item], number: usize) -> bool
     }
 }
 
+/// Whether the item with this number is one of these signs.
 pub fn is_one_of_signs(signs: &[&str], items: &[Item], number: usize) -> bool
-    ensures { result ≡ specs.is_one_of_signs (map (λ s. s.now) signs.now) items.now number }
+    ensures value { result ≡ specs.is_one_of_signs (map (λ s. s.now) signs.now) items.now number }
+    ensures within { IsTrue result → number < length items.now }
 {
     match signs {
         [] => false,

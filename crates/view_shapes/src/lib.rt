@@ -7,12 +7,16 @@ mod finding;
 pub mod laws;
 mod members;
 mod naming;
+mod prefixes;
 mod statements;
 mod uses;
 
 pub use blocks::{blocks_of, inner_blocks};
-pub use finding::{closing_at, is_name, is_sign, is_word};
+pub use finding::{
+    closing_at, has_name, is_name, is_one_of_signs, is_one_of_words, is_sign, is_word,
+};
 pub use members::{ClassPlace, Stretch, class_of, members_of};
 pub use naming::{is_mention, is_named, is_set_at, may_be_set, mentions};
-pub use statements::{end_of, modifiers_end};
-pub use uses::{is_free, is_keyword, is_use};
+pub use prefixes::{dotted_end, is_plain_name, prefix_end, variable_prefix_end};
+pub use statements::{Form, end_of, form_of, head, modifiers_end};
+pub use uses::{is_called, is_free, is_keyword, is_keyword_name, is_use};

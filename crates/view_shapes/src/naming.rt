@@ -2,17 +2,17 @@
 ghost use Rattle.std.specs.Prelude.{◌≡◌, ◌<◌, ◌+◌, ◌^◌, ◌++◌, OnOk, IfOk, IsTrue, length};
 ghost use Rattle.view_shapes.specs.Mentions as specs;
 
-use crate::finding::{is_one_of_signs, is_sign, is_word};
+use crate::finding::{has_name, is_one_of_signs, is_sign};
 use qbs_base::{Items, NoMemory};
 use std::alloc::Global;
 use view_items::Item;
 
 /// Whether the item with this number is the name, and no dot stands before it.
-pub fn is_mention(items: &[Item], name: &str, number: usize) -> bool
+pub fn is_mention(items: &[Item], name: &[u8], number: usize) -> bool
     ensures value { result ≡ specs.is_mention items.now name.now number }
     ensures within { IsTrue result → number < length items.now }
 {
-    is_word(name, items, number) && !(number > 0 && is_sign(".", items, number - 1))
+    has_name(items, name, number) && !(number > 0 && is_sign(".", items, number - 1))
 }
 
 /// Adds a number, if so.
@@ -26,7 +26,7 @@ fn add_if(numbers: &mut Items<usize>, wanted: bool, number: usize) -> Result<(),
 pub fn mentions(
     alloc: Global,
     items: &[Item],
-    name: &str,
+    name: &[u8],
     from: usize,
     to: usize,
 ) -> Result<Items<usize>, NoMemory>
@@ -41,7 +41,7 @@ pub fn mentions(
 
 /// Whether a name is mentioned from a number up to another.
 #[tactic(auto, using(crate::proofs::Numbers::any_here, crate::proofs::Numbers::any_next, crate::proofs::Numbers::any_end))]
-pub fn is_named(items: &[Item], name: &str, from: usize, to: usize) -> bool
+pub fn is_named(items: &[Item], name: &[u8], from: usize, to: usize) -> bool
     ensures { result ≡ specs.is_named items.now name.now from to }
 {
     for number in from..to {
@@ -99,7 +99,7 @@ pub fn is_set_at(items: &[Item], number: usize) -> bool
 
 /// Whether a name may be set from a number up to another.
 #[tactic(auto, using(crate::proofs::Numbers::any_here, crate::proofs::Numbers::any_next, crate::proofs::Numbers::any_end))]
-pub fn may_be_set(items: &[Item], name: &str, from: usize, to: usize) -> bool
+pub fn may_be_set(items: &[Item], name: &[u8], from: usize, to: usize) -> bool
     ensures { result ≡ specs.may_be_set items.now name.now from to }
 {
     for number in from..to {

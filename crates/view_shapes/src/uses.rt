@@ -1,9 +1,11 @@
 // Where a name stands so that it can't be declared there.
-ghost use Rattle.std.specs.Prelude.{◌≡◌, ◌<◌, ◌≤◌, ◌^◌, length, slice_get, IsTrue};
+ghost use Rattle.std.specs.Prelude.{◌≡◌, ◌<◌, ◌≤◌, ◌^◌, length, map, slice_get, IsTrue};
+ghost use Rattle.std.specs.List.{list_any};
+ghost use Rattle.std.specs.Str.{bytes_eq};
 ghost use Rattle.view_shapes.specs.Uses as specs;
 
 use crate::finding::{
-    closing_at, has_kind, is_name, is_one_of_signs, is_one_of_words, is_sign, is_word,
+    closing_at, has_kind, has_name, is_name, is_one_of_signs, is_one_of_words, is_sign, is_word,
 };
 use view_items::{Item, ItemKind};
 
@@ -76,6 +78,23 @@ pub fn is_keyword(items: &[Item], number: usize) -> bool
     is_one_of_words(&KEYWORDS, items, number)
 }
 
+fn is_among(words: &[&str], bytes: &[u8]) -> bool
+    ensures { result ≡ list_any (λ w. bytes_eq w bytes.now) (map (λ w. w.now) words.now) }
+{
+    match words {
+        [] => false,
+        [word, words @ ..] => word.as_bytes() == bytes || is_among(words, bytes),
+    }
+}
+
+/// Whether the bytes are a word of Java that is no name.
+#[tactic(auto, unfolding(crate::specs::Uses::is_keyword_name))]
+pub fn is_keyword_name(bytes: &[u8]) -> bool
+    ensures { result ≡ specs.is_keyword_name bytes.now }
+{
+    is_among(&KEYWORDS, bytes)
+}
+
 /// Whether the item may stand before names with dots that something is compared with.
 fn begins_comparison(items: &[Item], number: usize) -> bool
     ensures { result ≡ specs.begins_comparison items.now number }
@@ -144,7 +163,8 @@ fn is_no_lambda(items: &[Item], closings: &[usize], number: usize) -> bool
     }
 }
 
-fn is_called(items: &[Item], number: usize) -> bool
+/// Whether the item may be the name of what is called: it is no keyword.
+pub fn is_called(items: &[Item], number: usize) -> bool
     ensures { result ≡ specs.is_called items.now number }
 {
     is_name(items, number) && !is_keyword(items, number)
@@ -217,11 +237,11 @@ pub fn is_use(items: &[Item], closings: &[usize], rounds: &[usize], number: usiz
 }
 
 /// Whether the item is the name, and neither behind a dot nor `::` nor `@`.
-fn stands_alone(items: &[Item], name: &str, number: usize) -> bool
+fn stands_alone(items: &[Item], name: &[u8], number: usize) -> bool
     ensures value { result ≡ specs.stands_alone items.now name.now number }
     ensures within { IsTrue result → number < length items.now }
 {
-    is_word(name, items, number)
+    has_name(items, name, number)
         && !(number > 0 && is_one_of_signs(&[".", "::", "@"], items, number - 1))
 }
 
@@ -231,7 +251,7 @@ pub fn is_free(
     items: &[Item],
     closings: &[usize],
     rounds: &[usize],
-    name: &str,
+    name: &[u8],
     from: usize,
     to: usize,
 ) -> bool
