@@ -286,7 +286,8 @@ pub fn element_of(java: JavaType) -> Option<JavaType>
     }
 }
 
-fn is_element(xs: JavaType, value: JavaType) -> bool
+/// Whether a value is of the type of what a list or set holds, or its primitive.
+pub fn is_element(xs: JavaType, value: JavaType) -> bool
     ensures { result ≡ specs.is_element xs value }
 {
     match (xs, value) {

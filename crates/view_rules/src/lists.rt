@@ -14,7 +14,8 @@ use crate::steps::{here, is_at, next, past, past_all};
 use crate::{Expression, JavaType, Sighted, Within};
 use view_map::ScalarKind;
 
-fn is_list(java: JavaType) -> bool
+/// Whether a type is that of a list.
+pub fn is_list(java: JavaType) -> bool
     ensures { result ≡ specs.is_list java }
 {
     matches!(java, JavaType::Rows(_) | JavaType::Scalars(_))

@@ -160,7 +160,8 @@ pub fn literal_kind(bytes: &[u8]) -> Option<ScalarKind>
     }
 }
 
-fn signed_kind(negative: bool, bytes: &[u8]) -> Option<ScalarKind>
+/// The type of a literal with a minus sign before it, which numbers alone have, or without.
+pub fn signed_kind(negative: bool, bytes: &[u8]) -> Option<ScalarKind>
     ensures { result ≡ specs.signed_kind negative bytes.now }
 {
     if negative {

@@ -52,7 +52,8 @@ fn is_column_of(a: Option<u32>, b: Option<u32>) -> bool
     }
 }
 
-fn is_param(param: Option<&Param>, name: &[u8], column: Option<u32>) -> bool
+/// Whether a parameter is this variable, or this column of it.
+pub fn is_param(param: Option<&Param>, name: &[u8], column: Option<u32>) -> bool
     ensures { result ≡ specs.is_param (option_copied param.entry) name.now column }
 {
     match param {
@@ -101,7 +102,8 @@ fn column_type(w: &Within, row: usize, class: u32, member: u32, v: &Sighted) -> 
 
 // ---- Columns
 
-fn member_of<'a>(w: &Within<'a>, class: u32, member: u32) -> Option<&'a Member>
+/// The member of a class of the map.
+pub fn member_of<'a>(w: &Within<'a>, class: u32, member: u32) -> Option<&'a Member>
     ensures { option_copied result ≡ specs.member_of (within_of w.now) class member }
 {
     let c = w.map.classes.as_slice().get(class as usize)?;

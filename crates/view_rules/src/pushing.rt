@@ -230,7 +230,7 @@ fn push_new_set(alloc: Global, w: &Within, i: usize, cells: &mut Cells) -> Resul
 }
 
 #[cycle(push)]
-fn put_wrapped(
+pub fn put_wrapped(
     alloc: Global,
     w: &Within,
     least: u8,

@@ -7,6 +7,7 @@ use view_map::ViewMap;
 /// What is fixed while one slice is looked at: the map, the schema and the items of the file; by their numbers in the map the classes that
 /// are there in the file, and the fetch patterns, templates and constants that may be read in the method; the constants of the class that
 /// may be read there; and the parameters of the slice.
+#[derive(Drop)]
 pub struct Within<'a> {
     pub map: &'a ViewMap,
     pub tables: &'a [Table],
