@@ -1,0 +1,236 @@
+-- The worked methods and conditions, computed.
+use Rattle.std.proofs.Common.{refl, true, false, [], ◌∷◌, codes, Some, None}
+use Rattle.view_items.specs.Opened.{closing}
+use Rattle.view_items.specs.Pieces.{number_len, piece_of}
+use Rattle.view_items.specs.Items.{items_from, items_of}
+use Rattle.view_items.specs.Brackets.{closed_from, closings_of, rounds_from, rounds_of, is_shallow_at}
+use Rattle.view_shapes.specs.Found.{found_in}
+use Rattle.view_shapes.specs.Members.{class_of, member_end_in, members_in}
+use Rattle.view_shapes.specs.Statements.{modifiers_end, form_of, try_end, end_within}
+use Rattle.view_shapes.specs.Blocks.{try_blocks, case_blocks, blocks_within, statements_in, blocks_under}
+use Rattle.view_shapes.specs.Mentions.{numbers, is_set_within}
+use Rattle.view_shapes.specs.Prefixes.{dotted_end, prefix_end}
+use Rattle.view_shapes.specs.Uses.{first_of_names, is_keyword_name, is_use}
+use Rattle.view_scope.specs.JavaTypes.{arguments_end, type_rest}
+use Rattle.view_scope.specs.Methods.{parameters_from, exceptions_end, outline_of, method_prefix_end}
+use Rattle.view_scope.specs.Nulls.{operand_from, operand_to, out_of_parentheses}
+use Rattle.view_scope.specs.Obscured.{last_of_names, is_in_import, is_java_class, hides_last, hides_name}
+use Rattle.view_scope.specs.Patterns.{front_in, is_loose}
+use Rattle.view_scope.specs.Constants.{field_prefix_end}
+use Rattle.view_scope.specs.Allowed.{is_typed}
+use Rattle.view_scope.specs.Worked.{two_methods, tested_dao, HasMethods, HasConstants, Frees, Keeps, Tests, Guards, of_body, Sees, MeansTheSame, user_map, constant_map, BeginsWith, WorkedMembers, WorkedGuards, WorkedSight, WorkedFronts, Means, WorkedFetches, Worked}
+
+members_methods : HasMethods two_methods (codes "f" ∷ codes "a" ∷ codes "g" ∷ [])
+unfolding closing number_len piece_of items_from items_of closed_from closings_of rounds_from rounds_of found_in class_of member_end_in members_in numbers is_set_within first_of_names is_use is_shallow_at arguments_end type_rest dotted_end prefix_end parameters_from exceptions_end outline_of method_prefix_end field_prefix_end is_typed
+members_methods = refl
+
+members_of_list : HasMethods (codes "class A { List<Long> f() { } }") (codes "f" ∷ [])
+unfolding closing number_len piece_of items_from items_of closed_from closings_of rounds_from rounds_of found_in class_of member_end_in members_in numbers is_set_within first_of_names is_use is_shallow_at arguments_end type_rest dotted_end prefix_end parameters_from exceptions_end outline_of method_prefix_end field_prefix_end is_typed
+members_of_list = refl
+
+members_no_constants : HasConstants two_methods []
+unfolding closing number_len piece_of items_from items_of closed_from closings_of rounds_from rounds_of found_in class_of member_end_in members_in numbers is_set_within first_of_names is_use is_shallow_at arguments_end type_rest dotted_end prefix_end parameters_from exceptions_end outline_of method_prefix_end field_prefix_end is_typed
+members_no_constants = refl
+
+members_any_number : HasMethods (codes "class A { void f(int n, final long... ids) { } }") (codes "f" ∷ codes "n" ∷ codes "ids" ∷ [])
+unfolding closing number_len piece_of items_from items_of closed_from closings_of rounds_from rounds_of found_in class_of member_end_in members_in numbers is_set_within first_of_names is_use is_shallow_at arguments_end type_rest dotted_end prefix_end parameters_from exceptions_end outline_of method_prefix_end field_prefix_end is_typed
+members_any_number = refl
+
+members_constant : HasConstants (codes "class A { private static final int MAX = 5; static final long MIN = -3L; static int n = 1; final int m = 2; static final int S = MAX + 1; }")
+    (codes "MAX" ∷ codes "5" ∷ codes "MIN" ∷ codes "3L" ∷ [])
+unfolding closing number_len piece_of items_from items_of closed_from closings_of rounds_from rounds_of found_in class_of member_end_in members_in numbers is_set_within first_of_names is_use is_shallow_at arguments_end type_rest dotted_end prefix_end parameters_from exceptions_end outline_of method_prefix_end field_prefix_end is_typed
+members_constant = refl
+
+members_declared_anew : Frees (codes "MAX") (codes "class A { void f() { int q = 0, MAX; (MAX) = 3; } }") false
+unfolding closing number_len piece_of items_from items_of closed_from closings_of rounds_from rounds_of found_in class_of member_end_in members_in numbers is_set_within first_of_names is_use is_shallow_at arguments_end type_rest dotted_end prefix_end parameters_from exceptions_end outline_of method_prefix_end field_prefix_end is_typed
+members_declared_anew = refl
+
+members_compared : Frees (codes "MAX") (codes "class A { void f(int q) { if (q > MAX) g(); } }") true
+unfolding closing number_len piece_of items_from items_of closed_from closings_of rounds_from rounds_of found_in class_of member_end_in members_in numbers is_set_within first_of_names is_use is_shallow_at arguments_end type_rest dotted_end prefix_end parameters_from exceptions_end outline_of method_prefix_end field_prefix_end is_typed
+members_compared = refl
+
+members_of_parameter : Frees (codes "MAX") (codes "class A { void f(int MAX) { } }") false
+unfolding closing number_len piece_of items_from items_of closed_from closings_of rounds_from rounds_of found_in class_of member_end_in members_in numbers is_set_within first_of_names is_use is_shallow_at arguments_end type_rest dotted_end prefix_end parameters_from exceptions_end outline_of method_prefix_end field_prefix_end is_typed
+members_of_parameter = refl
+
+members_by_setter : Keeps (codes "users") (codes "class A { Repo users; A(Repo users) { this.users = users; } void setUsers(Repo u) { this.users = u; } }") true
+unfolding closing number_len piece_of items_from items_of closed_from closings_of rounds_from rounds_of found_in class_of member_end_in members_in numbers is_set_within first_of_names is_use is_shallow_at arguments_end type_rest dotted_end prefix_end parameters_from exceptions_end outline_of method_prefix_end field_prefix_end is_typed
+members_by_setter = refl
+
+members_by_another : Keeps (codes "users") (codes "class A { Repo users; void setUp() { users = Repo.none(); } }") false
+unfolding closing number_len piece_of items_from items_of closed_from closings_of rounds_from rounds_of found_in class_of member_end_in members_in numbers is_set_within first_of_names is_use is_shallow_at arguments_end type_rest dotted_end prefix_end parameters_from exceptions_end outline_of method_prefix_end field_prefix_end is_typed
+members_by_another = refl
+
+members_by_setter_that_does_more : Keeps (codes "users") (codes "class A { Repo users; void setUsers(Repo u) { this.users = u; log(); } }") false
+unfolding closing number_len piece_of items_from items_of closed_from closings_of rounds_from rounds_of found_in class_of member_end_in members_in numbers is_set_within first_of_names is_use is_shallow_at arguments_end type_rest dotted_end prefix_end parameters_from exceptions_end outline_of method_prefix_end field_prefix_end is_typed
+members_by_setter_that_does_more = refl
+
+members : WorkedMembers
+members = record { methods = members_methods; of_list = members_of_list; no_constants = members_no_constants; any_number = members_any_number; constant = members_constant; declared_anew = members_declared_anew; compared = members_compared; of_parameter = members_of_parameter; by_setter = members_by_setter; by_another = members_by_another; by_setter_that_does_more = members_by_setter_that_does_more }
+
+guards_tested : Tests tested_dao 0 (codes "roleId") true
+unfolding closing number_len piece_of items_from items_of closed_from closings_of rounds_from rounds_of found_in class_of member_end_in members_in modifiers_end form_of try_end end_within try_blocks case_blocks blocks_within statements_in blocks_under numbers is_set_within is_shallow_at arguments_end type_rest dotted_end prefix_end parameters_from exceptions_end outline_of method_prefix_end operand_from operand_to out_of_parentheses
+guards_tested = refl
+
+guards_other : Tests tested_dao 0 (codes "login") false
+unfolding closing number_len piece_of items_from items_of closed_from closings_of rounds_from rounds_of found_in class_of member_end_in members_in modifiers_end form_of try_end end_within try_blocks case_blocks blocks_within statements_in blocks_under numbers is_set_within is_shallow_at arguments_end type_rest dotted_end prefix_end parameters_from exceptions_end outline_of method_prefix_end operand_from operand_to out_of_parentheses
+guards_other = refl
+
+guards_guarded : Guards tested_dao 0 (codes "go") true
+unfolding closing number_len piece_of items_from items_of closed_from closings_of rounds_from rounds_of found_in class_of member_end_in members_in modifiers_end form_of try_end end_within try_blocks case_blocks blocks_within statements_in blocks_under numbers is_set_within is_shallow_at arguments_end type_rest dotted_end prefix_end parameters_from exceptions_end outline_of method_prefix_end operand_from operand_to out_of_parentheses
+guards_guarded = refl
+
+guards_by_equals : Tests (of_body (codes "if (Objects.equals(r, null)) g();")) 0 (codes "r") true
+unfolding closing number_len piece_of items_from items_of closed_from closings_of rounds_from rounds_of found_in class_of member_end_in members_in modifiers_end form_of try_end end_within try_blocks case_blocks blocks_within statements_in blocks_under numbers is_set_within is_shallow_at arguments_end type_rest dotted_end prefix_end parameters_from exceptions_end outline_of method_prefix_end operand_from operand_to out_of_parentheses
+guards_by_equals = refl
+
+guards_by_class : Tests (of_body (codes "if ((r) instanceof Named) g();")) 0 (codes "r") true
+unfolding closing number_len piece_of items_from items_of closed_from closings_of rounds_from rounds_of found_in class_of member_end_in members_in modifiers_end form_of try_end end_within try_blocks case_blocks blocks_within statements_in blocks_under numbers is_set_within is_shallow_at arguments_end type_rest dotted_end prefix_end parameters_from exceptions_end outline_of method_prefix_end operand_from operand_to out_of_parentheses
+guards_by_class = refl
+
+guards_where_set : Tests (of_body (codes "while ((r = it.next()) == null) g();")) 0 (codes "r") true
+unfolding closing number_len piece_of items_from items_of closed_from closings_of rounds_from rounds_of found_in class_of member_end_in members_in modifiers_end form_of try_end end_within try_blocks case_blocks blocks_within statements_in blocks_under numbers is_set_within is_shallow_at arguments_end type_rest dotted_end prefix_end parameters_from exceptions_end outline_of method_prefix_end operand_from operand_to out_of_parentheses
+guards_where_set = refl
+
+guards_beside_another : Tests (of_body (codes "if (r == null && x.y > 3) g();")) 0 (codes "x") false
+unfolding closing number_len piece_of items_from items_of closed_from closings_of rounds_from rounds_of found_in class_of member_end_in members_in modifiers_end form_of try_end end_within try_blocks case_blocks blocks_within statements_in blocks_under numbers is_set_within is_shallow_at arguments_end type_rest dotted_end prefix_end parameters_from exceptions_end outline_of method_prefix_end operand_from operand_to out_of_parentheses
+guards_beside_another = refl
+
+guards_member : Tests (of_body (codes "if (isEmpty(r.name())) g(r);")) 0 (codes "r") false
+unfolding closing number_len piece_of items_from items_of closed_from closings_of rounds_from rounds_of found_in class_of member_end_in members_in modifiers_end form_of try_end end_within try_blocks case_blocks blocks_within statements_in blocks_under numbers is_set_within is_shallow_at arguments_end type_rest dotted_end prefix_end parameters_from exceptions_end outline_of method_prefix_end operand_from operand_to out_of_parentheses
+guards_member = refl
+
+guards_by_or : Guards (of_body (codes "if (r == null || x > 3) return; go();")) 0 (codes "go") true
+unfolding closing number_len piece_of items_from items_of closed_from closings_of rounds_from rounds_of found_in class_of member_end_in members_in modifiers_end form_of try_end end_within try_blocks case_blocks blocks_within statements_in blocks_under numbers is_set_within is_shallow_at arguments_end type_rest dotted_end prefix_end parameters_from exceptions_end outline_of method_prefix_end operand_from operand_to out_of_parentheses
+guards_by_or = refl
+
+guards_by_and : Guards (of_body (codes "if (r == null && x > 3) return; go();")) 0 (codes "go") false
+unfolding closing number_len piece_of items_from items_of closed_from closings_of rounds_from rounds_of found_in class_of member_end_in members_in modifiers_end form_of try_end end_within try_blocks case_blocks blocks_within statements_in blocks_under numbers is_set_within is_shallow_at arguments_end type_rest dotted_end prefix_end parameters_from exceptions_end outline_of method_prefix_end operand_from operand_to out_of_parentheses
+guards_by_and = refl
+
+guards_inside : Guards (of_body (codes "if (x > 3 && null != r) { go(); }")) 0 (codes "go") true
+unfolding closing number_len piece_of items_from items_of closed_from closings_of rounds_from rounds_of found_in class_of member_end_in members_in modifiers_end form_of try_end end_within try_blocks case_blocks blocks_within statements_in blocks_under numbers is_set_within is_shallow_at arguments_end type_rest dotted_end prefix_end parameters_from exceptions_end outline_of method_prefix_end operand_from operand_to out_of_parentheses
+guards_inside = refl
+
+guards_inside_or : Guards (of_body (codes "if (x > 3 || null != r) { go(); }")) 0 (codes "go") false
+unfolding closing number_len piece_of items_from items_of closed_from closings_of rounds_from rounds_of found_in class_of member_end_in members_in modifiers_end form_of try_end end_within try_blocks case_blocks blocks_within statements_in blocks_under numbers is_set_within is_shallow_at arguments_end type_rest dotted_end prefix_end parameters_from exceptions_end outline_of method_prefix_end operand_from operand_to out_of_parentheses
+guards_inside_or = refl
+
+guards_behind_else : Guards (of_body (codes "if (r == null) g(); else { go(); }")) 0 (codes "go") true
+unfolding closing number_len piece_of items_from items_of closed_from closings_of rounds_from rounds_of found_in class_of member_end_in members_in modifiers_end form_of try_end end_within try_blocks case_blocks blocks_within statements_in blocks_under numbers is_set_within is_shallow_at arguments_end type_rest dotted_end prefix_end parameters_from exceptions_end outline_of method_prefix_end operand_from operand_to out_of_parentheses
+guards_behind_else = refl
+
+guards_with_else : Guards (of_body (codes "if (r == null) return; else g(); go();")) 0 (codes "go") false
+unfolding closing number_len piece_of items_from items_of closed_from closings_of rounds_from rounds_of found_in class_of member_end_in members_in modifiers_end form_of try_end end_within try_blocks case_blocks blocks_within statements_in blocks_under numbers is_set_within is_shallow_at arguments_end type_rest dotted_end prefix_end parameters_from exceptions_end outline_of method_prefix_end operand_from operand_to out_of_parentheses
+guards_with_else = refl
+
+guards_nested : Guards (of_body (codes "if (x > 3) { if (r == null) return; } go();")) 0 (codes "go") false
+unfolding closing number_len piece_of items_from items_of closed_from closings_of rounds_from rounds_of found_in class_of member_end_in members_in modifiers_end form_of try_end end_within try_blocks case_blocks blocks_within statements_in blocks_under numbers is_set_within is_shallow_at arguments_end type_rest dotted_end prefix_end parameters_from exceptions_end outline_of method_prefix_end operand_from operand_to out_of_parentheses
+guards_nested = refl
+
+guards_where_set_elsewhere : Guards (of_body (codes "if (r == null) return; r = g(); go();")) 0 (codes "go") false
+unfolding closing number_len piece_of items_from items_of closed_from closings_of rounds_from rounds_of found_in class_of member_end_in members_in modifiers_end form_of try_end end_within try_blocks case_blocks blocks_within statements_in blocks_under numbers is_set_within is_shallow_at arguments_end type_rest dotted_end prefix_end parameters_from exceptions_end outline_of method_prefix_end operand_from operand_to out_of_parentheses
+guards_where_set_elsewhere = refl
+
+guards : WorkedGuards
+guards = record { tested = guards_tested; other = guards_other; guarded = guards_guarded; by_equals = guards_by_equals; by_class = guards_by_class; where_set = guards_where_set; beside_another = guards_beside_another; member = guards_member; by_or = guards_by_or; by_and = guards_by_and; inside = guards_inside; inside_or = guards_inside_or; behind_else = guards_behind_else; with_else = guards_with_else; nested = guards_nested; where_set_elsewhere = guards_where_set_elsewhere }
+
+sight_of_for : Sees (codes "class A { void f() { for (User u : xs) { go(); } } }") true
+unfolding closing number_len piece_of items_from items_of closed_from closings_of rounds_from rounds_of found_in class_of member_end_in members_in modifiers_end form_of try_end end_within try_blocks case_blocks blocks_within statements_in blocks_under numbers is_shallow_at arguments_end type_rest dotted_end prefix_end parameters_from exceptions_end outline_of method_prefix_end last_of_names is_in_import front_in is_loose is_java_class hides_last hides_name
+sight_of_for = refl
+
+sight_behind_for : Sees (codes "class A { void f() { for (User u : xs) { g(); } go(); } }") false
+unfolding closing number_len piece_of items_from items_of closed_from closings_of rounds_from rounds_of found_in class_of member_end_in members_in modifiers_end form_of try_end end_within try_blocks case_blocks blocks_within statements_in blocks_under numbers is_shallow_at arguments_end type_rest dotted_end prefix_end parameters_from exceptions_end outline_of method_prefix_end last_of_names is_in_import front_in is_loose is_java_class hides_last hides_name
+sight_behind_for = refl
+
+sight_of_block : Sees (codes "class A { void f() { final User u = g(); if (b) { go(); } } }") true
+unfolding closing number_len piece_of items_from items_of closed_from closings_of rounds_from rounds_of found_in class_of member_end_in members_in modifiers_end form_of try_end end_within try_blocks case_blocks blocks_within statements_in blocks_under numbers is_shallow_at arguments_end type_rest dotted_end prefix_end parameters_from exceptions_end outline_of method_prefix_end last_of_names is_in_import front_in is_loose is_java_class hides_last hides_name
+sight_of_block = refl
+
+sight_of_inner_block : Sees (codes "class A { void f() { if (b) { User u = g(); } go(); } }") false
+unfolding closing number_len piece_of items_from items_of closed_from closings_of rounds_from rounds_of found_in class_of member_end_in members_in modifiers_end form_of try_end end_within try_blocks case_blocks blocks_within statements_in blocks_under numbers is_shallow_at arguments_end type_rest dotted_end prefix_end parameters_from exceptions_end outline_of method_prefix_end last_of_names is_in_import front_in is_loose is_java_class hides_last hides_name
+sight_of_inner_block = refl
+
+sight_plain : MeansTheSame user_map (codes "import java.util.List; class A { static class Row { } }") true
+unfolding closing number_len piece_of items_from items_of closed_from closings_of rounds_from rounds_of found_in class_of member_end_in members_in modifiers_end form_of try_end end_within try_blocks case_blocks blocks_within statements_in blocks_under numbers is_shallow_at arguments_end type_rest dotted_end prefix_end parameters_from exceptions_end outline_of method_prefix_end last_of_names is_in_import front_in is_loose is_java_class hides_last hides_name
+sight_plain = refl
+
+sight_nested : MeansTheSame user_map (codes "class A { static class User { } }") false
+unfolding closing number_len piece_of items_from items_of closed_from closings_of rounds_from rounds_of found_in class_of member_end_in members_in modifiers_end form_of try_end end_within try_blocks case_blocks blocks_within statements_in blocks_under numbers is_shallow_at arguments_end type_rest dotted_end prefix_end parameters_from exceptions_end outline_of method_prefix_end last_of_names is_in_import front_in is_loose is_java_class hides_last hides_name
+sight_nested = refl
+
+sight_of_java : MeansTheSame user_map (codes "class A { enum Math { B } }") false
+unfolding closing number_len piece_of items_from items_of closed_from closings_of rounds_from rounds_of found_in class_of member_end_in members_in modifiers_end form_of try_end end_within try_blocks case_blocks blocks_within statements_in blocks_under numbers is_shallow_at arguments_end type_rest dotted_end prefix_end parameters_from exceptions_end outline_of method_prefix_end last_of_names is_in_import front_in is_loose is_java_class hides_last hides_name
+sight_of_java = refl
+
+sight_imported : MeansTheSame user_map (codes "import java.awt.List; class A { }") false
+unfolding closing number_len piece_of items_from items_of closed_from closings_of rounds_from rounds_of found_in class_of member_end_in members_in modifiers_end form_of try_end end_within try_blocks case_blocks blocks_within statements_in blocks_under numbers is_shallow_at arguments_end type_rest dotted_end prefix_end parameters_from exceptions_end outline_of method_prefix_end last_of_names is_in_import front_in is_loose is_java_class hides_last hides_name
+sight_imported = refl
+
+sight_itself : MeansTheSame constant_map (codes "class A { }") true
+unfolding closing number_len piece_of items_from items_of closed_from closings_of rounds_from rounds_of found_in class_of member_end_in members_in modifiers_end form_of try_end end_within try_blocks case_blocks blocks_within statements_in blocks_under numbers is_shallow_at arguments_end type_rest dotted_end prefix_end parameters_from exceptions_end outline_of method_prefix_end last_of_names is_in_import front_in is_loose is_java_class hides_last hides_name
+sight_itself = refl
+
+sight_nested_first : MeansTheSame constant_map (codes "class B { class A { } }") false
+unfolding closing number_len piece_of items_from items_of closed_from closings_of rounds_from rounds_of found_in class_of member_end_in members_in modifiers_end form_of try_end end_within try_blocks case_blocks blocks_within statements_in blocks_under numbers is_shallow_at arguments_end type_rest dotted_end prefix_end parameters_from exceptions_end outline_of method_prefix_end last_of_names is_in_import front_in is_loose is_java_class hides_last hides_name
+sight_nested_first = refl
+
+sight : WorkedSight
+sight = record { of_for = sight_of_for; behind_for = sight_behind_for; of_block = sight_of_block; of_inner_block = sight_of_inner_block; plain = sight_plain; nested = sight_nested; of_java = sight_of_java; imported = sight_imported; itself = sight_itself; nested_first = sight_nested_first }
+
+fronts_of_field : BeginsWith (codes "this.users.findAll()") (codes "users")
+unfolding closing number_len piece_of items_from items_of front_in is_loose
+fronts_of_field = refl
+
+fronts_of_method : BeginsWith (codes "session().createQuery(query).list()") (codes "session")
+unfolding closing number_len piece_of items_from items_of front_in is_loose
+fronts_of_method = refl
+
+fronts_of_cast : BeginsWith (codes "(List<User>) store.all()") (codes "store")
+unfolding closing number_len piece_of items_from items_of front_in is_loose
+fronts_of_cast = refl
+
+fronts_of_new : BeginsWith (codes "new Repo(store).all()") (codes "Repo")
+unfolding closing number_len piece_of items_from items_of front_in is_loose
+fronts_of_new = refl
+
+fronts : WorkedFronts
+fronts = record { of_field = fronts_of_field; of_method = fronts_of_method; of_cast = fronts_of_cast; of_new = fronts_of_new }
+
+fetches_of_a_field : Means (codes "users.all()") None (codes "class A { Repo users; }") true
+unfolding closing number_len piece_of items_from items_of closed_from closings_of rounds_from rounds_of found_in class_of member_end_in members_in numbers is_set_within first_of_names is_use is_shallow_at arguments_end type_rest dotted_end prefix_end parameters_from exceptions_end outline_of method_prefix_end field_prefix_end is_typed is_in_import front_in is_loose is_keyword_name
+fetches_of_a_field = refl
+
+fetches_of_a_set_field : Means (codes "users.all()") None (codes "class A { Repo users; void f() { users = g(); } }") false
+unfolding closing number_len piece_of items_from items_of closed_from closings_of rounds_from rounds_of found_in class_of member_end_in members_in numbers is_set_within first_of_names is_use is_shallow_at arguments_end type_rest dotted_end prefix_end parameters_from exceptions_end outline_of method_prefix_end field_prefix_end is_typed is_in_import front_in is_loose is_keyword_name
+fetches_of_a_set_field = refl
+
+fetches_with_a_set_field : Means (codes "users.all(by)") None (codes "class A { Repo users; By by; void f() { by = g(); } }") false
+unfolding closing number_len piece_of items_from items_of closed_from closings_of rounds_from rounds_of found_in class_of member_end_in members_in numbers is_set_within first_of_names is_use is_shallow_at arguments_end type_rest dotted_end prefix_end parameters_from exceptions_end outline_of method_prefix_end field_prefix_end is_typed is_in_import front_in is_loose is_keyword_name
+fetches_with_a_set_field = refl
+
+fetches_of_own_method : Means (codes "all()") None (codes "class A { List<U> all() { } }") false
+unfolding closing number_len piece_of items_from items_of closed_from closings_of rounds_from rounds_of found_in class_of member_end_in members_in numbers is_set_within first_of_names is_use is_shallow_at arguments_end type_rest dotted_end prefix_end parameters_from exceptions_end outline_of method_prefix_end field_prefix_end is_typed is_in_import front_in is_loose is_keyword_name
+fetches_of_own_method = refl
+
+fetches_said_here : Means (codes "all()") (Some (codes "A")) (codes "class A { List<U> all() { } }") true
+unfolding closing number_len piece_of items_from items_of closed_from closings_of rounds_from rounds_of found_in class_of member_end_in members_in numbers is_set_within first_of_names is_use is_shallow_at arguments_end type_rest dotted_end prefix_end parameters_from exceptions_end outline_of method_prefix_end field_prefix_end is_typed is_in_import front_in is_loose is_keyword_name
+fetches_said_here = refl
+
+fetches_of_a_class : Means (codes "Users.all()") None (codes "class A { }") true
+unfolding closing number_len piece_of items_from items_of closed_from closings_of rounds_from rounds_of found_in class_of member_end_in members_in numbers is_set_within first_of_names is_use is_shallow_at arguments_end type_rest dotted_end prefix_end parameters_from exceptions_end outline_of method_prefix_end field_prefix_end is_typed is_in_import front_in is_loose is_keyword_name
+fetches_of_a_class = refl
+
+fetches_of_a_hidden_class : Means (codes "Users.all()") None (codes "class A { void f(Repo Users) { } }") false
+unfolding closing number_len piece_of items_from items_of closed_from closings_of rounds_from rounds_of found_in class_of member_end_in members_in numbers is_set_within first_of_names is_use is_shallow_at arguments_end type_rest dotted_end prefix_end parameters_from exceptions_end outline_of method_prefix_end field_prefix_end is_typed is_in_import front_in is_loose is_keyword_name
+fetches_of_a_hidden_class = refl
+
+fetches_of_parentheses : Means (codes "(users).all()") None (codes "class A { Repo users; }") false
+unfolding closing number_len piece_of items_from items_of closed_from closings_of rounds_from rounds_of found_in class_of member_end_in members_in numbers is_set_within first_of_names is_use is_shallow_at arguments_end type_rest dotted_end prefix_end parameters_from exceptions_end outline_of method_prefix_end field_prefix_end is_typed is_in_import front_in is_loose is_keyword_name
+fetches_of_parentheses = refl
+
+fetches : WorkedFetches
+fetches = record { of_a_field = fetches_of_a_field; of_a_set_field = fetches_of_a_set_field; with_a_set_field = fetches_with_a_set_field; of_own_method = fetches_of_own_method; said_here = fetches_said_here; of_a_class = fetches_of_a_class; of_a_hidden_class = fetches_of_a_hidden_class; of_parentheses = fetches_of_parentheses }
+
+pub worked : Worked
+worked = record { members = members; guards = guards; sight = sight; fronts = fronts; fetches = fetches }

@@ -1,0 +1,11 @@
+pub mod Allowed
+pub mod Constants
+pub mod Guards
+pub mod JavaTypes
+pub mod Methods
+pub mod Nulls
+pub mod Obscured
+pub mod Outside
+pub mod Patterns
+pub mod Standing
+pub mod Worked

@@ -1,0 +1,237 @@
+-- Methods, constants, fields that are kept, tests for null and guards, found by hand.
+use Rattle.std.specs.Prelude.{◌≡◌, ℕ, Bool, true, false, List, [], ◌∷◌, ◌++◌, map, slice_get, codes}
+use Rattle.std.specs.List.{flat_map}
+use Rattle.std.specs.declared.option.Option.{Option}
+use Rattle.std.specs.declared.option.Option.TheVariants.{Some, None}
+use Rattle.view_items.specs.declared.item.Item.{Item}
+use Rattle.view_items.specs.Items.{items_of}
+use Rattle.view_items.specs.Brackets.{if_some, closings_of, rounds_of}
+use Rattle.view_shapes.specs.declared.members.ClassPlace.{ClassPlace}
+use Rattle.view_shapes.specs.Members.{class_of, members_of}
+use Rattle.view_shapes.specs.Mentions.{mentions}
+use Rattle.view_shapes.specs.Worked.{Bytes}
+use Rattle.view_map.specs.declared.model.FetchPattern.{FetchPattern}
+use Rattle.view_map.specs.declared.model.PatternItem.{PatternItem}
+use Rattle.view_map.specs.declared.model.RowClass.{RowClass}
+use Rattle.view_map.specs.declared.model.ScalarKind.TheVariants as kinds
+use Rattle.view_map.specs.declared.model.ViewMap.{ViewMap}
+use Rattle.view_map.specs.Patterns.{pattern_items}
+use Rattle.view_rules.specs.declared.java_type.JavaType.TheVariants as types
+use Rattle.view_rules.specs.Setting.{Within}
+use Rattle.view_scope.specs.declared.method.Method.{Method}
+use Rattle.view_scope.specs.Allowed.{is_free_in, is_kept, keeps_meaning}
+use Rattle.view_scope.specs.Constants.{constants_of}
+use Rattle.view_scope.specs.Guards.{is_guarded}
+use Rattle.view_scope.specs.Methods.{method_of}
+use Rattle.view_scope.specs.Nulls.{is_tested}
+use Rattle.view_scope.specs.Obscured.{word_at, means_the_same}
+use Rattle.view_scope.specs.Outside.{is_in_sight_at, body_of}
+use Rattle.view_scope.specs.Patterns.{bytes_of, first_at}
+
+-- what is so of a source: of its items, the closing bracket and the round of each, and its class
+abbrev pub in_class : {A : Type 0} → Bytes → (List Item → List ℕ → List ℕ → ClassPlace → Option A) → Option A
+in_class source f =
+    if_some (closings_of (items_of source)) (λ closings.
+    if_some (class_of (items_of source) closings) (f (items_of source) closings (rounds_of (items_of source))))
+
+-- and of its member with a number, which is a method
+abbrev pub in_method : {A : Type 0} → Bytes → ℕ → (List Item → List ℕ → List ℕ → Method → Option A) → Option A
+in_method source n f =
+    in_class source (λ items closings rounds class.
+    if_some (slice_get (members_of items closings class.from) n) (λ member. if_some (method_of items closings member) (f items closings rounds)))
+
+-- a class with two methods, and one with a method that tests one of its parameters
+abbrev pub two_methods : Bytes
+two_methods = codes "class A { void f(int a) { } int g() { } }"
+
+abbrev pub tested_dao : Bytes
+tested_dao = codes "class A { void f(Long roleId, String login) { if (roleId == null) throw e; login = login.trim(); go(); } }"
+
+-- ---- Methods and constants
+
+-- the names of a method and its parameters
+abbrev pub names_of : List Item → Option Method → List Bytes
+names_of items None = []
+names_of items (Some m) = word_at items m.name ∷ map (λ p. word_at items p.name) m.parameters
+
+abbrev pub all_names : List Item → List ℕ → List ℕ → ClassPlace → Option (List Bytes)
+all_names items closings rounds class = Some (flat_map (λ s. names_of items (method_of items closings s)) (members_of items closings class.from))
+
+abbrev pub HasMethods : Bytes → List Bytes → Type 0
+HasMethods source names = in_class source all_names ≡ Some names
+
+abbrev pub constant_names : List Item → List ℕ → List ℕ → ClassPlace → Option (List Bytes)
+constant_names items closings rounds class = Some (flat_map (λ c. c.name ∷ c.value.bytes ∷ []) (constants_of items closings class))
+
+-- constants, each with its literal
+abbrev pub HasConstants : Bytes → List Bytes → Type 0
+HasConstants source cs = in_class source constant_names ≡ Some cs
+
+abbrev pub Frees : Bytes → Bytes → Bool → Type 0
+Frees name source b = in_method source 0 (λ items closings rounds m. Some (is_free_in items closings rounds m name)) ≡ Some b
+
+abbrev pub kept : Bytes → List Item → List ℕ → List ℕ → ClassPlace → Option Bool
+kept field items closings rounds class = Some (is_kept items closings class (members_of items closings class.from) field)
+
+abbrev pub Keeps : Bytes → Bytes → Bool → Type 0
+Keeps field source b = in_class source (kept field) ≡ Some b
+
+pub record WorkedMembers : Type 0 where
+  pub methods : HasMethods two_methods (codes "f" ∷ codes "a" ∷ codes "g" ∷ [])
+  pub of_list : HasMethods (codes "class A { List<Long> f() { } }") (codes "f" ∷ [])
+  pub no_constants : HasConstants two_methods []
+  pub any_number : HasMethods (codes "class A { void f(int n, final long... ids) { } }") (codes "f" ∷ codes "n" ∷ codes "ids" ∷ [])
+  pub constant : HasConstants (codes "class A { private static final int MAX = 5; static final long MIN = -3L; static int n = 1; final int m = 2; static final int S = MAX + 1; }")
+      (codes "MAX" ∷ codes "5" ∷ codes "MIN" ∷ codes "3L" ∷ [])
+  pub declared_anew : Frees (codes "MAX") (codes "class A { void f() { int q = 0, MAX; (MAX) = 3; } }") false
+  pub compared : Frees (codes "MAX") (codes "class A { void f(int q) { if (q > MAX) g(); } }") true
+  pub of_parameter : Frees (codes "MAX") (codes "class A { void f(int MAX) { } }") false
+  pub by_setter : Keeps (codes "users") (codes "class A { Repo users; A(Repo users) { this.users = users; } void setUsers(Repo u) { this.users = u; } }") true
+  pub by_another : Keeps (codes "users") (codes "class A { Repo users; void setUp() { users = Repo.none(); } }") false
+  pub by_setter_that_does_more : Keeps (codes "users") (codes "class A { Repo users; void setUsers(Repo u) { this.users = u; log(); } }") false
+
+-- ---- Tests for null and guards
+
+-- in the first member, a method, a variable is tested
+abbrev pub Tests : Bytes → ℕ → Bytes → Bool → Type 0
+Tests source n name b = in_method source n (λ items closings rounds m. Some (is_tested items closings rounds m.from m.to name)) ≡ Some b
+
+-- the first parameter is guarded where a word stands first in the method
+abbrev pub guarded_at : List Item → List ℕ → List ℕ → Method → Bytes → Option Bool
+guarded_at items closings rounds m word =
+    if_some (slice_get (mentions items word m.from m.to) 0) (λ place. if_some (slice_get m.parameters 0) (λ p.
+    Some (is_guarded items closings rounds (body_of m) place (word_at items p.name) p.name)))
+
+abbrev pub Guards : Bytes → ℕ → Bytes → Bool → Type 0
+Guards source n word b = in_method source n (λ items closings rounds m. guarded_at items closings rounds m word) ≡ Some b
+
+-- a method with a parameter r and this body
+abbrev pub of_body : Bytes → Bytes
+of_body body = codes "class A { void f(Row r) { " ++ body ++ codes " } }"
+
+pub record WorkedGuards : Type 0 where
+  pub tested : Tests tested_dao 0 (codes "roleId") true
+  pub other : Tests tested_dao 0 (codes "login") false
+  pub guarded : Guards tested_dao 0 (codes "go") true
+  pub by_equals : Tests (of_body (codes "if (Objects.equals(r, null)) g();")) 0 (codes "r") true
+  pub by_class : Tests (of_body (codes "if ((r) instanceof Named) g();")) 0 (codes "r") true
+  pub where_set : Tests (of_body (codes "while ((r = it.next()) == null) g();")) 0 (codes "r") true
+  pub beside_another : Tests (of_body (codes "if (r == null && x.y > 3) g();")) 0 (codes "x") false
+  pub member : Tests (of_body (codes "if (isEmpty(r.name())) g(r);")) 0 (codes "r") false
+  pub by_or : Guards (of_body (codes "if (r == null || x > 3) return; go();")) 0 (codes "go") true
+  pub by_and : Guards (of_body (codes "if (r == null && x > 3) return; go();")) 0 (codes "go") false
+  pub inside : Guards (of_body (codes "if (x > 3 && null != r) { go(); }")) 0 (codes "go") true
+  pub inside_or : Guards (of_body (codes "if (x > 3 || null != r) { go(); }")) 0 (codes "go") false
+  pub behind_else : Guards (of_body (codes "if (r == null) g(); else { go(); }")) 0 (codes "go") true
+  pub with_else : Guards (of_body (codes "if (r == null) return; else g(); go();")) 0 (codes "go") false
+  pub nested : Guards (of_body (codes "if (x > 3) { if (r == null) return; } go();")) 0 (codes "go") false
+  pub where_set_elsewhere : Guards (of_body (codes "if (r == null) return; r = g(); go();")) 0 (codes "go") false
+
+-- ---- What is in sight, and what is hidden
+
+abbrev pub user_class : RowClass
+user_class = record { class = codes "User"; within = None; table = 0; by_value = false; members = [] }
+
+abbrev pub user_map : ViewMap
+user_map = record { classes = user_class ∷ []; fetches = []; constants = []; templates = []; texts_binary = false }
+
+abbrev pub user_setting : List Item → Within
+user_setting items =
+    record {
+      map = user_map;
+      tables = [];
+      items = items;
+      classes = 0 ∷ [];
+      fetches = [];
+      templates = [];
+      map_constants = [];
+      constants = [];
+      params = [];
+      tested = [];
+      clear = [];
+      gets = false;
+    }
+
+-- a row of the class is in sight where a word stands first, by the first mention of its name
+abbrev pub seen_at : List Item → List ℕ → List ℕ → Method → Option Bool
+seen_at items closings rounds m =
+    if_some (slice_get (mentions items (codes "go") m.from m.to) 0) (λ place. if_some (slice_get (mentions items (codes "u") m.from m.to) 0) (λ at.
+    Some (is_in_sight_at (user_setting items) closings m place (types.Row 0) at)))
+
+abbrev pub Sees : Bytes → Bool → Type 0
+Sees source b = in_method source 0 seen_at ≡ Some b
+
+-- a map with the constant A.LEAST
+abbrev pub constant_map : ViewMap
+constant_map =
+    record {
+      classes = [];
+      fetches = [];
+      constants =
+          record { kind = kinds.Int; names = codes "A" ∷ codes "LEAST" ∷ []; value = record { kind = kinds.Int; negative = false; bytes = codes "1" } }
+          ∷ [];
+      templates = [];
+      texts_binary = false;
+    }
+
+abbrev pub same : ViewMap → List Item → List ℕ → List ℕ → ClassPlace → Option Bool
+same map items closings rounds class = Some (means_the_same map items (word_at items class.name))
+
+abbrev pub MeansTheSame : ViewMap → Bytes → Bool → Type 0
+MeansTheSame map source b = in_class source (same map) ≡ Some b
+
+pub record WorkedSight : Type 0 where
+  pub of_for : Sees (codes "class A { void f() { for (User u : xs) { go(); } } }") true
+  pub behind_for : Sees (codes "class A { void f() { for (User u : xs) { g(); } go(); } }") false
+  pub of_block : Sees (codes "class A { void f() { final User u = g(); if (b) { go(); } } }") true
+  pub of_inner_block : Sees (codes "class A { void f() { if (b) { User u = g(); } go(); } }") false
+  pub plain : MeansTheSame user_map (codes "import java.util.List; class A { static class Row { } }") true
+  pub nested : MeansTheSame user_map (codes "class A { static class User { } }") false
+  pub of_java : MeansTheSame user_map (codes "class A { enum Math { B } }") false
+  pub imported : MeansTheSame user_map (codes "import java.awt.List; class A { }") false
+  pub itself : MeansTheSame constant_map (codes "class A { }") true
+  pub nested_first : MeansTheSame constant_map (codes "class B { class A { } }") false
+
+-- ---- What patterns begin with
+
+abbrev pub first_name : List PatternItem → Bytes
+first_name is = bytes_of (slice_get is (first_at is))
+
+abbrev pub BeginsWith : Bytes → Bytes → Type 0
+BeginsWith pattern name = first_name (pattern_items (items_of pattern)) ≡ name
+
+pub record WorkedFronts : Type 0 where
+  pub of_field : BeginsWith (codes "this.users.findAll()") (codes "users")
+  pub of_method : BeginsWith (codes "session().createQuery(query).list()") (codes "session")
+  pub of_cast : BeginsWith (codes "(List<User>) store.all()") (codes "store")
+  pub of_new : BeginsWith (codes "new Repo(store).all()") (codes "Repo")
+
+-- ---- Fetch patterns
+
+abbrev pub fetch_of : Bytes → Option Bytes → FetchPattern
+fetch_of pattern within = record { table = 0; within = within; items = pattern_items (items_of pattern) }
+
+-- a pattern, said of all classes or of one, means in a class what the map says
+abbrev pub meant : Bytes → Option Bytes → List Item → List ℕ → List ℕ → ClassPlace → Option Bool
+meant pattern within items closings rounds class =
+    Some (keeps_meaning items closings rounds class (members_of items closings class.from) (fetch_of pattern within))
+
+abbrev pub Means : Bytes → Option Bytes → Bytes → Bool → Type 0
+Means pattern within source b = in_class source (meant pattern within) ≡ Some b
+
+pub record WorkedFetches : Type 0 where
+  pub of_a_field : Means (codes "users.all()") None (codes "class A { Repo users; }") true
+  pub of_a_set_field : Means (codes "users.all()") None (codes "class A { Repo users; void f() { users = g(); } }") false
+  pub with_a_set_field : Means (codes "users.all(by)") None (codes "class A { Repo users; By by; void f() { by = g(); } }") false
+  pub of_own_method : Means (codes "all()") None (codes "class A { List<U> all() { } }") false
+  pub said_here : Means (codes "all()") (Some (codes "A")) (codes "class A { List<U> all() { } }") true
+  pub of_a_class : Means (codes "Users.all()") None (codes "class A { }") true
+  pub of_a_hidden_class : Means (codes "Users.all()") None (codes "class A { void f(Repo Users) { } }") false
+  pub of_parentheses : Means (codes "(users).all()") None (codes "class A { Repo users; }") false
+
+pub record Worked : Type 0 where
+  pub members : WorkedMembers
+  pub guards : WorkedGuards
+  pub sight : WorkedSight
+  pub fronts : WorkedFronts
+  pub fetches : WorkedFetches

@@ -1,0 +1,375 @@
+// Where a method tests variables for null.
+ghost use Rattle.std.specs.Prelude.{◌≡◌, ◌<◌, ◌≤◌, ◌+◌, ◌^◌, ◌++◌, OnOk, IfOk, IfSome, IsTrue, length, codes, Some, None, slice_get};
+ghost use Rattle.view_scope.specs.Nulls as specs;
+
+use qbs_base::{Items, NoMemory};
+use std::alloc::Global;
+use view_items::Item;
+use view_shapes::{
+    Stretch, closing_at, is_called, is_name, is_named, is_one_of_signs, is_one_of_words, is_sign,
+    is_word,
+};
+
+/// Whether an operand of `==` or `!=` doesn't go over the item.
+fn bounds(items: &[Item], number: usize) -> bool
+    ensures { result ≡ specs.bounds items.now number }
+{
+    is_one_of_signs(
+        &[
+            "&&", "||", "==", "!=", "?", ":", ",", ";", "=", "->", "{", "}",
+        ],
+        items,
+        number,
+    ) || is_one_of_words(
+        &["return", "case", "throw", "else", "yield", "assert"],
+        items,
+        number,
+    )
+}
+
+/// Whether two items stand directly in one bracket.
+fn stand_together(rounds: &[usize], one: usize, other: usize) -> bool
+    ensures { result ≡ specs.stand_together rounds.now one other }
+{
+    match rounds.get(one) {
+        None => false,
+        Some(a) => is_around(rounds, *a, other),
+    }
+}
+
+/// Whether the bracket that is opening at one item is the innermost one round another.
+pub fn is_around(rounds: &[usize], opening: usize, number: usize) -> bool
+    ensures { result ≡ specs.is_around rounds.now opening number }
+{
+    match rounds.get(number) {
+        None => false,
+        Some(round) => opening == *round,
+    }
+}
+
+fn is_before_operand(items: &[Item], rounds: &[usize], operator: usize, number: usize) -> bool
+    ensures { result ≡ specs.is_before_operand items.now rounds.now operator number }
+{
+    is_around(rounds, number, operator)
+        || (stand_together(rounds, number, operator) && bounds(items, number))
+}
+
+/// The first item of the operand that ends before an operator.
+#[tactic(auto, using(crate::proofs::Operands::operand_from_over, crate::proofs::Operands::operand_from_next, crate::proofs::Operands::operand_from_end))]
+fn operand_from(items: &[Item], rounds: &[usize], operator: usize) -> usize
+    ensures { result ≡ specs.operand_from operator items.now rounds.now operator }
+{
+    let mut number = operator;
+    while number > 0 {
+        if is_before_operand(items, rounds, operator, number - 1) {
+            return number;
+        }
+        number -= 1;
+    }
+    0
+}
+
+fn is_behind_operand(items: &[Item], rounds: &[usize], operator: usize, number: usize) -> bool
+    ensures { result ≡ specs.is_behind_operand items.now rounds.now operator number }
+{
+    stand_together(rounds, number, operator)
+        && (bounds(items, number) || is_one_of_signs(&[")", "]"], items, number))
+}
+
+/// The number behind the operand that goes on at a number.
+#[tactic(auto, using(crate::proofs::Operands::operand_to_over, crate::proofs::Operands::operand_to_next, crate::proofs::Operands::operand_to_end))]
+fn operand_to(items: &[Item], rounds: &[usize], operator: usize, first: usize) -> usize
+    requires { first ≤ length items.now }
+    ensures { result ≡ specs.operand_to (length items.now) items.now rounds.now operator first }
+{
+    let mut number = first;
+    let mut left = items.len();
+    while left > 0 {
+        left -= 1;
+        if is_behind_operand(items, rounds, operator, number) {
+            return number;
+        }
+        number += 1;
+    }
+    number
+}
+
+fn is_equality(items: &[Item], number: usize) -> bool
+    ensures value { result ≡ specs.is_equality items.now number }
+    ensures within { IsTrue result → number < length items.now }
+{
+    is_one_of_signs(&["==", "!="], items, number)
+}
+
+fn is_wrapped(items: &[Item], from: usize, to: usize) -> bool
+    ensures value { result ≡ specs.is_wrapped items.now from to }
+    ensures within { IsTrue result → (0 < from) × (to < length items.now) }
+{
+    from > 0 && is_sign("(", items, from - 1) && is_sign(")", items, to)
+}
+
+/// What stands from one number up to another, with all parentheses directly round it.
+#[tactic(auto, unfolding(crate::specs::Nulls::out_of_parentheses))]
+fn out_of_parentheses(items: &[Item], first: usize, end: usize) -> Stretch
+    requires { end ≤ length items.now }
+    ensures value { result ≡ specs.out_of_parentheses (length items.now) items.now first end }
+    ensures within { result.to ≤ length items.now }
+{
+    let mut from = first;
+    let mut to = end;
+    let mut left = items.len();
+    while left > 0 {
+        left -= 1;
+        if !is_wrapped(items, from, to) {
+            return Stretch { from, to };
+        }
+        from -= 1;
+        to += 1;
+    }
+    Stretch { from, to }
+}
+
+fn is_null(items: &[Item], number: usize) -> bool
+    ensures value { result ≡ specs.is_null items.now number }
+    ensures within { IsTrue result → number < length items.now }
+{
+    is_word("null", items, number)
+}
+
+/// What stands round the `null` with this number: that alone, or it in parentheses.
+fn null_at(items: &[Item], number: usize) -> Stretch
+    requires { number < length items.now }
+    ensures value { result ≡ specs.null_at items.now number }
+    ensures within { result.to ≤ length items.now }
+{
+    out_of_parentheses(items, number, number + 1)
+}
+
+fn compared_before(items: &[Item], rounds: &[usize], s: Stretch) -> Option<Stretch>
+    ensures { result ≡ specs.compared_before items.now rounds.now s }
+{
+    if s.from > 0 && is_equality(items, s.from - 1) {
+        Some(Stretch {
+            from: operand_from(items, rounds, s.from - 1),
+            to: s.from - 1,
+        })
+    } else {
+        None
+    }
+}
+
+fn compared_behind(items: &[Item], rounds: &[usize], s: Stretch) -> Option<Stretch>
+    ensures { result ≡ specs.compared_behind items.now rounds.now s }
+{
+    if is_equality(items, s.to) {
+        Some(Stretch {
+            from: s.to + 1,
+            to: operand_to(items, rounds, s.to, s.to + 1),
+        })
+    } else {
+        None
+    }
+}
+
+/// Where it begins what ends with the item with this number: that item, or what is in parentheses.
+fn ended_from(items: &[Item], rounds: &[usize], number: usize) -> usize
+    ensures { result ≡ specs.ended_from items.now rounds.now number }
+{
+    if !is_sign(")", items, number) {
+        return number;
+    }
+    match rounds.get(number) {
+        None => number,
+        Some(round) => *round,
+    }
+}
+
+fn set_to_null(items: &[Item], rounds: &[usize], s: Stretch) -> Option<Stretch>
+    ensures { result ≡ specs.set_to_null items.now rounds.now s }
+{
+    if s.from >= 2 && is_sign("=", items, s.from - 1) {
+        Some(Stretch {
+            from: ended_from(items, rounds, s.from - 2),
+            to: s.from - 1,
+        })
+    } else {
+        None
+    }
+}
+
+fn is_null_in(items: &[Item], rounds: &[usize], opening: usize, number: usize) -> bool
+    ensures { result ≡ specs.is_null_in items.now rounds.now opening number }
+{
+    is_null(items, number) && is_around(rounds, opening, null_at(items, number).from)
+}
+
+/// Whether `null` stands, from a number up to another, directly in the parentheses that are opening at one.
+#[tactic(auto, using(view_shapes::proofs::Numbers::any_here, view_shapes::proofs::Numbers::any_next, view_shapes::proofs::Numbers::any_end))]
+fn holds_null(items: &[Item], rounds: &[usize], opening: usize, from: usize, to: usize) -> bool
+    ensures { result ≡ specs.holds_null items.now rounds.now opening from to }
+{
+    for number in from..to {
+        if is_null_in(items, rounds, opening, number) {
+            return true;
+        }
+    }
+    false
+}
+
+fn ends_called(items: &[Item], number: usize) -> bool
+    ensures { result ≡ specs.ends_called items.now number }
+{
+    is_called(items, number) || is_sign(">", items, number)
+}
+
+/// The arguments of a call, where `null` is one of them.
+fn tested_arguments(
+    items: &[Item],
+    closings: &[usize],
+    rounds: &[usize],
+    number: usize,
+) -> Option<Stretch>
+    ensures { result ≡ specs.tested_arguments items.now closings.now rounds.now number }
+{
+    if !(is_sign("(", items, number) && number > 0 && ends_called(items, number - 1)) {
+        return None;
+    }
+    let close = closing_at(items, closings, number)?;
+    if holds_null(items, rounds, number, number + 1, close) {
+        Some(Stretch {
+            from: number + 1,
+            to: close,
+        })
+    } else {
+        None
+    }
+}
+
+const TESTING_CALLS: [&str; 15] = [
+    "isNull",
+    "nonNull",
+    "ofNullable",
+    "isEmpty",
+    "isBlank",
+    "isNotEmpty",
+    "isNotBlank",
+    "hasText",
+    "hasLength",
+    "isNullOrEmpty",
+    "requireNonNullElse",
+    "requireNonNullElseGet",
+    "defaultString",
+    "defaultIfNull",
+    "firstNonNull",
+];
+
+/// Whether a call tests its first argument, which is one item.
+fn is_testing_call(items: &[Item], number: usize) -> bool
+    requires { number < length items.now }
+    ensures { result ≡ specs.is_testing_call items.now number }
+{
+    (is_one_of_words(&TESTING_CALLS, items, number)
+        && is_one_of_signs(&[",", ")"], items, number + 3))
+        || (is_word("toString", items, number) && is_sign(",", items, number + 3))
+}
+
+fn tested_first(items: &[Item], number: usize) -> Option<Stretch>
+    requires { number < length items.now }
+    ensures { result ≡ specs.tested_first items.now number }
+{
+    if is_sign("(", items, number + 1) && is_testing_call(items, number) {
+        Some(Stretch {
+            from: number + 2,
+            to: number + 3,
+        })
+    } else {
+        None
+    }
+}
+
+fn tested_class(items: &[Item], rounds: &[usize], number: usize) -> Option<Stretch>
+    ensures { result ≡ specs.tested_class items.now rounds.now number }
+{
+    if is_word("instanceof", items, number) && number > 0 {
+        Some(Stretch {
+            from: ended_from(items, rounds, number - 1),
+            to: number,
+        })
+    } else {
+        None
+    }
+}
+
+fn add_some(list: &mut Items<Stretch>, stretch: Option<Stretch>) -> Result<(), NoMemory>
+    ensures { OnOk result (list.new ≡ list.old ++ specs.listed stretch) }
+{
+    match stretch {
+        None => Ok(()),
+        Some(stretch) => list.push(stretch),
+    }
+}
+
+fn add_by_null(
+    list: &mut Items<Stretch>,
+    items: &[Item],
+    rounds: &[usize],
+    s: Stretch,
+) -> Result<(), NoMemory>
+    ensures { OnOk result (list.new ≡ list.old ++ specs.tested_by_null items.now rounds.now s) }
+{
+    add_some(list, compared_before(items, rounds, s))?;
+    add_some(list, compared_behind(items, rounds, s))?;
+    add_some(list, set_to_null(items, rounds, s))
+}
+
+/// Adds what is tested by the item with this number.
+fn add_tested(
+    list: &mut Items<Stretch>,
+    items: &[Item],
+    closings: &[usize],
+    rounds: &[usize],
+    number: usize,
+) -> Result<(), NoMemory>
+    ensures { OnOk result (list.new ≡ list.old ++ specs.tested_at items.now closings.now rounds.now number) }
+{
+    if is_null(items, number) {
+        add_by_null(list, items, rounds, null_at(items, number))
+    } else if is_name(items, number) {
+        add_some(list, tested_first(items, number))?;
+        add_some(list, tested_class(items, rounds, number))
+    } else {
+        add_some(list, tested_arguments(items, closings, rounds, number))
+    }
+}
+
+/// The stretches of a method's body, from a number up to another, in which each variable that is named is tested for null. Time goes with
+/// the number of items and how deep they stand. It fails only by want of memory.
+pub fn tested_in(
+    alloc: Global,
+    items: &[Item],
+    closings: &[usize],
+    rounds: &[usize],
+    from: usize,
+    to: usize,
+) -> Result<Items<Stretch>, NoMemory>
+    ensures { IfOk result (λ list. list ≡ specs.tested_in items.now closings.now rounds.now from to) }
+{
+    let mut list = Items::new(alloc);
+    for number in from..to {
+        add_tested(&mut list, items, closings, rounds, number)?;
+    }
+    Ok(list)
+}
+
+fn is_named_in(items: &[Item], name: &[u8], s: Stretch) -> bool
+    ensures { result ≡ specs.is_named_in items.now name.now s }
+{
+    is_named(items, name, s.from, s.to)
+}
+
+/// Whether a variable is tested for null, where these are the stretches in which variables are. Time goes with their items.
+pub fn is_tested(items: &[Item], tested: &[Stretch], name: &[u8]) -> bool
+    ensures { result ≡ specs.is_tested_by items.now tested.now name.now }
+{
+    tested.iter().any(|s| is_named_in(items, name, *s))
+}

@@ -1,0 +1,194 @@
+// Which variables are in sight at a place of a method's body, and with what types.
+ghost use Rattle.std.specs.Prelude.{◌≡◌, ◌<◌, ◌≤◌, ◌^◌, IfSome, length, map, option_map};
+ghost use Rattle.view_rules.specs.Setting.{within_of};
+ghost use Rattle.view_scope.specs.Outside as specs;
+
+use crate::guards::{is_before_end_of, is_in_body, stands_before};
+use crate::{Method, Parameter, Standing};
+use view_items::Item;
+use view_rules::{JavaType, Spelled, Within, same_type, type_at};
+use view_shapes::{closing_at, is_one_of_signs, is_sign, is_word, variable_prefix_end};
+
+fn spells(spelled: Option<Spelled>, java: JavaType, name: usize) -> bool
+    ensures { result ≡ specs.spells spelled java name }
+{
+    match spelled {
+        None => false,
+        Some(s) => same_type(s.java, java) && s.to == name,
+    }
+}
+
+/// Whether a type stands at a number, and directly behind it the name that stands at another.
+fn is_typed(w: &Within, java: JavaType, number: usize, name: usize) -> bool
+    ensures { result ≡ specs.is_typed (within_of w.now) java number name }
+{
+    spells(type_at(w, number), java, name)
+}
+
+fn is_parameter_at(w: &Within, java: JavaType, at: usize, p: Parameter) -> bool
+    ensures { result ≡ specs.is_parameter_at (within_of w.now) java at p }
+{
+    p.name == at && is_typed(w, java, p.ty, at)
+}
+
+fn is_parameter(w: &Within, parameters: &[Parameter], java: JavaType, at: usize) -> bool
+    ensures { result ≡ specs.is_parameter (within_of w.now) parameters.now java at }
+{
+    parameters.iter().any(|p| is_parameter_at(w, java, at, *p))
+}
+
+fn is_typed_from(w: &Within, java: JavaType, at: usize, first: Option<usize>) -> bool
+    ensures { result ≡ specs.is_typed_from (within_of w.now) java at first }
+{
+    match first {
+        None => false,
+        Some(first) => is_typed(w, java, first, at),
+    }
+}
+
+/// What may stand behind the name of a variable that a statement declares, or the head of a `for`.
+fn may_follow(items: &[Item], head: bool, number: usize) -> bool
+    ensures { result ≡ specs.may_follow items.now head number }
+{
+    is_one_of_signs(&["=", ";", ","], items, number) || (head && is_sign(":", items, number))
+}
+
+/// Whether the items from a number on declare the variable whose name stands at another, the first one if they declare several.
+fn declares_at(
+    w: &Within,
+    closings: &[usize],
+    head: bool,
+    java: JavaType,
+    at: usize,
+    number: usize,
+) -> bool
+    ensures { result ≡ specs.declares_at (within_of w.now) closings.now head java at number }
+{
+    at < w.items.len()
+        && may_follow(w.items, head, at + 1)
+        && is_typed_from(w, java, at, variable_prefix_end(w.items, closings, number))
+}
+
+fn is_declared_by(
+    w: &Within,
+    closings: &[usize],
+    place: usize,
+    java: JavaType,
+    at: usize,
+    s: Standing,
+) -> bool
+    ensures { result ≡ specs.is_declared_by (within_of w.now) closings.now place java at s }
+{
+    stands_before(place, s) && declares_at(w, closings, false, java, at, s.statement.from)
+}
+
+/// Whether a place is in the statement that stands behind the parentheses that are opening at a number.
+fn is_in_headed(items: &[Item], closings: &[usize], place: usize, opening: usize) -> bool
+    ensures { result ≡ specs.is_in_headed items.now closings.now place opening }
+{
+    match closing_at(items, closings, opening) {
+        None => false,
+        Some(close) => is_in_body(items, closings, place, close),
+    }
+}
+
+/// Whether the head of the `for` at a number declares the variable, and the place is in its statement.
+fn is_headed_by(
+    w: &Within,
+    closings: &[usize],
+    place: usize,
+    java: JavaType,
+    at: usize,
+    number: usize,
+) -> bool
+    ensures { result ≡ specs.is_headed_by (within_of w.now) closings.now place java at number }
+{
+    is_word("for", w.items, number)
+        && is_sign("(", w.items, number + 1)
+        && declares_at(w, closings, true, java, at, number + 2)
+        && is_in_headed(w.items, closings, place, number + 1)
+}
+
+#[tactic(auto, using(view_shapes::proofs::Numbers::any_here, view_shapes::proofs::Numbers::any_next, view_shapes::proofs::Numbers::any_end))]
+fn is_in_head(
+    w: &Within,
+    closings: &[usize],
+    place: usize,
+    java: JavaType,
+    at: usize,
+    from: usize,
+) -> bool
+    ensures { result ≡ specs.is_in_head (within_of w.now) closings.now place java at from }
+{
+    for number in from..place {
+        if is_headed_by(w, closings, place, java, at, number) {
+            return true;
+        }
+    }
+    false
+}
+
+#[tactic(auto)]
+fn is_declared_before(
+    w: &Within,
+    closings: &[usize],
+    standing: &[Standing],
+    place: usize,
+    java: JavaType,
+    at: usize,
+) -> bool
+    ensures { result ≡ specs.is_declared_before (within_of w.now) closings.now standing.now place java at }
+{
+    for s in standing {
+        if is_declared_by(w, closings, place, java, at, *s) {
+            return true;
+        }
+    }
+    false
+}
+
+/// Whether the variable whose name stands at a number is in sight at a place of a method's body, with this type: it is a parameter, or a
+/// statement before the place in the same block, or in one round it, declares it, or the head of a `for` round the place; of several variables
+/// of one statement the first one. `standing` are the statements of the method's body. Time goes with the items of the body and how deep
+/// they stand.
+pub fn is_in_sight_at(
+    w: &Within,
+    closings: &[usize],
+    standing: &[Standing],
+    method: &Method,
+    place: usize,
+    java: JavaType,
+    at: usize,
+) -> bool
+    ensures { result ≡ specs.is_in_sight_by (within_of w.now) closings.now standing.now method.now place java at }
+{
+    is_parameter(w, method.parameters.as_slice(), java, at)
+        || is_declared_before(w, closings, standing, place, java, at)
+        || is_in_head(w, closings, place, java, at, method.from)
+}
+
+fn is_tried_by(items: &[Item], closings: &[usize], place: usize, number: usize) -> bool
+    ensures { result ≡ specs.is_tried_by items.now closings.now place number }
+{
+    is_word("try", items, number) && is_before_end_of(items, closings, place, number)
+}
+
+/// Whether a `try` stands round a place, from a number on.
+#[tactic(auto, using(view_shapes::proofs::Numbers::any_here, view_shapes::proofs::Numbers::any_next, view_shapes::proofs::Numbers::any_end))]
+fn is_tried_from(items: &[Item], closings: &[usize], from: usize, place: usize) -> bool
+    ensures { result ≡ specs.is_tried_from items.now closings.now from place }
+{
+    for number in from..place {
+        if is_tried_by(items, closings, place, number) {
+            return true;
+        }
+    }
+    false
+}
+
+/// Whether a `try` stands round a place of a method's body, whose `catch` may see a fault. Time goes with the items before the place.
+pub fn is_inside_try(items: &[Item], closings: &[usize], method: &Method, place: usize) -> bool
+    ensures { result ≡ specs.is_inside_try items.now closings.now method.now place }
+{
+    is_tried_from(items, closings, method.from, place)
+}
