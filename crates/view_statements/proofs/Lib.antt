@@ -1,0 +1,5 @@
+mod Bodied
+mod Changed
+pub mod Computed
+pub mod Nodes
+mod Pushed
