@@ -1,0 +1,5 @@
+pub mod Computed
+pub mod Got
+pub mod Knowing
+pub mod Members
+mod Once

@@ -1,0 +1,6 @@
+pub mod Reading
+pub mod Shown
+pub mod Slices
+pub mod Views
+pub mod Words
+pub mod Worked

@@ -1,0 +1,273 @@
+-- Views of small classes, and what is no view of them.
+use Rattle.std.specs.Prelude.{◌≡◌, ℕ, ◌+◌, List, [], ◌∷◌, ◌++◌, Bool, true, false, map, codes, Option, Some, None}
+use Rattle.qbs_base.specs.declared.columns.Column.{Column}
+use Rattle.qbs_base.specs.declared.columns.Table.{Table}
+use Rattle.qbs_base.specs.declared.scalar.Ty.{Ty}
+use Rattle.qbs_base.specs.declared.scalar.Ty.TheVariants as tys
+use Rattle.view_items.specs.declared.item.ItemKind.TheVariants as items
+use Rattle.view_items.specs.Items.{items_of}
+use Rattle.view_map.specs.declared.model.FetchPattern.{FetchPattern}
+use Rattle.view_map.specs.declared.model.Member.{Member}
+use Rattle.view_map.specs.declared.model.Part.TheVariants as parts
+use Rattle.view_map.specs.declared.model.PatternItem.{PatternItem}
+use Rattle.view_map.specs.declared.model.QueryKind.TheVariants as queries
+use Rattle.view_map.specs.declared.model.RowClass.{RowClass}
+use Rattle.view_map.specs.declared.model.ScalarKind.{ScalarKind}
+use Rattle.view_map.specs.declared.model.ScalarKind.TheVariants as kinds
+use Rattle.view_map.specs.declared.model.Template.{Template}
+use Rattle.view_map.specs.declared.model.ViewMap.{ViewMap}
+use Rattle.view_rules.specs.declared.expression.Operator.TheVariants as signs
+use Rattle.view_rules.specs.declared.java_type.JavaType.{JavaType}
+use Rattle.view_rules.specs.declared.java_type.JavaType.TheVariants as types
+use Rattle.view_rules.specs.declared.sight.Param.{Param}
+use Rattle.view_rules.specs.declared.sight.Sighted.{Sighted}
+use Rattle.view_rules.specs.Tree.{PlainExpression}
+use Rattle.view_rules.specs.Tree as exprs
+use Rattle.view_scope.specs.declared.method.Method.{Method}
+use Rattle.view_scope.specs.declared.method.Parameter.{Parameter}
+use Rattle.view_slices.specs.declared.slice.Printed.{Printed}
+use Rattle.view_slices.specs.declared.slice.Words.{Words}
+use Rattle.view_slices.specs.Slices.{File, PlainSlice, PlainEnding, Open, Grouped, Returned}
+use Rattle.view_slices.specs.Views.{PlainSliced, file_in, is_view, is_again, class_cells}
+use Rattle.view_statements.specs.declared.statement.Step.TheVariants as counts
+use Rattle.view_statements.specs.Tree.{PlainStatement, PlainStatements, Nothing, Then}
+use Rattle.view_statements.specs.Tree as plain
+
+-- ---- A schema and a map
+
+abbrev column : List ℕ → Ty → Column
+column name ty = record { name = name; ty = ty; not_null = true; primary = false }
+
+abbrev accounts : Table
+accounts =
+    record {
+      name = codes "user_account";
+      columns = column (codes "id") tys.Long ∷ column (codes "enabled") tys.Bool ∷ column (codes "age") tys.Long ∷ column (codes "role_id") tys.Long ∷ [];
+    }
+
+abbrev member : ScalarKind → Bool → List ℕ → ℕ → Member
+member kind boxed name column = record { java = record { kind = kind; boxed = boxed }; name = name; is_call = true; column = column }
+
+-- Long getId(), boolean isEnabled(), int getAge(), Long getRoleId()
+abbrev account_class : RowClass
+account_class =
+    record {
+      class = codes "UserAccount";
+      within = None;
+      table = 0;
+      by_value = false;
+      members =
+          member kinds.Long true (codes "getId") 0 ∷ member kinds.Boolean false (codes "isEnabled") 1 ∷ member kinds.Int false (codes "getAge") 2
+          ∷ member kinds.Long true (codes "getRoleId") 3 ∷ [];
+    }
+
+abbrev word : List ℕ → PatternItem
+word bytes = record { kind = items.Name; bytes = bytes }
+
+abbrev sign : List ℕ → PatternItem
+sign bytes = record { kind = items.Sign; bytes = bytes }
+
+-- users.findAll()
+abbrev find_all : FetchPattern
+find_all =
+    record { table = 0; within = None; items = word (codes "users") ∷ sign (codes ".") ∷ word (codes "findAll") ∷ sign (codes "(") ∷ sign (codes ")") ∷ [] }
+
+-- db.queryBoolean($sql {, $arg})
+abbrev query_boolean : Template
+query_boolean =
+    record {
+      kind = queries.Boolean;
+      front =
+          parts.Item (word (codes "db")) ∷ parts.Item (sign (codes ".")) ∷ parts.Item (word (codes "queryBoolean")) ∷ parts.Item (sign (codes "(")) ∷ parts.Sql ∷ [];
+      each = parts.Item (sign (codes ",")) ∷ parts.Argument ∷ [];
+      back = parts.Item (sign (codes ")")) ∷ [];
+    }
+
+abbrev accounts_map : ViewMap
+accounts_map =
+    record { classes = account_class ∷ []; fetches = find_all ∷ []; constants = []; templates = query_boolean ∷ []; texts_binary = true }
+
+abbrev words : Words
+words = record { classes = 0 ∷ []; fetches = 0 ∷ []; templates = 0 ∷ []; map_constants = []; constants = []; clear = [] }
+
+-- ---- Views
+
+abbrev seen_in : Option File → List PlainSliced → Bool
+seen_in None ms = false
+seen_in (Some file) ms = is_view accounts_map (accounts ∷ []) file ms
+
+-- these methods are what is seen of a source
+abbrev pub is_seen : List ℕ → PlainSliced → Bool
+is_seen source m = seen_in (file_in accounts_map source) (m ∷ [])
+
+abbrev tokens_in : Option File → List PlainSliced → List (List ℕ)
+tokens_in None ms = []
+tokens_in (Some file) ms = map (λ c. c.bytes) (class_cells accounts_map (accounts ∷ []) file ms)
+
+abbrev pub tokens : List ℕ → PlainSliced → List (List ℕ)
+tokens source m = tokens_in (file_in accounts_map source) (m ∷ [])
+
+abbrev pub words_of : List ℕ → List (List ℕ)
+words_of source = map (λ i. i.bytes) (items_of source)
+
+abbrev scalar : ScalarKind → Bool → JavaType
+scalar kind boxed = types.Scalar (record { kind = kind; boxed = boxed })
+
+abbrev outer : List ℕ → JavaType → Sighted
+outer name java = record { name = name; java = java; outside = true; column = None }
+
+abbrev param : List ℕ → Option ℕ → List ℕ → Param
+param variable column name = record { variable = variable; column = column; name = name }
+
+abbrev print : List ℕ → JavaType → Printed
+print name java = record { name = name; java = java }
+
+abbrev method : List Parameter → Bool → ℕ → ℕ → Method
+method ps truth from to = record { name = 4; parameters = ps; gives_truth = truth; from = from; to = to }
+
+abbrev sliced : Method → PlainSlice → PlainSliced
+sliced m s = record { read = record { method = m; words = words }; slices = s ∷ [] }
+
+abbrev one : PlainStatement → PlainStatements
+one st = Then st Nothing
+
+-- `for (UserAccount u : users.findAll()) { .. }`
+abbrev each_account : ℕ → ℕ → ℕ → PlainStatements → ℕ → PlainStatement
+each_account at name close body end = plain.ForEach at false name (types.Row 0) (exprs.Fetch (name + 2) 0) close true body end
+
+-- `u.m()`, u being at an item
+abbrev column_at : ℕ → ℕ → PlainExpression
+column_at at number = exprs.Column (exprs.Variable at) (at + 1) 0 number
+
+-- ---- A slice in the block of a loop: what it sets is read before it in the text, and after it in time
+
+abbrev pub counting : List ℕ
+counting = codes "class D { void f(int n) { while (g(n)) { n = 0; for (UserAccount u : users.findAll()) { n++; } } } }"
+
+abbrev counting_slice : List Printed → PlainSlice
+counting_slice prints =
+    record {
+      from = 18;
+      to = 38;
+      block = record { from = 18; to = 38 };
+      outside = outer (codes "n") (scalar kinds.Int false) ∷ [];
+      declared = 7 ∷ [];
+      params = param (codes "n") None (codes "n") ∷ [];
+      kinds = kinds.Int ∷ [];
+      tested = [];
+      gets = true;
+      prints = prints;
+      each = codes "each";
+      statements = Then (plain.Assignment 18 (exprs.Literal 20) 21) (one (each_account 22 25 32 (one (plain.Stepped 34 counts.Up 34 35 36)) 37));
+      ending = Open;
+    }
+
+abbrev counting_with : List Printed → PlainSliced
+counting_with prints = sliced (method (record { ty = 6; name = 7 } ∷ []) false 10 39) (counting_slice prints)
+
+abbrev pub printed : PlainSliced
+printed = counting_with (print (codes "n") (scalar kinds.Int false) ∷ [])
+
+abbrev pub unprinted : PlainSliced
+unprinted = counting_with []
+
+-- what a slice in the block of a loop sets is printed, since the loop's condition names it before
+pub record WorkedLoops : Type 0 where
+  pub with_print : is_seen counting printed ≡ true
+  pub without_print : is_seen counting unprinted ≡ false
+  pub its_tokens : tokens counting printed ≡ words_of (codes "class D { void s1(int n) { n = 0; for (user_account u : db.fetch(user_account.class)) { n++; } System.out.println(n); } }")
+
+-- ---- Rows from outside: their columns are parameters
+
+abbrev pub reporting : List ℕ
+reporting =
+    codes "class D { void r(String title) { for (UserAccount chief : users.findAll()) { int younger = 0; for (UserAccount u : users.findAll()) { if (u.getRoleId().equals(chief.getRoleId()) && u.getAge() < chief.getAge()) { younger++; } } say(title, chief, younger); } } }"
+
+abbrev is_younger : PlainExpression
+is_younger =
+    exprs.Binary signs.And (exprs.Equals 41 false (column_at 41 3) 46 (exprs.OuterColumn 49 0 3 0) 54) 55
+    (exprs.Binary signs.Less (column_at 56 2) 61 (exprs.OuterColumn 62 0 2 1))
+
+abbrev reporting_slice : PlainSlice
+reporting_slice =
+    record {
+      from = 22;
+      to = 74;
+      block = record { from = 22; to = 83 };
+      outside = outer (codes "chief") (types.Row 0) ∷ [];
+      declared = 13 ∷ [];
+      params = param (codes "chief") (Some 3) (codes "chief_role_id") ∷ param (codes "chief") (Some 2) (codes "chief_age") ∷ [];
+      kinds = kinds.Long ∷ kinds.Int ∷ [];
+      tested = [];
+      gets = true;
+      prints = print (codes "younger") (scalar kinds.Int false) ∷ [];
+      each = codes "each";
+      statements =
+          Then (plain.Declaration 22 23 (scalar kinds.Int false) (exprs.Literal 25) 26)
+          (one (each_account 27 30 37 (one (plain.If 39 is_younger 67 true (one (plain.Stepped 69 counts.Up 69 70 71)) 72)) 73));
+      ending = Open;
+    }
+
+abbrev pub reported : PlainSliced
+reported = sliced (method (record { ty = 6; name = 7 } ∷ []) false 10 84) reporting_slice
+
+-- columns of a row from outside are parameters
+pub record WorkedColumns : Type 0 where
+  pub columns : is_seen reporting reported ≡ true
+  pub their_tokens : tokens reporting reported ≡ words_of (codes "class D { void s1(long chief_role_id, int chief_age) { int younger = 0; for (user_account u : db.fetch(user_account.class)) { if ((u.role_id == chief_role_id) && u.age < chief_age) { younger++; } } System.out.println(younger); } }")
+
+-- ---- A group, and what stands in its place when its loop gave way
+
+abbrev pub asking : List ℕ
+asking = codes "class D { boolean h() { for (UserAccount u : users.findAll()) { if (u.isEnabled()) { return true; } } return false; } }"
+
+abbrev pub asked : List ℕ
+asked = codes "class D { boolean h() { boolean found = db.queryBoolean(\"q\"); return found; } }"
+
+abbrev asking_slice : ℕ → PlainStatements → PlainEnding → PlainSlice
+asking_slice to statements ending =
+    record {
+      from = 8;
+      to = to;
+      block = record { from = 8; to = to };
+      outside = [];
+      declared = [];
+      params = [];
+      kinds = [];
+      tested = [];
+      gets = true;
+      prints = print (codes "found") (scalar kinds.Boolean false) ∷ [];
+      each = codes "each";
+      statements = statements;
+      ending = ending;
+    }
+
+abbrev walk : PlainStatement
+walk = each_account 8 11 18 (one (plain.If 20 (column_at 22 1) 27 true (one (plain.Found 29 30 31)) 32)) 33
+
+abbrev pub group_slice : PlainSlice
+group_slice = asking_slice 37 Nothing (Grouped (record { variable = codes "found"; value = true; walk = walk }))
+
+abbrev pub query_slice : PlainSlice
+query_slice =
+    asking_slice 21 (one (plain.Declaration 8 9 (scalar kinds.Boolean false) (exprs.Query 11 false 0 15 (scalar kinds.Boolean false) exprs.End) 17))
+    (Returned (codes "found"))
+
+abbrev pub grouped : PlainSliced
+grouped = sliced (method [] true 8 37) group_slice
+
+abbrev pub queried : PlainSliced
+queried = sliced (method [] true 8 21) query_slice
+
+-- the same without what is returned
+abbrev pub unreturned : PlainSlice
+unreturned = asking_slice 18 query_slice.statements Open
+
+-- a slice whose loop gave way is one again, with what it returns
+pub record WorkedGroups : Type 0 where
+  pub before : is_seen asking grouped ≡ true
+  pub behind : is_seen asked queried ≡ true
+  pub again : is_again group_slice query_slice ≡ true
+  pub without_return : is_again group_slice unreturned ≡ false
+  pub tokens_before : tokens asking grouped ≡ words_of (codes "class D { void s1() { boolean found = false; for (user_account u : db.fetch(user_account.class)) { if (u.enabled) { found = true; } } System.out.println(found); } }")
+  pub tokens_behind : tokens asked queried ≡ words_of (codes "class D { void s1() { boolean found = db.queryBoolean(\"q\"); System.out.println(found); } }")
