@@ -1,5 +1,5 @@
 // Lines and columns of bytes.
-ghost use Rattle.std.specs.Prelude.{◌≡◌, ◌≤◌, ◌<◌, ◌+◌, ◌^◌, IfOk, length};
+ghost use Rattle.std.specs.Prelude.{◌≡◌, ◌≤◌, ◌<◌, ◌+◌, ◌/◌, ◌^◌, IfOk, length};
 ghost use Rattle.text_places.specs.Places as specs;
 
 use qbs_base::{Items, NoMemory, Span};
@@ -90,7 +90,8 @@ const STRIDE: usize = 4096;
 /// The places of every 4096th byte of a text, with which those of others are found at once.
 #[tactic(auto, using(crate::proofs::Moved::marked_behind))]
 pub fn marks_in(alloc: Global, bytes: &[u8]) -> Result<Items<Place>, NoMemory>
-    ensures { IfOk result (specs.AreMarks bytes.now) }
+    ensures marks { IfOk result (specs.AreMarks bytes.now) }
+    ensures many { IfOk result (λ marks. length marks ≡ length bytes.now / 4096 + 1) }
 {
     let mut marks = Items::new(alloc);
     let mut place = Place::FIRST;
