@@ -2,14 +2,15 @@
 -- wanted variables.
 use Rattle.std.specs.Prelude.{◌≡◌, ℕ, suc, Bool, true, false, not, ◌&&◌, ◌||◌, List, [], ◌∷◌, ◌++◌, if◌then◌else◌}
 use Rattle.std.specs.Str.{bytes_eq}
-use Rattle.std.proofs.Common.{refl, sym, subst}
+use Rattle.std.proofs.Common.{refl, sym, ap, ◌∙◌, subst}
 use Rattle.java_ast.specs.Tree.{Statement, Statements, Nothing, Then}
 use Rattle.java_mean.proofs.Puts.{name_same}
-use Rattle.loop_text.specs.Statements.Fragment.{Fragment, IsNeeded, IsWanted, IsKept, IsClosed, based, mentioned, live_or, StandsIn, first, after, is_live, set_by}
+use Rattle.loop_text.specs.Statements.Fragment.{Fragment, is_dropped, IsNeeded, IsWanted, IsKept, IsClosed, based, mentioned, live_or, StandsIn, first, after, is_live, set_by}
 use Rattle.loop_text.specs.Statements.KeptStatements as kept
 use Rattle.loop_text.specs.Statements.KeptStatements.{AreKept}
 use Rattle.java_ast.specs.Names.{Names, is_among, with_names, mentioned_in, mentioned_among}
 use Rattle.loop_text.specs.Statements.Wanted.{one_where, setting, mentioned_in_all, drops, keeps_visible, mentioned_where, mentioned_by_visible, wanted_first, AreWanted, HasAll, HasFollowing, keeps_setting, kept_numbers}
+use Rattle.loop_setting.specs.Wanted.{all_dropped}
 use Rattle.loop_setting.proofs.Following.{either, or_left, or_right, among_left, among_right, from_both, with_left, with_right, from_with}
 
 -- ---- The least set
@@ -160,3 +161,23 @@ kept_among f further xs n (Then s ss) wanted all has =
 
 pub are_kept : (f : Fragment) (further xs : Names) (n : ℕ) (numbers : List ℕ) → AreWanted f further xs → HasAll xs (wanted_first f further) → HasFollowing f xs xs → numbers ≡ kept_numbers f xs n f.run → AreKept f further n f.run numbers
 are_kept f further xs n numbers wanted all has is = subst (AreKept f further n f.run) (sym is) (kept_among f further xs n f.run wanted all has)
+
+-- ---- All are dropped
+
+pub all_on : (f : Fragment) (s : Statement) (now rest : Statements) (all : Bool) → now ≡ Then s rest → is_dropped f s ≡ true → all_dropped f now ≡ all → all_dropped f rest ≡ all
+all_on f s now rest all e d h = sym (ap (λ (b : Bool). b && all_dropped f rest) d) ∙ sym (ap (all_dropped f) e) ∙ h
+
+pub all_off : (f : Fragment) (s : Statement) (now rest : Statements) (all : Bool) → now ≡ Then s rest → is_dropped f s ≡ false → all_dropped f now ≡ all → false ≡ all
+all_off f s now rest all e d h = sym (ap (λ (b : Bool). b && all_dropped f rest) d) ∙ sym (ap (all_dropped f) e) ∙ h
+
+both_are : {P : Type 0} (b c : Bool) → (b ≡ true → c ≡ true → P) → (b && c) ≡ true → P
+both_are true c p h = p refl h
+both_are false c p h = absurd cc
+
+no_kept : (f : Fragment) (further : Names) (s : Statement) → is_dropped f s ≡ true → IsKept f further s → ⊥
+no_kept f further s dropped k = let e : true ≡ false = sym dropped ∙ k.not_dropped in cc
+
+pub none_kept : (f : Fragment) (further : Names) (n : ℕ) (ss : Statements) → all_dropped f ss ≡ true → AreKept f further n ss []
+none_kept f further n Nothing h = kept.none n
+none_kept f further n (Then s ss) h =
+    both_are (is_dropped f s) (all_dropped f ss) (λ d rest. kept.drops n s ss [] (no_kept f further s d) (none_kept f further (suc n) ss rest)) h

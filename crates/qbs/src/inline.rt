@@ -9,6 +9,7 @@ ghost use Rattle.deliveries.specs.Plan.{given};
 ghost use Rattle.deliveries.specs.Reads.{looks, OnlyReads};
 ghost use Rattle.qbs.specs.Inline.{IsProgramWithCallsOf, HasNoProgramWithCalls, place_in, helper_refusal, has_no_calls_left, types_and_writes, Inlines, inline as inlines, inline_of};
 
+use crate::again::read_again;
 use call_reader::read_helpers;
 use call_rules::HelperFault;
 use deliveries::Plan;
@@ -126,6 +127,7 @@ fn plan_written(
 {
     let text = text_anew(alloc, source, read, whole)?;
     let out = text_for(alloc, text, whole)?;
+    read_again(alloc, schema, out.as_slice())?;
     Ok(Plan {
         status: Status::Ok,
         out,

@@ -1,6 +1,7 @@
 //! The top call: words and files to a status and two texts.
 #![tactic(auto)]
 
+mod again;
 mod check;
 mod clean;
 mod draw;

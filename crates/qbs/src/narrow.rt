@@ -8,6 +8,7 @@ ghost use Rattle.deliveries.specs.Reads.{looks, OnlyReads};
 ghost use Rattle.plans.specs.Opening.{IsSchemaOf, IsProgramOf};
 ghost use Rattle.qbs.specs.Narrow.{start_found, covered_in, Narrows, narrow as narrows, narrow_of};
 
+use crate::again::read_again;
 use deliveries::Plan;
 use deliveries::fetch::{Stop, fetch_schema, fetch_source};
 use files_sinks::Files;
@@ -112,6 +113,7 @@ fn plan_program(
     let text = with_texts(alloc, source, patches.as_slice())?;
     let out = text_for(alloc, text, &program)?;
     let rep = report(alloc, walks.as_slice())?;
+    read_again(alloc, schema, out.as_slice())?;
     Ok(Plan {
         status: Status::Ok,
         out,

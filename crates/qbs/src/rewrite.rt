@@ -12,6 +12,7 @@ ghost use Rattle.qbs.specs.Rewrite.{size_of as size_in, budget_of as budget_in, 
 ghost use Rattle.qbs.specs.Store.{store_names};
 ghost use Rattle.qbs.specs.Within.{AreWithin};
 
+use crate::again::read_again;
 use crate::opened::{Fetched, fetch_files, open_files};
 use crate::stored::rewrite_past_store;
 use deliveries::Plan;
@@ -19,7 +20,6 @@ use deliveries::fetch::Stop;
 use files_sinks::Files;
 use java_types::Typed;
 use kernel_lang::{Candidate, KFragment, PruneAnswer};
-use plans::opening::open_program;
 use proof_store::Bank;
 use qbs_base::{NoMemory, Status, Text};
 use query_search::Pruner;
@@ -115,16 +115,8 @@ fn plan_program(
     let size = size_of(options);
     let budget = budget_of(options);
     let rewritten = rewrite_past_store(alloc, schema, typed, source, size, budget, pruners, bank)?;
-    read_again(alloc, schema, &rewritten)?;
+    read_again(alloc, schema, rewritten.text.as_slice())?;
     Ok(plan_left(alloc, rewritten)?)
-}
-
-// Want of memory where the output wants it when it is read again: a query in it may weigh more than one that is read.
-fn read_again(alloc: Global, schema: &Schema, rewritten: &Rewritten) -> Result<(), NoMemory> {
-    match open_program(alloc, schema, rewritten.text.as_slice()) {
-        Err(Stop::Memory) => Err(NoMemory),
-        _ => Ok(()),
-    }
 }
 
 // The output, and the report.

@@ -11,6 +11,7 @@ ghost use Rattle.qbs.specs.Rewrite.{size_of as size_in, budget_of as budget_in};
 ghost use Rattle.qbs.specs.Unnest.{Unnests, unnest as unnests, unnest_of};
 ghost use Rattle.qbs.specs.Within.{AreWithin};
 
+use crate::again::read_again;
 use crate::rewrite::{budget_of, size_of};
 use deliveries::Plan;
 use deliveries::fetch::{Stop, fetch_schema, fetch_source};
@@ -66,6 +67,7 @@ fn plan_program(
     let size = size_of(options);
     let budget = budget_of(options);
     let unnesting = unnest_loops(alloc, schema, typed, source, size, budget)?;
+    read_again(alloc, schema, unnesting.text.as_slice())?;
     plan_left(alloc, unnesting)
 }
 

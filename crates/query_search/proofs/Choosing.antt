@@ -3,16 +3,13 @@ use Rattle.std.proofs.Common.{if◌then◌else◌, ◌≡◌, ℕ, zero, suc, �
 use Rattle.std.specs.List.{list_any}
 use Rattle.std.specs.declared.option.Option.{Option}
 use Rattle.std.specs.declared.option.Option.TheVariants.{Some, None}
-use Rattle.tor_terms.specs.declared.term.Atom.{Atom}
 use Rattle.tor_terms.specs.Plain.{Form}
-use Rattle.tor_axioms.specs.declared.derivation.Condition.{Condition}
-use Rattle.tor_axioms.specs.Accepts.{Proof, Claim, claim_over}
+use Rattle.tor_axioms.specs.Accepts.{Proof, Claim}
 use Rattle.tor_prover.specs.Derive.{derivation_of}
 use Rattle.kernel_lang.specs.declared.parts.Acc.{Acc}
 use Rattle.kernel_lang.specs.Plain.{Accumulator, Fragment, accumulator}
 use Rattle.kernel_lang.specs.Pools.{chosen, members_from}
 use Rattle.vc_gen.specs.Conditions.{own_conditions, all_conditions}
-use Rattle.vc_gen.specs.Lent.{claims_over}
 use Rattle.vc_gen.specs.Short.{AllShort}
 use Rattle.query_search.specs.Choices.{digits, chosen_by, member_of, member_at, IsFailing}
 use Rattle.query_search.specs.Verdicts.{with_derivation, all_derived}
@@ -77,19 +74,14 @@ derived-none_at (x ∷ xs) zero c e h =
     ap (λ o. with_derivation o (all_derived xs)) (none_from (derivation_of x) (ap (λ y. is_some (derivation_of y)) same ∙ h))
 derived-none_at (x ∷ xs) (suc n) c e h = ap (with_derivation (derivation_of x)) (derived-none_at xs n c e h) ∙ with_none (derivation_of x)
 
-pub claim_at : (atoms : List Atom) (cs : List Condition) (n : ℕ) (c d : Condition) → n < length cs → c ≡ get_or cs n d → slice_get (claims_over atoms cs) n ≡ Some (claim_over atoms c)
-claim_at atoms [] n c d below e = absurd (omega arith)
-claim_at atoms (x ∷ xs) zero c d below e = ap (λ y. Some (claim_over atoms y)) (sym e)
-claim_at atoms (x ∷ xs) (suc n) c d below e = claim_at atoms xs n c d (omega arith) e
-
 -- ---- accumulators of which one fails
 
-drop_at : {X : Type 0} (xs : List X) (i : ℕ) (x : X) → slice_get xs i ≡ Some x → drop i xs ≡ x ∷ drop (i + 1) xs
+pub drop_at : {X : Type 0} (xs : List X) (i : ℕ) (x : X) → slice_get xs i ≡ Some x → drop i xs ≡ x ∷ drop (i + 1) xs
 drop_at [] i x e = absurd cc
 drop_at (y ∷ ys) zero x e = ap (λ o. elim o [ Some z ↦ z ∷ ys | None ↦ y ∷ ys ]) e
 drop_at (y ∷ ys) (suc i) x e = let n : suc i + 1 ≡ suc (i + 1) = omega arith in drop_at ys i x e ∙ ap (λ m. x ∷ drop m (y ∷ ys)) (sym n)
 
-from_here : (f : Fragment) (c : List ℕ) (n i : ℕ) (a : Accumulator) → slice_get f.accs i ≡ Some a
+pub from_here : (f : Fragment) (c : List ℕ) (n i : ℕ) (a : Accumulator) → slice_get f.accs i ≡ Some a
     → all_conditions f.atoms (members_from c n (drop i f.accs)) ≡ own_conditions f.atoms (a, chosen c n a.pool) ++ all_conditions f.atoms (members_from c (n + length a.pool) (drop (i + 1) f.accs))
 from_here f c n i a at = ap (λ as1. all_conditions f.atoms (members_from c n as1)) (drop_at f.accs i a at)
 

@@ -1,9 +1,10 @@
 -- Choices of formulas by numbers, and what is remembered of them.
-use Rattle.std.specs.Prelude.{if◌then◌else◌, ◌≡◌, ℕ, suc, ◌+◌, ◌*◌, ◌/◌, ◌%◌, List, [], ◌∷◌, slice_get, nat_eq}
+use Rattle.std.specs.Prelude.{if◌then◌else◌, ◌≡◌, ℕ, suc, ◌+◌, ◌*◌, ◌/◌, ◌%◌, List, [], ◌∷◌, ◌++◌, slice_get, nat_eq}
 use Rattle.std.specs.List.{list_any}
 use Rattle.std.specs.declared.option.Option.{Option}
 use Rattle.std.specs.declared.option.Option.TheVariants.{Some, None}
 use Rattle.tor_terms.specs.Plain.{Form}
+use Rattle.tor_axioms.specs.Accepts.{Claim}
 use Rattle.kernel_lang.specs.Plain.{Accumulator, Fragment}
 use Rattle.kernel_lang.specs.Pools.{Member}
 use Rattle.vc_gen.specs.Conditions.{own_conditions}
@@ -28,6 +29,16 @@ member_of n (Some a) = Some (a, chosen_by n a.pool)
 
 abbrev pub member_at : Fragment → ℕ → Option Member
 member_at f place = member_of (place / 8) (slice_get f.accs (place % 8))
+
+-- the conditions of an accumulator with its choice, where there is one
+abbrev pub own_at : Fragment → Option Member → List Claim
+own_at f None = []
+own_at f (Some m) = own_conditions f.atoms m
+
+-- of those with the choices of these places, one after the other
+abbrev pub conditions_at : Fragment → List ℕ → List Claim
+conditions_at f [] = []
+conditions_at f (place ∷ places) = own_at f (member_at f place) ++ conditions_at f places
 
 -- the own conditions of an accumulator with this choice have no derivations
 abbrev pub IsFailing : Fragment → Option Member → Type 0

@@ -1,6 +1,7 @@
 pub mod Asking
 pub mod Choices
 pub mod Counted
+pub mod Deciding
 pub mod Firsts
 pub mod Remembered
 pub mod Seen

@@ -1,26 +1,27 @@
 // What has been decided of an accumulator's choices, so that none is judged twice.
-ghost use Rattle.std.specs.Prelude.{◌≡◌, ◌+◌, ◌*◌, ◌%◌, ◌<◌, ◌≤◌, Some, None, IfOk, option_map, IfSome, OnOk, false, true, length, slice_get, is_some, map, drop, ◌++◌};
+ghost use Rattle.std.specs.Prelude.{◌≡◌, ◌+◌, ◌*◌, ◌%◌, ◌<◌, Some, None, IfOk, option_map, IfSome, OnOk, [], false, true, length, slice_get, map, drop, ◌++◌};
 ghost use Rattle.tor_terms.specs.Plain.{forms_of};
 ghost use Rattle.kernel_lang.specs.Plain.{accumulator};
 ghost use Rattle.kernel_lang.specs.Pools.{members_from};
 ghost use Rattle.kernel_lang.specs.Whole.{fragment_of};
-ghost use Rattle.vc_gen.specs.Conditions.{own_conditions, all_conditions};
-ghost use Rattle.vc_gen.specs.Lent.{claims_over};
+ghost use Rattle.vc_gen.specs.Conditions.{all_conditions};
+ghost use Rattle.vc_gen.specs.Short.{AllShort};
 ghost use Rattle.query_search.specs.declared.choices.Decided.TheVariants as answers;
-ghost use Rattle.query_search.specs.declared.choices.Tried.TheVariants as trials;
-ghost use Rattle.query_search.specs.Choices.{digits, chosen_by, member_at, IsFailing, FailAsKnown};
-ghost use Rattle.query_search.specs.Remembered.{IsMemoryOf};
+ghost use Rattle.query_search.specs.Choices.{digits, chosen_by, member_at, own_at, conditions_at, IsFailing, FailAsKnown};
+ghost use Rattle.query_search.specs.Deciding.{IsDecisionOn};
+ghost use Rattle.query_search.specs.Remembered.{AreOutlinesOf, IsKeptOf, IsMemoryOf};
 ghost use Rattle.query_search.specs.Seen.{proofs_in};
 ghost use Rattle.query_search.specs.Verdicts.{all_derived, proofs_of};
 
+use crate::deciding::{Decision, decide};
 use crate::judge::judge;
 use kernel_lang::{Acc, Candidate, KFragment};
 use qbs_base::{Items, NoMemory};
 use std::alloc::Global;
-use tor_axioms::{Condition, Derivations};
-use tor_prover::derives;
-use tor_terms::{Atoms, Formula, Formulas, copy_formula};
-use vc_gen::{has_number, own_condition, own_conditions as list_own};
+use std::mem;
+use tor_axioms::{Derivation, Derivations};
+use tor_terms::{Formula, Formulas, copy_formula};
+use vc_gen::{Outline, has_number, outline_of};
 
 /// What has been decided of an accumulator with a choice. Only that its conditions fail is relied on.
 #[derive(Clone, Copy, PartialEq, Eq)]
@@ -98,120 +99,21 @@ fn chosen(alloc: Global, n: usize, pool: &[Formula]) -> Result<Formulas, NoMemor
     Ok(all)
 }
 
-/// How many conditions are made one at a time, before all of them are: most choices that fail do so among these.
-const FEW: usize = 16;
-
-/// What comes of one condition of an accumulator.
-#[derive(Clone, Copy)]
-pub enum Tried {
-    Derives,
-    Fails,
-    Missing,
-}
-
-/// Tries the condition of a number alone. What derives isn't kept.
-fn try_condition(
-    alloc: Global,
-    atoms: &Atoms,
-    a: &Acc,
-    choice: &[Formula],
-    n: usize,
-) -> Result<Tried, NoMemory>
-    requires { length a.now.chain ≤ 3 }
-    ensures { IfOk result (λ r. r ≡ trials.Fails → all_derived (own_conditions atoms.now (accumulator a.now, forms_of choice.now)) ≡ None) }
-{
-    match own_condition(alloc, atoms, a, choice, n)? {
-        None => Ok(Tried::Missing),
-        Some(condition) => {
-            if !derives(alloc, atoms, &condition)? {
-                return Ok(Tried::Fails);
-            }
-            Ok(Tried::Derives)
-        }
-    }
-}
-
-/// Tries the condition that stands at a place of a list.
-fn try_at(
-    alloc: Global,
-    atoms: &Atoms,
-    conditions: &[Condition],
-    n: usize,
-) -> Result<Tried, NoMemory>
-    ensures { IfOk result (λ r. r ≡ trials.Fails → all_derived (claims_over atoms.now conditions.now) ≡ None) }
-{
-    match conditions.get(n) {
-        None => Ok(Tried::Missing),
-        Some(condition) => {
-            if !derives(alloc, atoms, condition)? {
-                return Ok(Tried::Fails);
-            }
-            Ok(Tried::Derives)
-        }
-    }
-}
-
-/// The number of a condition that doesn't derive, if any, of those behind the first few.
-fn find_behind(
-    alloc: Global,
-    atoms: &Atoms,
-    conditions: &[Condition],
-) -> Result<Option<usize>, NoMemory>
-    ensures { IfOk result (λ o. is_some o ≡ true → all_derived (claims_over atoms.now conditions.now) ≡ None) }
-{
-    for n in FEW..conditions.len() {
-        if let Tried::Fails = try_at(alloc, atoms, conditions, n)? {
-            return Ok(Some(n));
-        }
-    }
-    Ok(None)
-}
-
-/// Makes all conditions of an accumulator with this choice, and tries those behind the first few.
-fn find_in_all(
-    alloc: Global,
-    atoms: &Atoms,
-    a: &Acc,
-    choice: &[Formula],
-) -> Result<Option<usize>, NoMemory>
-    requires { length a.now.chain ≤ 3 }
-    ensures { IfOk result (λ o. is_some o ≡ true → all_derived (own_conditions atoms.now (accumulator a.now, forms_of choice.now)) ≡ None) }
-{
-    let all = list_own(alloc, atoms, a, choice)?;
-    find_behind(alloc, atoms, all.as_slice())
-}
-
-/// The number of a condition of an accumulator with this choice that doesn't derive, if any. The one of the number `likely`
-/// is tried before all others.
-fn find_failing(
-    alloc: Global,
-    atoms: &Atoms,
-    a: &Acc,
-    choice: &[Formula],
-    likely: usize,
-) -> Result<Option<usize>, NoMemory>
-    requires { length a.now.chain ≤ 3 }
-    ensures { IfOk result (λ o. is_some o ≡ true → all_derived (own_conditions atoms.now (accumulator a.now, forms_of choice.now)) ≡ None) }
-{
-    if let Tried::Fails = try_condition(alloc, atoms, a, choice, likely)? {
-        return Ok(Some(likely));
-    }
-    for n in 0..FEW {
-        match try_condition(alloc, atoms, a, choice, n)? {
-            Tried::Derives => {}
-            Tried::Fails => return Ok(Some(n)),
-            Tried::Missing => return Ok(None),
-        }
-    }
-    find_in_all(alloc, atoms, a, choice)
+/// The derivations of accumulators with choices, one after the other: of each the first choice that derived.
+#[derive(Drop)]
+pub struct Kept {
+    places: Vec<usize>,
+    proofs: Vec<Derivation>,
 }
 
 /// What has been decided of a fragment's choices, each at its place, and the number of the condition that failed last: choices
-/// that fail mostly fail by the same one.
+/// that fail mostly fail by the same one. With it what is the same for all choices of each accumulator, and what was derived.
 #[derive(Drop)]
 pub struct Memory {
     known: Vec<Decided>,
     likely: usize,
+    outlines: Items<Outline>,
+    kept: Kept,
 }
 
 fn fails_at(known: &[Decided], place: usize) -> bool
@@ -246,6 +148,55 @@ fn knows_failing(frag: &KFragment, known: &[Decided], i: usize, first: u32, cand
     }
 }
 
+/// Keeps the derivations of an accumulator with the choice of a place, where those kept are of all accumulators before it.
+fn keep(
+    frag: &KFragment,
+    kept: &mut Kept,
+    place: usize,
+    proofs: Derivations,
+) -> Result<(), NoMemory>
+    requires before { IsKeptOf (fragment_of frag.now) kept.old }
+    requires derived { all_derived (own_at (fragment_of frag.now) (member_at (fragment_of frag.now) place)) ≡ Some (proofs_in proofs) }
+    ensures { OnOk result (IsKeptOf (fragment_of frag.now) kept.new) }
+{
+    let _frag = frag;
+    if kept.places.len() != place % 8 {
+        return Ok(());
+    }
+    let mut proofs = proofs.into_vec();
+    kept.proofs.append(&mut proofs)?;
+    kept.places.push(place)?;
+    Ok(())
+}
+
+/// Decides an accumulator with the choice of a place.
+fn decide_open(
+    alloc: Global,
+    frag: &KFragment,
+    memory: &Memory,
+    a: &Acc,
+    place: usize,
+) -> Result<Decision, NoMemory>
+    requires known { IsMemoryOf (fragment_of frag.now) memory.now }
+    requires at { slice_get (fragment_of frag.now).accs (place % 8) ≡ Some (accumulator a.now) }
+    ensures { IfOk result (IsDecisionOn (own_at (fragment_of frag.now) (member_at (fragment_of frag.now) place))) }
+{
+    match memory.outlines.as_slice().get(place % 8) {
+        None => Ok(Decision::Nothing),
+        Some(outline) => {
+            let choice = chosen(alloc, place / 8, a.pool.as_slice())?;
+            decide(
+                alloc,
+                &frag.atoms,
+                a,
+                outline,
+                choice.as_slice(),
+                memory.likely,
+            )
+        }
+    }
+}
+
 /// Whether an accumulator derives with the choice of a place, as it is known or else decided and kept.
 fn decide_at(
     alloc: Global,
@@ -255,7 +206,6 @@ fn decide_at(
     place: usize,
 ) -> Result<bool, NoMemory>
     requires known { IsMemoryOf (fragment_of frag.now) memory.old }
-    requires short { length a.now.chain ≤ 3 }
     requires at { slice_get (fragment_of frag.now).accs (place % 8) ≡ Some (accumulator a.now) }
     ensures kept { OnOk result (IsMemoryOf (fragment_of frag.now) memory.new) }
     ensures fails { IfOk result (λ b. b ≡ false → IsFailing (fragment_of frag.now) (member_at (fragment_of frag.now) place)) }
@@ -264,20 +214,19 @@ fn decide_at(
         None => Ok(true),
         Some(Decided::Derives) => Ok(true),
         Some(Decided::Fails) => Ok(false),
-        Some(Decided::Open) => {
-            let choice = chosen(alloc, place / 8, a.pool.as_slice())?;
-            match find_failing(alloc, &frag.atoms, a, choice.as_slice(), memory.likely)? {
-                None => {
-                    memory.known[place] = Decided::Derives;
-                    Ok(true)
-                }
-                Some(n) => {
-                    memory.known[place] = Decided::Fails;
-                    memory.likely = n;
-                    Ok(false)
-                }
+        Some(Decided::Open) => match decide_open(alloc, frag, memory, a, place)? {
+            Decision::Nothing => Ok(true),
+            Decision::Derived(proofs) => {
+                memory.known[place] = Decided::Derives;
+                keep(frag, &mut memory.kept, place, proofs)?;
+                Ok(true)
             }
-        }
+            Decision::Failing(n) => {
+                memory.known[place] = Decided::Fails;
+                memory.likely = n;
+                Ok(false)
+            }
+        },
     }
 }
 
@@ -313,6 +262,42 @@ fn decide_from(
     }
 }
 
+/// Whether these are the places of the accumulators from the number `i` on with the choices that a candidate makes.
+fn are_places(frag: &KFragment, places: &[usize], i: usize, first: u32, cand: &[u32]) -> bool
+    ensures { result ≡ true
+        → conditions_at (fragment_of frag.now) places.now
+        ≡ all_conditions (fragment_of frag.now).atoms (members_from cand.now first (drop i (fragment_of frag.now).accs)) }
+{
+    match frag.accs.as_slice().get(i) {
+        None => places.is_empty(),
+        Some(a) => match places.split_first() {
+            None => false,
+            Some((place, rest)) => match place_of(cand, first, a, i) {
+                None => false,
+                Some(own) => match behind(first, a) {
+                    None => false,
+                    Some(next) => {
+                        if own != *place {
+                            return false;
+                        }
+                        are_places(frag, rest, i + 1, next, cand)
+                    }
+                },
+            },
+        },
+    }
+}
+
+/// Takes the derivations that are kept.
+fn take(alloc: Global, kept: &mut Kept) -> Derivations
+    ensures taken { result ≡ kept.old.proofs.items }
+    ensures places { kept.new.places.items ≡ [] }
+    ensures proofs { kept.new.proofs.items ≡ [] }
+{
+    kept.places = Vec::new(alloc);
+    Items::from_vec(mem::replace(&mut kept.proofs, Vec::new(alloc)))
+}
+
 /// The derivations of a candidate's conditions, where all of them derive, by what is known of choices.
 pub fn judge_by(
     alloc: Global,
@@ -330,6 +315,9 @@ pub fn judge_by(
     if !decide_from(alloc, frag, memory, 0, 0, cand.as_slice())? {
         return Ok(None);
     }
+    if are_places(frag, memory.kept.places.as_slice(), 0, 0, cand.as_slice()) {
+        return Ok(Some(take(alloc, &mut memory.kept)));
+    }
     judge(alloc, frag, cand)
 }
 
@@ -346,10 +334,41 @@ fn places(frag: &KFragment) -> usize {
     places
 }
 
+/// What is the same for all choices, of each accumulator.
+fn outlines(alloc: Global, accs: &[Acc]) -> Result<Items<Outline>, NoMemory>
+    requires { AllShort accs.now }
+    ensures { IfOk result (AreOutlinesOf (map accumulator accs.now)) }
+{
+    let mut all = Items::new(alloc);
+    for a in accs {
+        let one = outline_of(alloc, a)?;
+        all.push(one)?;
+    }
+    Ok(all)
+}
+
+/// Choices of which none has been decided.
+fn undecided(alloc: Global, frag: &KFragment) -> Result<Vec<Decided>, NoMemory>
+    ensures { IfOk result (λ known. FailAsKnown (fragment_of frag.now) known.items) }
+{
+    let known = vec![in alloc; Decided::Open; places(frag)]?;
+    Ok(known)
+}
+
 /// A memory in which nothing has been decided.
 pub fn new_memory(alloc: Global, frag: &KFragment) -> Result<Memory, NoMemory>
     ensures { IfOk result (IsMemoryOf (fragment_of frag.now)) }
 {
-    let known = vec![in alloc; Decided::Open; places(frag)]?;
-    Ok(Memory { known, likely: 0 })
+    let outlines = outlines(alloc, frag.accs.as_slice())?;
+    let known = undecided(alloc, frag)?;
+    let kept = Kept {
+        places: Vec::new(alloc),
+        proofs: Vec::new(alloc),
+    };
+    Ok(Memory {
+        known,
+        likely: 0,
+        outlines,
+        kept,
+    })
 }

@@ -5,6 +5,7 @@
 mod answer;
 mod asking;
 mod choices;
+mod deciding;
 mod extra;
 mod found;
 mod judge;

@@ -1,5 +1,6 @@
 // The conditions of candidates: how many facts each has, and whether it says that a flag is set.
-ghost use Rattle.std.specs.Prelude.{◌≤◌, length};
+ghost use Rattle.kernel_lang.specs.Plain.{accumulator};
+ghost use Rattle.vc_gen.specs.Outlines.{IsOutlineOf};
 
 use crate::words::numbers_from;
 use kernel_lang::{Acc, KFragment};
@@ -7,7 +8,7 @@ use qbs_base::{NoMemory, Scalar};
 use std::alloc::{AllocError, Global};
 use tor_axioms::Vc;
 use tor_terms::{Atoms, Formula, Term};
-use vc_gen::{conditions, own_condition};
+use vc_gen::{Outline, conditions, outline_of, own_condition};
 
 fn put_condition(out: &mut String, vc: &Vc) -> Result<(), AllocError> {
     let facts = vc.facts.len();
@@ -43,12 +44,13 @@ fn facts_of(
     alloc: Global,
     atoms: &Atoms,
     acc: &Acc,
+    outline: &Outline,
     choice: &[Formula],
     number: usize,
 ) -> Result<Option<usize>, NoMemory>
-    requires { length acc.now.chain ≤ 3 }
+    requires { IsOutlineOf (accumulator acc.now) outline.now }
 {
-    match own_condition(alloc, atoms, acc, choice, number)? {
+    match own_condition(alloc, atoms, acc, outline, choice, number)? {
         Some(condition) => {
             let condition = Box::new(alloc, condition)?;
             Ok(Some(condition.facts.len()))
@@ -65,9 +67,10 @@ fn put_own(out: &mut String, alloc: Global, atoms: &Atoms, acc: &Acc) -> Result<
     if acc.chain.len() > 3 {
         return Ok(());
     }
+    let outline = outline_of(alloc, acc)?;
     out.push_str("facts")?;
     for number in 0..16 {
-        match facts_of(alloc, atoms, acc, choice, number)? {
+        match facts_of(alloc, atoms, acc, &outline, choice, number)? {
             Some(facts) => write!(out, " {facts}")?,
             None => break,
         }

@@ -46,7 +46,7 @@ guard_length None false = refl
 guard_length (Some f) want = paths_length f want
 
 module _ (atoms : List Atom) where
-  by_paths_length : (F : Path) (l r : Tree) (ps : List Path) → length (by_paths atoms F l r ps) ≡ length ps
+  pub by_paths_length : (F : Path) (l r : Tree) (ps : List Path) → length (by_paths atoms F l r ps) ≡ length ps
   by_paths_length F l r [] = refl
   by_paths_length F l r (p ∷ ps) = ap suc (by_paths_length F l r ps)
 

@@ -30,3 +30,4 @@ pub mod Unguarded
 pub mod Seeking
 pub mod ByAccumulator
 mod WithAtoms
+pub mod Staged

@@ -5,3 +5,4 @@ pub mod Short
 pub mod Soundness
 pub mod Worked
 pub mod Sought
+pub mod Outlines

@@ -6,10 +6,12 @@ mod condition;
 pub mod laws;
 mod level;
 mod nth;
+mod outline;
 mod own;
 mod paths;
 mod terms;
 
 pub use all::{conditions, conditions_over, has_number};
 pub use nth::own_condition;
-pub use own::{Conditions, own_conditions};
+pub use outline::{Outline, outline_of};
+pub use own::Conditions;

@@ -289,20 +289,3 @@ pub fn add_own(
     };
     add_in_place(alloc, &chosen, &a.start, outside, inside, all)
 }
-
-/// The conditions of an accumulator with its choice of formulas, over atoms that aren't copied. The
-/// conditions of a candidate are those of its accumulators with their choices, one accumulator after
-/// the other. The accumulator has to have at most three loops. The error is want of memory.
-pub fn own_conditions(
-    alloc: Global,
-    atoms: &Atoms,
-    a: &Acc,
-    choice: &[Formula],
-) -> Result<Conditions, NoMemory>
-    requires { length a.now.chain ≤ 3 }
-    ensures { IfOk result (λ all. claims_over atoms.now all ≡ spec.own_conditions atoms.now (accumulator a.now, forms_of choice.now)) }
-{
-    let mut all = Items::new(alloc);
-    add_own(alloc, atoms, a, choice, &mut all)?;
-    Ok(all)
-}

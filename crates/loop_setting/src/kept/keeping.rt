@@ -21,7 +21,7 @@ use qbs_base::{Name, NoMemory, Numbers, boxed, held};
 use std::alloc::Global;
 
 /// The numbers of the kept statements of a run whose first one has this number, where the queries of the rewrite read
-/// these entry values.
+/// these entry values. Where the run sets nothing but what is dropped, none is kept, and what stands behind the loop isn't looked at.
 pub fn kept_of(
     alloc: Global,
     f: &Fragment,
@@ -46,8 +46,28 @@ fn kept_beside<'a>(
     ensures { IfOk result (AreKept (fragment_in_code f.now) (names_read (exprs_lent entries.now)) first (statements f.now.run.now)) }
 {
     let accumulators = accumulators(alloc, f)?;
-    let wanted = wanted_of(alloc, f, entries, &accumulators, none)?;
-    kept_numbers(alloc, f, &accumulators, &wanted, none, first)
+    if drops_all(f, &accumulators, none) {
+        return Ok(Numbers::new(alloc));
+    }
+    kept_where_wanted(alloc, f, entries, first, &accumulators, none)
+}
+
+// The same by the variables that are wanted.
+fn kept_where_wanted<'a>(
+    alloc: Global,
+    f: &Fragment<'a>,
+    entries: &[&'a Expr],
+    first: u64,
+    accumulators: &NameList,
+    none: &Name,
+) -> Result<Numbers, NoMemory>
+    requires empty { none.now ≡ [] }
+    requires listed { IsListed accumulators.now }
+    requires names { names_lent accumulators.now.names ≡ fragment.accumulators (fragment_in_code f.now) }
+    ensures { IfOk result (AreKept (fragment_in_code f.now) (names_read (exprs_lent entries.now)) first (statements f.now.run.now)) }
+{
+    let wanted = wanted_of(alloc, f, entries, accumulators, none)?;
+    kept_numbers(alloc, f, accumulators, &wanted, none, first)
 }
 
 // Whether the statements that set this variable are dropped.
@@ -57,6 +77,21 @@ fn drops(f: &Fragment, accumulators: &NameList, x: &Name) -> bool
     ensures { result ≡ specs.drops (fragment_in_code f.now) x.now }
 {
     accumulators.seen.has(x) || is_name(counter(f.looped), x)
+}
+
+// Whether the run sets nothing but variables whose statements are dropped.
+fn drops_all(f: &Fragment, accumulators: &NameList, none: &Name) -> bool
+    requires empty { none.now ≡ [] }
+    requires listed { IsListed accumulators.now }
+    requires names { names_lent accumulators.now.names ≡ fragment.accumulators (fragment_in_code f.now) }
+    ensures { result ≡ specs.all_dropped (fragment_in_code f.now) (statements f.now.run.now) }
+{
+    for s in f.run {
+        if !drops(f, accumulators, set_by(s, none)) {
+            return false;
+        }
+    }
+    true
 }
 
 // Puts what follows from a wanted variable behind the names of a list: what the statements mention that set it.

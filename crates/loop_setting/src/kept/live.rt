@@ -32,9 +32,30 @@ fn is_live_beside(f: &Fragment, mentioned: &NameList, x: &Name) -> bool
     is_live_where(f.visible.has(x), mentioned.seen.has(x))
 }
 
-/// The live ones of some accumulators.
+// Of so many names each is looked for by itself.
+const FEW: usize = 8;
+
+// The live ones of a few accumulators. Each is looked for behind the loop, as far as it is mentioned first: no other name is looked at twice.
 #[tactic(auto, using(loop_text::proofs::Trees::Kept::kept))]
-pub fn live_among<'a>(
+fn live_of_few<'a>(
+    alloc: Global,
+    f: &Fragment,
+    names: &[&'a Name],
+) -> Result<Items<&'a Name>, NoMemory>
+    ensures { IfOk result (λ r. names_lent r ≡ filter (fragment.is_live (fragment_in_code f.now)) (names_lent names.now)) }
+{
+    let mut live = Items::new(alloc);
+    for x in names {
+        if is_live(f, x) {
+            live.push(*x)?;
+        }
+    }
+    Ok(live)
+}
+
+// The live ones of many accumulators, by a list of all that is mentioned behind the loop.
+#[tactic(auto, using(loop_text::proofs::Trees::Kept::kept))]
+fn live_of_many<'a>(
     alloc: Global,
     f: &Fragment,
     names: &[&'a Name],
@@ -50,4 +71,18 @@ pub fn live_among<'a>(
         }
     }
     Ok(live)
+}
+
+/// The live ones of some accumulators.
+pub fn live_among<'a>(
+    alloc: Global,
+    f: &Fragment,
+    names: &[&'a Name],
+) -> Result<Items<&'a Name>, NoMemory>
+    ensures { IfOk result (λ r. names_lent r ≡ filter (fragment.is_live (fragment_in_code f.now)) (names_lent names.now)) }
+{
+    if names.len() <= FEW {
+        return live_of_few(alloc, f, names);
+    }
+    live_of_many(alloc, f, names)
 }

@@ -1,16 +1,9 @@
-use Rattle.std.proofs.Common.{refl}
 use Rattle.tor_terms.specs.Plain.{forms_of}
 use Rattle.kernel_lang.specs.Plain.{accumulator}
 use Rattle.kernel_lang.specs.Whole.{fragment_of}
-use Rattle.vc_gen.proofs.Short.{accs_short}
 use Rattle.query_search.specs.Choices.{digits}
-use Rattle.query_search.proofs.Choosing.{acc_at, short_at, placed-at, fails-here, fails-later, later-ok}
+use Rattle.query_search.proofs.Choosing.{acc_at, placed-at, fails-here, fails-later, later-ok}
 use Rattle.query_search.proofs.choices.+decide_from.Goals as goal
-
-pub decide_at-requires-clause-short : goal.decide_at-requires-clause-short
-decide_at-requires-clause-short t c =
-    short_at c.args.frag.now.accs c.as_slice.result.now c.args.i c.in-Some.a.now c.in-Some.a.now c.as_slice.ensures (accs_short (fragment_of c.args.frag.now) c.args.frag.now.accs refl c.args.frag.now.valid)
-    c.in-Some.ensures.lookup.3.0 c.in-Some.ensures.lookup.1
 
 pub decide_at-requires-clause-at : goal.decide_at-requires-clause-at
 decide_at-requires-clause-at t c =

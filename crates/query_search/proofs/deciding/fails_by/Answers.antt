@@ -4,7 +4,7 @@ use Rattle.tor_axioms.specs.Accepts.{claim_over}
 use Rattle.kernel_lang.specs.Plain.{accumulator}
 use Rattle.vc_gen.specs.Conditions.{own_conditions}
 use Rattle.query_search.proofs.Choosing.{derived-none_at}
-use Rattle.query_search.proofs.choices.try_condition.Goals as goal
+use Rattle.query_search.proofs.deciding.fails_by.Goals as goal
 
 pub returns-then-not-branch : goal.returns-then-not-branch
 returns-then-not-branch c = λ e.
