@@ -7,7 +7,7 @@ use Rattle.qbs_base.specs.declared.scalar.Value.{Value}
 use Rattle.qbs_base.specs.declared.scalar.Value.TheVariants as values
 use Rattle.java_mean.specs.Store as meant
 use Rattle.java_steps.specs.declared.held.List.{List}
-use Rattle.java_steps.specs.declared.held.List.TheVariants.{Lent, Shared, Distinct}
+use Rattle.java_steps.specs.declared.held.List.TheVariants.{Lent, Shared, Indexed}
 use Rattle.java_steps.specs.declared.held.Held.{Held}
 use Rattle.java_steps.specs.declared.held.Held.TheVariants as held
 use Rattle.java_steps.specs.declared.held.Held.TheVariants.{One, Whole, Many}
@@ -17,7 +17,7 @@ use Rattle.java_steps.specs.declared.stop.Stop.{Stop}
 abbrev pub rows_in : List → Items Row
 rows_in (Lent rows) = rows.now
 rows_in (Shared rows) = rows.value
-rows_in (Distinct members) = members.value
+rows_in (Indexed members) = members.value
 
 abbrev pub value_in : Held → Value
 value_in (One x) = values.One x

@@ -37,6 +37,7 @@ fn in_expression<'a>(
         }
         ExprNode::Contains(x, a) => {
             numbers.note_name(e.span, x)?;
+            numbers.note_look(e.span, is_repeated)?;
             in_expression(a, queries, numbers, is_repeated)
         }
         ExprNode::Fetch(_) => Ok(()),

@@ -7,13 +7,13 @@ use qbs_base::{NoMemory, Row, Rows, Scalar, Value, copy_row, copy_rows, copy_sca
 use std::alloc::Global;
 use std::rc::Rc;
 
-/// Rows of a list: those of a table, lent by the database, rows that variables share, or a set that
-/// knows its members, which they share too.
+/// Rows of a list: those of a table, lent by the database, rows that variables share, or a list or set
+/// that knows its members, which they share too.
 #[derive(Drop)]
 pub enum List<'a> {
     Lent(&'a [Row]),
     Shared(Rc<Rows>),
-    Distinct(Rc<Members>),
+    Indexed(Rc<Members>),
 }
 
 /// What a variable holds or an expression gives: a scalar, a row of its own or one that the database
@@ -40,7 +40,7 @@ pub fn rows<'b, 'a>(list: &'b List<'a>) -> &'b [Row]
     match list {
         List::Lent(rows) => rows,
         List::Shared(rows) => rows.as_slice(),
-        List::Distinct(members) => members.as_slice(),
+        List::Indexed(members) => members.as_slice(),
     }
 }
 
@@ -51,7 +51,7 @@ pub fn list_again<'a>(list: &List<'a>) -> Result<List<'a>, NoMemory>
     match list {
         List::Lent(rows) => Ok(List::Lent(rows)),
         List::Shared(rows) => Ok(List::Shared(rows.clone()?)),
-        List::Distinct(members) => Ok(List::Distinct(members.clone()?)),
+        List::Indexed(members) => Ok(List::Indexed(members.clone()?)),
     }
 }
 
@@ -85,22 +85,22 @@ pub fn own_rows(alloc: Global, list: List) -> Result<Rows, NoMemory>
     match list {
         List::Lent(rows) => copy_rows(alloc, rows),
         List::Shared(rows) => unshared(alloc, rows),
-        List::Distinct(members) => match Rc::try_unwrap(members) {
+        List::Indexed(members) => match Rc::try_unwrap(members) {
             Ok(members) => Ok(members.into_rows()),
             Err(members) => copy_rows(alloc, members.as_slice()),
         },
     }
 }
 
-/// The rows of a list as a set of its own that knows its members: each row is met anew only where
-/// the list was no such set before, or something else holds it.
+/// The rows of a list as rows of its own that know their members: each row is met anew only where the
+/// list didn't know them before, or something else holds it.
 pub fn own_members(alloc: Global, list: List) -> Result<Members, NoMemory>
     ensures { IfOk result (λ members. members ≡ rows_in list.entry) }
 {
     match list {
         List::Lent(rows) => Members::from_rows(alloc, copy_rows(alloc, rows)?),
         List::Shared(rows) => Members::from_rows(alloc, unshared(alloc, rows)?),
-        List::Distinct(members) => match Rc::try_unwrap(members) {
+        List::Indexed(members) => match Rc::try_unwrap(members) {
             Ok(members) => Ok(members),
             Err(members) => Members::from_rows(alloc, copy_rows(alloc, members.as_slice())?),
         },
@@ -114,11 +114,49 @@ pub fn list_of<'a>(alloc: Global, rows: Rows) -> Result<List<'a>, NoMemory>
     Ok(List::Shared(Rc::new(alloc, rows)?))
 }
 
-/// A list of the rows of a set that knows its members.
+// Rows as a list that knows its members, where nothing else holds them.
+fn indexed_alone<'a>(alloc: Global, rows: Rc<Rows>) -> Result<List<'a>, NoMemory>
+    ensures { IfOk result (λ l. rows_in l ≡ rows.value) }
+{
+    match Rc::try_unwrap(rows) {
+        Ok(rows) => list_of_members(alloc, Members::from_rows(alloc, rows)?),
+        Err(rows) => Ok(List::Shared(rows)),
+    }
+}
+
+// A list that knows its members. Rows that something else holds too stay as they are, since they would be copied.
+fn indexed<'a>(alloc: Global, list: List<'a>) -> Result<List<'a>, NoMemory>
+    ensures { IfOk result (λ l. rows_in l ≡ rows_in list.entry) }
+{
+    match list {
+        List::Lent(rows) => {
+            let rows = copy_rows(alloc, rows)?;
+            list_of_members(alloc, Members::from_rows(alloc, rows)?)
+        }
+        List::Shared(rows) => indexed_alone(alloc, rows),
+        List::Indexed(members) => Ok(List::Indexed(members)),
+    }
+}
+
+/// The same value for a variable in which members are looked for again and again, where `looks` says so: its list knows them from
+/// then on.
+pub fn held_to_look_in<'a>(alloc: Global, looks: bool, held: Held<'a>) -> Result<Held<'a>, NoMemory>
+    ensures { IfOk result (λ h. value_in h ≡ value_in held.entry) }
+{
+    if !looks {
+        return Ok(held);
+    }
+    match held {
+        Held::Many(list) => Ok(Held::Many(indexed(alloc, list)?)),
+        other => Ok(other),
+    }
+}
+
+/// A list of the rows of one that knows its members.
 pub fn list_of_members<'a>(alloc: Global, members: Members) -> Result<List<'a>, NoMemory>
     ensures { IfOk result (λ l. rows_in l ≡ members) }
 {
-    Ok(List::Distinct(Rc::new(alloc, members)?))
+    Ok(List::Indexed(Rc::new(alloc, members)?))
 }
 
 /// The value as one that stands alone.

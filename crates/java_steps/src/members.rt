@@ -1,5 +1,5 @@
-// Sets that know their members.
-ghost use Rattle.std.specs.Prelude.{◌≡◌, true, IfOk};
+// Lists and sets that know their members.
+ghost use Rattle.std.specs.Prelude.{◌≡◌, ◌++◌, [], ◌∷◌, true, IfOk};
 ghost use Rattle.std.specs.List.{list_any};
 ghost use Rattle.qbs_base.specs.Scalar.{same_cells};
 ghost use Rattle.java_mean.specs.Statement.{added};
@@ -31,7 +31,7 @@ impl Model for Members {
 }
 
 impl Members {
-    /// These rows, each of which is met once.
+    /// These rows, each of which is met.
     pub fn from_rows(alloc: Global, rows: Rows) -> Result<Members, NoMemory>
         ensures { IfOk result (λ m. m ≡ rows) }
     {
@@ -59,6 +59,17 @@ impl Members {
         ensures { result ≡ self }
     {
         Rows::from_vec(self.rows)
+    }
+
+    /// The rows with one more at the end.
+    pub fn with_last(self, alloc: Global, row: Row) -> Result<Members, NoMemory>
+        ensures { IfOk result (λ m. m ≡ self ++ row ∷ []) }
+    {
+        let mut rows = self.rows;
+        let mut met = self.met;
+        meet(alloc, &mut met, &row)?;
+        rows.push(row)?;
+        Ok(Members { rows, met })
     }
 
     /// The rows with one more at the end, where none of them has its cells.

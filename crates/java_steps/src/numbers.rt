@@ -18,11 +18,14 @@ pub struct Slot<'a> {
 }
 
 /// Names, each once, and the number at each place of the source, by the byte at which a node begins:
-/// 0 where none was noted. A number says only where a variable or a query is looked for first.
+/// 0 where none was noted. A number says only where a variable or a query is looked for first. Beside
+/// these it notes in which variables members are looked for again and again: their lists had better know
+/// them, and it says no more.
 #[derive(Drop)]
 pub struct Numbers<'a> {
     names: IndexSet<&'a [u8]>,
     places: Vec<usize>,
+    looked_in: IndexSet<usize>,
 }
 
 impl<'a> Model for Numbers<'a> {
@@ -54,6 +57,7 @@ impl<'a> Numbers<'a> {
         Numbers {
             names: IndexSet::new(alloc),
             places: Vec::new(alloc),
+            looked_in: IndexSet::new(alloc),
         }
     }
 
@@ -84,6 +88,23 @@ impl<'a> Numbers<'a> {
             Ok((number, _)) => self.note(at, number),
             Err(_) => Err(NoMemory),
         }
+    }
+
+    /// Notes that members are looked for in the variable whose number is noted at a place, again and
+    /// again where it is repeated.
+    pub fn note_look(&mut self, at: Span, is_repeated: bool) -> Result<(), NoMemory>
+        ensures { self.new ≡ self.old }
+    {
+        if is_repeated {
+            let number = self.at(at);
+            self.looked_in.insert(number)?;
+        }
+        Ok(())
+    }
+
+    /// Whether members are looked for again and again in the variable with this number.
+    pub fn is_looked_in(&self, number: usize) -> bool {
+        self.looked_in.contains(&number)
     }
 
     /// The number at the place where a node begins.

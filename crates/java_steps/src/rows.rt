@@ -83,15 +83,15 @@ fn is_among(rows: &[Row], cells: &[Scalar]) -> bool
     false
 }
 
-/// Whether a row with these cells is a member of a list. In a set that knows its members it is looked
-/// up, and no row is walked over.
+/// Whether a row with these cells is a member of a list. In a list or set that knows its members it is
+/// looked up, and no row is walked over.
 pub fn has_member(alloc: Global, list: &List, cells: &[Scalar]) -> Result<bool, NoMemory>
     ensures { IfOk result (λ found. found ≡ list_any (λ b. scalars.same_cells cells.now b.cells) (rows_in list.now)) }
 {
     match list {
         List::Lent(rows) => Ok(is_among(rows, cells)),
         List::Shared(rows) => Ok(is_among(rows.as_slice(), cells)),
-        List::Distinct(members) => members.contains(alloc, cells),
+        List::Indexed(members) => members.contains(alloc, cells),
     }
 }
 
@@ -142,6 +142,6 @@ pub fn member<'a>(alloc: Global, list: &List<'a>, i: usize) -> Result<Held<'a>, 
     match list {
         List::Lent(rows) => lent_member(alloc, rows, i),
         List::Shared(rows) => copied_member(alloc, rows.as_slice(), i),
-        List::Distinct(members) => copied_member(alloc, members.as_slice(), i),
+        List::Indexed(members) => copied_member(alloc, members.as_slice(), i),
     }
 }

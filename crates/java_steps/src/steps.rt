@@ -1,5 +1,5 @@
 // What statements that hold no others do, and what those that do ask first.
-ghost use Rattle.std.specs.Prelude.{◌≡◌, IfOk, OnOk, option_map};
+ghost use Rattle.std.specs.Prelude.{◌≡◌, ◌++◌, [], ◌∷◌, IfOk, OnOk, option_map};
 ghost use Rattle.qbs_base.specs.declared.scalar.Scalar.TheVariants.{Long};
 ghost use Rattle.qbs_base.specs.declared.scalar.Value.TheVariants.{One};
 ghost use Rattle.java_ast.specs.Reading.{expression, spelled};
@@ -13,7 +13,9 @@ ghost use Rattle.java_steps.specs.Words.{assigned, added_to, adds, assigns, decl
 
 use crate::asked::{bool_of, list_in, member_of};
 use crate::eval::{eval, scalar};
-use crate::held::{Held, List, Variable, list_of, list_of_members, own_members, own_rows};
+use crate::held::{
+    Held, List, Variable, held_to_look_in, list_of, list_of_members, own_members, own_rows,
+};
 use crate::machine::Machine;
 use crate::quick::{long, truth};
 use crate::sorting::sorted;
@@ -74,6 +76,27 @@ fn value_of<'a>(e: &Expr, source: &Source<'a>, store: &Store<'a>) -> Result<Held
     }
 }
 
+// The value for the variable with this number: its list knows its members where they are looked for
+// again and again.
+fn to_look_in<'a>(source: &Source, number: usize, held: Held<'a>) -> Result<Held<'a>, NoMemory>
+    ensures { IfOk result (λ h. value_in h ≡ value_in held.entry) }
+{
+    held_to_look_in(source.alloc, source.numbers.is_looked_in(number), held)
+}
+
+// The value of an expression for the variable with this number.
+fn value_kept<'a>(
+    e: &Expr,
+    number: usize,
+    source: &Source<'a>,
+    store: &Store<'a>,
+) -> Result<Held<'a>, Stop>
+    ensures { GivesBy value_in result (meant_value (expression e.now) (world source.now) store.now) }
+{
+    let held = value_of(e, source, store)?;
+    Ok(to_look_in(source, number, held)?)
+}
+
 /// Declares a variable with the value of an expression.
 #[inline(never)]
 pub fn declare<'a>(
@@ -86,7 +109,7 @@ pub fn declare<'a>(
 ) -> Result<(), Stop>
     ensures { Goes result (state m.new) (declares (spelled ty.now) name.now (expression value.now) (world source.now) (state m.old)) }
 {
-    let held = value_of(value, source, &m.store)?;
+    let held = value_kept(value, number, source, &m.store)?;
     let is_set = is_set_type(ty);
     m.store.replace(number, name, Variable { held, is_set })?;
     Ok(())
@@ -133,7 +156,12 @@ pub fn assign<'a>(
 {
     match long(value, source, &m.store) {
         Some(n) => put_long(number, name, n, m),
-        None => put_value(number, name, eval(value, source, &m.store)?, m),
+        None => put_value(
+            number,
+            name,
+            value_kept(value, number, source, &m.store)?,
+            m,
+        ),
     }
 }
 
@@ -145,6 +173,19 @@ fn nothing<'a>() -> Variable<'a> {
     }
 }
 
+// A list with one member more, which knows its members where it did so before.
+fn with_last<'a>(alloc: Global, list: List, row: Row) -> Result<List<'a>, NoMemory>
+    ensures { IfOk result (λ l. rows_in l ≡ rows_in list.entry ++ row ∷ []) }
+{
+    if let List::Indexed(_) = &list {
+        let members = own_members(alloc, list)?;
+        return list_of_members(alloc, members.with_last(alloc, row)?);
+    }
+    let mut rows = own_rows(alloc, list)?;
+    rows.push(row)?;
+    list_of(alloc, rows)
+}
+
 fn with_member<'a>(alloc: Global, is_set: bool, list: List, row: Row) -> Result<List<'a>, NoMemory>
     ensures { IfOk result (λ l. rows_in l ≡ meant.added is_set (rows_in list.entry) row) }
 {
@@ -152,9 +193,7 @@ fn with_member<'a>(alloc: Global, is_set: bool, list: List, row: Row) -> Result<
         let members = own_members(alloc, list)?;
         return list_of_members(alloc, members.with_row(alloc, row)?);
     }
-    let mut rows = own_rows(alloc, list)?;
-    rows.push(row)?;
-    list_of(alloc, rows)
+    with_last(alloc, list, row)
 }
 
 fn add_row<'a>(
