@@ -5,6 +5,10 @@ use Rattle.std.specs.Prelude.{ℕ}
 abbrev pub most_schema : ℕ
 most_schema = 262144
 
+-- 256 KiB
+abbrev pub most_map : ℕ
+most_map = 262144
+
 -- 1 MiB
 abbrev pub most_source : ℕ
 most_source = 1048576

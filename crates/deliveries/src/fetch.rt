@@ -15,6 +15,9 @@ use std::alloc::{AllocError, AllocFailed, Global};
 /// The most bytes of a schema.
 pub const MOST_SCHEMA: u64 = 262144;
 
+/// The most bytes of a map by which files are viewed.
+pub const MOST_MAP: u64 = 262144;
+
 /// The most bytes of a source.
 pub const MOST_SOURCE: u64 = 1048576;
 

@@ -25,10 +25,13 @@ use Rattle.sql_ast.specs.Tree.{PlainQuery}
 use Rattle.sql_ast.proofs.Judged.{query_exactly}
 use Rattle.schema.specs.declared.fault.SchemaFault.{SchemaFault}
 use Rattle.schema.specs.Schemas.{schema_of}
+use Rattle.view_map.specs.declared.fault.MapFault.{MapFault}
+use Rattle.view_map.specs.declared.model.ViewMap.{ViewMap}
+use Rattle.view_map.specs.Maps.{map_of}
 use Rattle.deliveries.specs.declared.fetch.Stop.{Stop}
 use Rattle.plans.specs.Calls.{word_refusal}
 use Rattle.deliveries.specs.Code.{Goes, StopsWith}
-use Rattle.plans.specs.Opening.{IsSchemaOf, BreaksSchema, schema_refusal, HasTokens, LacksTokens, lex_refusal, HasKept, parse_refusal, HasLeast, type_refusal, IsProgramOf, HasNoProgram, BreaksBundle, bundle_refusal, HasNoQuery}
+use Rattle.plans.specs.Opening.{IsSchemaOf, BreaksSchema, schema_refusal, IsMapOf, BreaksMap, map_refusal, HasTokens, LacksTokens, lex_refusal, HasKept, parse_refusal, HasLeast, type_refusal, IsProgramOf, HasNoProgram, BreaksBundle, bundle_refusal, HasNoQuery}
 use Rattle.deliveries.specs.declared.plan.Plan.{Plan}
 use Rattle.deliveries.specs.Steps.{refused}
 
@@ -40,6 +43,10 @@ refuses Is Lacks refusal fault Stop.Memory lacks due = tt
 pub schema_stops : (bytes : List ℕ) (fault : SchemaFault) (stop : Stop) → schema_of bytes ≡ Err fault → StopsWith (schema_refusal fault) stop →
     Goes {A = Schema} (Err stop) (IsSchemaOf bytes) (refused (BreaksSchema bytes) schema_refusal)
 schema_stops bytes fault stop is due = refuses (IsSchemaOf bytes) (BreaksSchema bytes) schema_refusal fault stop is due
+
+pub map_stops : (tables : Schema) (bytes : List ℕ) (fault : MapFault) (stop : Stop) → map_of tables bytes ≡ Err fault → StopsWith (map_refusal bytes fault) stop →
+    Goes {A = ViewMap} (Err stop) (IsMapOf tables bytes) (refused (BreaksMap tables bytes) (map_refusal bytes))
+map_stops tables bytes fault stop is due = refuses (IsMapOf tables bytes) (BreaksMap tables bytes) (map_refusal bytes) fault stop is due
 
 pub tokens_stop : (bytes : List ℕ) (fault : LexFault) (stop : Stop) → lexed bytes ≡ Err fault → StopsWith (lex_refusal fault) stop →
     Goes {A = Tokens} (Err stop) (HasTokens bytes) (refused (LacksTokens bytes) lex_refusal)

@@ -14,7 +14,10 @@ use Rattle.java_parser.specs.RuleNames as grammatical
 use Rattle.schema.specs.declared.fault.DataFault.{DataFault}
 use Rattle.schema.specs.declared.fault.SchemaFault.{SchemaFault}
 use Rattle.schema.specs.RuleNames as schemas
+use Rattle.text_places.specs.Places.{span_in}
 use Rattle.verdicts.specs.Lines.{place_text}
+use Rattle.view_map.specs.declared.fault.MapFault.{MapFault}
+use Rattle.view_map.specs.RuleNames as maps
 
 -- a rule by its number and name, and its place
 abbrev pub rule_text : ℕ → List ℕ → Span → List ℕ
@@ -25,6 +28,10 @@ lex_text fault = codes "qbs: source: lex " ++ rule_text (lexical.rule_number fau
 
 abbrev pub schema_text : SchemaFault → List ℕ
 schema_text fault = codes "qbs: schema: " ++ rule_text (schemas.rule_number fault.rule) (schemas.rule_name fault.rule) fault.at
+
+-- the fault of a map, with the line and column in its bytes
+abbrev pub map_text : List ℕ → MapFault → List ℕ
+map_text bytes fault = codes "qbs: map: " ++ rule_text (maps.rule_number fault.rule) (maps.rule_name fault.rule) (span_in bytes fault.at)
 
 abbrev pub parse_text : ParseFault → List ℕ
 parse_text fault = codes "qbs: source: parse " ++ rule_text (grammatical.rule_number fault.rule) (grammatical.rule_name fault.rule) fault.at

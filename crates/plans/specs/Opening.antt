@@ -1,4 +1,4 @@
--- The steps that commands begin with: a schema, a source with a well-typed program, a bundle, and the query of a text.
+-- The steps that commands begin with: a schema, a map, a source with a well-typed program, a bundle, and the query of a text.
 use Rattle.std.specs.Prelude.{◌≡◌, ℕ, ◌⊎◌, List, Ok, Err}
 use Rattle.std.specs.declared.option.Option.TheVariants.{Some, None}
 use Rattle.qbs_base.specs.declared.memory.Fail.TheVariants.{Fault}
@@ -25,9 +25,12 @@ use Rattle.sql_ast.specs.Texts.{HasQuery}
 use Rattle.sql_ast.specs.Tree.{PlainQuery}
 use Rattle.schema.specs.declared.fault.SchemaFault.{SchemaFault}
 use Rattle.schema.specs.Schemas.{schema_of}
+use Rattle.view_map.specs.declared.fault.MapFault.{MapFault}
+use Rattle.view_map.specs.declared.model.ViewMap.{ViewMap}
+use Rattle.view_map.specs.Maps.{map_of}
 use Rattle.deliveries.specs.declared.plan.Plan.{Plan}
 use Rattle.plans.specs.Calls.{word_refusal}
-use Rattle.plans.specs.Lines.{schema_text, lex_text, parse_text, type_text, bundle_fault_text}
+use Rattle.plans.specs.Lines.{schema_text, map_text, lex_text, parse_text, type_text, bundle_fault_text}
 use Rattle.deliveries.specs.Plan.{refusal}
 use Rattle.deliveries.specs.Steps.{Ends, refused, step, finds}
 
@@ -44,6 +47,20 @@ schema_refusal fault = refusal Status.Schema (schema_text fault)
 
 abbrev pub has_schema : List ℕ → (Schema → Ends) → Ends
 has_schema bytes next = finds (IsSchemaOf bytes) (BreaksSchema bytes) schema_refusal next
+
+-- ---- The map
+
+abbrev pub IsMapOf : Schema → List ℕ → ViewMap → Type 0
+IsMapOf tables bytes m = map_of tables bytes ≡ Ok m
+
+abbrev pub BreaksMap : Schema → List ℕ → MapFault → Type 0
+BreaksMap tables bytes fault = map_of tables bytes ≡ Err fault
+
+abbrev pub map_refusal : List ℕ → MapFault → Plan
+map_refusal bytes fault = refusal Status.View (map_text bytes fault)
+
+abbrev pub has_map : Schema → List ℕ → (ViewMap → Ends) → Ends
+has_map tables bytes next = finds (IsMapOf tables bytes) (BreaksMap tables bytes) (map_refusal bytes) next
 
 -- ---- The source
 

@@ -2,7 +2,7 @@
 ghost use Rattle.std.specs.Prelude.{◌≡◌, ◌++◌, [], IfOk, string_bytes};
 ghost use Rattle.verdicts.specs.Lines.{line};
 ghost use Rattle.plans.specs.Calls.{word_refusal};
-ghost use Rattle.plans.specs.Opening.{bundle_refusal, schema_refusal, lex_refusal, parse_refusal, type_refusal};
+ghost use Rattle.plans.specs.Opening.{bundle_refusal, map_refusal, schema_refusal, lex_refusal, parse_refusal, type_refusal};
 ghost use Rattle.deliveries.specs.Code.{StopsWith};
 ghost use Rattle.plans.specs.Lines.{nowhere as no_place, bundle_fault_text, data_text, row_text, fault_text, rule_text};
 ghost use Rattle.deliveries.specs.Plan.{refusal};
@@ -15,6 +15,8 @@ use java_mean::{RunFault, TypeFault, TypeRule};
 use java_parser::ParseFault;
 use qbs_base::{Bytes, Name, Span, Status};
 use schema::{DataFault, SchemaFault};
+use text_places::span_in;
+use view_map::MapFault;
 use std::alloc::{AllocError, Global};
 
 // A rule by its number and name, and its place, behind a text.
@@ -90,6 +92,16 @@ pub fn schema_refused(alloc: Global, fault: &SchemaFault) -> Stop
         name,
         fault.at,
     )
+}
+
+/// The refusal of a text that is no map.
+pub fn map_refused(alloc: Global, bytes: &[u8], fault: &MapFault) -> Stop
+    ensures { StopsWith (map_refusal bytes.now fault.now) result }
+{
+    let number = fault.rule.number();
+    let name = fault.rule.name();
+    let at = span_in(bytes, fault.at);
+    rule_refused(alloc, Status::View, "qbs: map: ", number, name, at)
 }
 
 /// The refusal of tokens without a program.

@@ -1,4 +1,4 @@
-// What commands begin with: a schema, a source with a well-typed program, a bundle, and the query of a text.
+// What commands begin with: a schema, a map, a source with a well-typed program, a bundle, and the query of a text.
 ghost use Rattle.std.specs.Prelude.{◌≡◌};
 ghost use Rattle.deriv_check.specs.Bundles.{entries_of};
 ghost use Rattle.deriv_check.specs.Grammar.{HasBundle};
@@ -9,11 +9,11 @@ ghost use Rattle.java_types.specs.Texts.{read_by};
 ghost use Rattle.sql_ast.specs.Reading.{query as plain_query};
 ghost use Rattle.sql_ast.specs.Texts.{HasQuery};
 ghost use Rattle.deliveries.specs.Code.{Goes};
-ghost use Rattle.plans.specs.Opening.{IsSchemaOf, BreaksSchema, schema_refusal, HasTokens, LacksTokens, lex_refusal, HasKept, parse_refusal, HasLeast, type_refusal, IsProgramOf, HasNoProgram, BreaksBundle, bundle_refusal, HasNoQuery};
+ghost use Rattle.plans.specs.Opening.{IsSchemaOf, BreaksSchema, schema_refusal, IsMapOf, BreaksMap, map_refusal, HasTokens, LacksTokens, lex_refusal, HasKept, parse_refusal, HasLeast, type_refusal, IsProgramOf, HasNoProgram, BreaksBundle, bundle_refusal, HasNoQuery};
 ghost use Rattle.deliveries.specs.Steps.{refused};
 
 use crate::lines::{
-    bundle_refused, lex_refused, parse_refused, schema_refused, type_refused, word_refused,
+    bundle_refused, lex_refused, map_refused, parse_refused, schema_refused, type_refused, word_refused,
 };
 use deliveries::fetch::Stop;
 use deliveries::found::{fault_of, value_of};
@@ -29,6 +29,7 @@ use schema_text::parse_schema;
 use sql_ast::Query;
 use sql_parse::parse_query;
 use std::alloc::Global;
+use view_map::{ViewMap, parse_map};
 
 /// The schema that bytes are, or the refusal of its first fault.
 #[tactic(auto, using(crate::proofs::Opened::schema_stops))]
@@ -38,6 +39,18 @@ pub fn open_schema(alloc: Global, bytes: &[u8]) -> Result<Schema, Stop>
     match parse_schema(alloc, bytes) {
         Ok(schema) => Ok(schema),
         Err(Fail::Fault(fault)) => Err(schema_refused(alloc, &fault)),
+        Err(Fail::NoMemory) => Err(Stop::Memory),
+    }
+}
+
+/// The map that bytes are under a schema, or the refusal of its first fault.
+#[tactic(auto, using(crate::proofs::Opened::map_stops))]
+pub fn open_map(alloc: Global, schema: &Schema, bytes: &[u8]) -> Result<ViewMap, Stop>
+    ensures { Goes result (IsMapOf schema.now bytes.now) (refused (BreaksMap schema.now bytes.now) (map_refusal bytes.now)) }
+{
+    match parse_map(alloc, schema, bytes) {
+        Ok(map) => Ok(map),
+        Err(Fail::Fault(fault)) => Err(map_refused(alloc, bytes, &fault)),
         Err(Fail::NoMemory) => Err(Stop::Memory),
     }
 }
