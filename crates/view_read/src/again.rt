@@ -8,9 +8,8 @@ use std::alloc::Global;
 use view_map::ViewMap;
 use view_rules::{Param, Sighted};
 use view_scope::{Standing, is_in_sight_at, is_inside_try, standing_of};
-use view_shapes::{Stretch, blocks_of, end_of, has_name, members_of};
-use view_slices::{Ending, File, Printed, Read, Slice};
-use view_statements::{Statement, at_top};
+use view_shapes::{File, Stretch, blocks_of, end_of, has_name, members_of};
+use view_statements::{Ending, Printed, Read, Slice, Statement, at_top};
 
 fn copy_bytes(alloc: Global, bytes: &[u8]) -> Result<Bytes, NoMemory> {
     let copy = bytes.to_vec(alloc)?;
@@ -51,7 +50,7 @@ impl<'a> Reader<'a> {
     /// Where a variable that is in sight at the next item is declared.
     fn declared_before(
         &self,
-        source: &view_scope::Method,
+        source: &view_shapes::Method,
         standing: &[Standing],
         v: &Sighted,
     ) -> Option<usize> {
@@ -73,7 +72,7 @@ impl<'a> Reader<'a> {
     /// Puts in sight what was in sight where the slice stood and is in sight here, with what it was handed and what isn't read.
     fn put_slice(
         &mut self,
-        source: &view_scope::Method,
+        source: &view_shapes::Method,
         standing: &[Standing],
         slice: &Slice,
     ) -> Result<(), NoMemory> {

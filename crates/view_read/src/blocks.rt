@@ -9,8 +9,7 @@ use qbs_base::{Fail, Items, NoMemory};
 use view_rules::{JavaType, Sighted, is_many, type_at};
 use view_scope::{Standing, is_guarded, is_tested};
 use view_shapes::{Form, Stretch, end_of, form_of, head, inner_blocks, is_named, is_word};
-use view_slices::{Ending, Group, Slice};
-use view_statements::{Statement, at_top, truth_word};
+use view_statements::{Ending, Group, Slice, Statement, at_top, truth_word};
 
 /// A stretch of the file in which loops aren't seen, unless a stretch inside of it says another reason or they stand in a slice.
 #[derive(Clone, Copy)]
@@ -31,7 +30,7 @@ pub struct Finding {
 /// What is known of a method beside what is read.
 #[derive(Clone, Copy)]
 pub struct Around<'a> {
-    pub source: &'a view_scope::Method,
+    pub source: &'a view_shapes::Method,
     pub standing: &'a [Standing],
     /// The stretches in which variables are tested for null.
     pub tests: &'a [Stretch],

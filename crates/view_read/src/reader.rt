@@ -5,7 +5,7 @@ use std::alloc::Global;
 use view_items::Item;
 use view_map::{ScalarKind, ViewMap};
 use view_rules::{ColumnName, JavaType, Param, Sighted, Within};
-use view_slices::Words;
+use view_statements::Words;
 
 /// What is fixed while a method is read: the map and the schema; the items of the file, with the closing bracket of each and the bracket
 /// round each; the numbers of the method's name and of the brace that closes its body; and what may be read there.

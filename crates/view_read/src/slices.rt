@@ -5,8 +5,7 @@ use std::alloc::Global;
 use view_items::Item;
 use view_rules::{ColumnName, JavaType, Sighted, holds_get, truth};
 use view_shapes::{Stretch, is_named, is_word, may_be_set};
-use view_slices::{Ending, Printed, Slice};
-use view_statements::Statement;
+use view_statements::{Ending, Printed, Slice, Statement};
 
 /// Whether a loop begins from a number up to another.
 pub fn holds_loop(items: &[Item], from: usize, to: usize) -> bool {

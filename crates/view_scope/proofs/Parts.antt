@@ -4,7 +4,7 @@ use Rattle.std.proofs.lemmas.Bool.{eq-eqb, ne_eqb}
 use Rattle.view_items.specs.declared.item.Item.{Item}
 use Rattle.view_items.specs.Brackets.{if_some}
 use Rattle.view_shapes.specs.Found.{is_sign, is_one_of_words}
-use Rattle.view_scope.specs.declared.method.Parameter.{Parameter}
+use Rattle.view_shapes.specs.declared.method.Parameter.{Parameter}
 use Rattle.view_scope.specs.Methods.{parameter_at, parameters_from}
 
 abbrev after_parameters_from : List Parameter → List Item → List ℕ → ℕ → ℕ → ℕ → Option (List Parameter)

@@ -17,8 +17,8 @@ use Rattle.view_map.specs.declared.model.PatternItem.{PatternItem}
 use Rattle.view_map.specs.declared.model.Constant.{Constant}
 use Rattle.view_map.specs.declared.model.Template.{Template}
 use Rattle.view_map.specs.declared.model.Part.{Part}
-use Rattle.view_scope.specs.declared.method.Method.{Method}
-use Rattle.view_scope.specs.declared.method.Parameter.{Parameter}
+use Rattle.view_shapes.specs.declared.method.Method.{Method}
+use Rattle.view_shapes.specs.declared.method.Parameter.{Parameter}
 use Rattle.view_scope.specs.Methods.{method_prefix_end, parameter_at}
 use Rattle.view_scope.specs.Obscured.{word_at, is_there, is_clear}
 use Rattle.view_scope.specs.Patterns.{bytes_of, is_own_call, is_variable, is_loose_at, is_loose_part, item_of, begins_own, first_at}

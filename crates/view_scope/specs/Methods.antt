@@ -8,8 +8,8 @@ use Rattle.view_items.specs.Brackets.{if_some}
 use Rattle.view_shapes.specs.declared.members.Stretch.{Stretch}
 use Rattle.view_shapes.specs.Found.{is_word, is_sign, is_one_of_words, closing_at}
 use Rattle.view_shapes.specs.Prefixes.{dotted_end, prefix_end, variable_prefix_end, is_plain_name}
-use Rattle.view_scope.specs.declared.method.Parameter.{Parameter}
-use Rattle.view_scope.specs.declared.method.Method.{Method}
+use Rattle.view_shapes.specs.declared.method.Parameter.{Parameter}
+use Rattle.view_shapes.specs.declared.method.Method.{Method}
 use Rattle.view_scope.specs.declared.method.Outline.{Outline}
 use Rattle.view_scope.specs.JavaTypes.{java_type_end}
 

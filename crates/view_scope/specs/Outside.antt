@@ -12,8 +12,8 @@ use Rattle.view_rules.specs.declared.spelled.Spelled.{Spelled}
 use Rattle.view_rules.specs.Decisions.{same_type}
 use Rattle.view_rules.specs.Setting.{Within}
 use Rattle.view_rules.specs.Spelled.{type_at}
-use Rattle.view_scope.specs.declared.method.Method.{Method}
-use Rattle.view_scope.specs.declared.method.Parameter.{Parameter}
+use Rattle.view_shapes.specs.declared.method.Method.{Method}
+use Rattle.view_shapes.specs.declared.method.Parameter.{Parameter}
 use Rattle.view_shapes.specs.Prefixes.{variable_prefix_end}
 use Rattle.view_scope.specs.declared.standing.Standing.{Standing}
 use Rattle.view_scope.specs.Guards.{is_before_end_of, is_in_body, stands_before}

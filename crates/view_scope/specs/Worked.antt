@@ -18,7 +18,7 @@ use Rattle.view_map.specs.declared.model.ViewMap.{ViewMap}
 use Rattle.view_map.specs.Patterns.{pattern_items}
 use Rattle.view_rules.specs.declared.java_type.JavaType.TheVariants as types
 use Rattle.view_rules.specs.Setting.{Within}
-use Rattle.view_scope.specs.declared.method.Method.{Method}
+use Rattle.view_shapes.specs.declared.method.Method.{Method}
 use Rattle.view_scope.specs.Allowed.{is_free_in, is_kept, keeps_meaning}
 use Rattle.view_scope.specs.Constants.{constants_of}
 use Rattle.view_scope.specs.Guards.{is_guarded}

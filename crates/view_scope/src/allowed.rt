@@ -3,7 +3,6 @@ ghost use Rattle.std.specs.Prelude.{◌≡◌, ◌<◌, ◌≤◌, ◌+◌, ◌^
 ghost use Rattle.view_scope.specs.Allowed as specs;
 ghost use Rattle.view_shapes.specs.Members.{members_of};
 
-use crate::Method;
 use crate::method::{Parameter, method_prefix_end, parameter_at};
 use crate::obscured::{is_clear, is_there, word_at};
 use crate::patterns::{
@@ -13,10 +12,7 @@ use crate::patterns::{
 use qbs_base::Name;
 use view_items::Item;
 use view_map::{Constant, FetchPattern, Part, PatternItem, Template, ViewMap};
-use view_shapes::{
-    ClassPlace, Stretch, has_name, is_called, is_free, is_name, is_one_of_signs, is_one_of_words,
-    is_set_at, is_sign, is_word,
-};
+use view_shapes::{ClassPlace, Method, Stretch, has_name, is_called, is_free, is_name, is_one_of_signs, is_one_of_words, is_set_at, is_sign, is_word};
 
 // ---- Free names
 

@@ -20,7 +20,7 @@ pub use allowed::{
 };
 pub use constants::{ConstantPlace, constants_of};
 pub use guards::is_guarded;
-pub use method::{Method, Outline, Parameter, method_of, method_prefix_end};
+pub use method::{Outline, method_of, method_prefix_end};
 pub use nulls::{is_tested, tested_in};
 pub use obscured::{hides, is_clear, is_there, means_the_same};
 pub use outside::{is_in_sight_at, is_inside_try};

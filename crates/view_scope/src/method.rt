@@ -7,27 +7,9 @@ use qbs_base::{Items, NoMemory};
 use std::alloc::Global;
 use view_items::{Item, is_shallow};
 use view_shapes::{
-    Stretch, closing_at, dotted_end, is_one_of_words, is_plain_name, is_sign, is_word, prefix_end,
+    Method, Parameter, Stretch, closing_at, dotted_end, is_one_of_words, is_plain_name, is_sign, is_word, prefix_end,
     variable_prefix_end,
 };
-
-/// A parameter of a method, by the number of the first item of its type and that of its name.
-#[derive(Clone, Copy, PartialEq, Eq)]
-pub struct Parameter {
-    pub ty: usize,
-    pub name: usize,
-}
-
-/// A method: the number of its name, its parameters in order, whether its result is one truth value, and the items of its body, from the
-/// first one to its closing brace.
-#[derive(Drop)]
-pub struct Method {
-    pub name: usize,
-    pub parameters: Items<Parameter>,
-    pub gives_truth: bool,
-    pub from: usize,
-    pub to: usize,
-}
 
 const METHOD_MODIFIERS: [&str; 10] = [
     "public",

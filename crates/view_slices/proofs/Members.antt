@@ -3,7 +3,7 @@ use Rattle.std.proofs.Common.{◌≡◌, ◌<◌, Bool, true, false, ◌&&◌, L
 use Rattle.qbs_base.specs.declared.columns.Table.{Table}
 use Rattle.view_map.specs.declared.model.ViewMap.{ViewMap}
 use Rattle.view_shapes.specs.declared.members.Stretch.{Stretch}
-use Rattle.view_slices.specs.declared.slice.Sliced.{Sliced}
+use Rattle.view_statements.specs.declared.slice.Sliced.{Sliced}
 use Rattle.view_slices.specs.Reading.{all_sliced}
 use Rattle.view_slices.specs.Slices.{File}
 use Rattle.view_slices.specs.Views.{are_sliced}

@@ -1,11 +1,11 @@
 -- The plain form of each slice of the code.
 use Rattle.std.specs.Prelude.{List, map}
-use Rattle.view_slices.specs.declared.file.Opened as code
-use Rattle.view_slices.specs.declared.slice.Ending.{Ending}
-use Rattle.view_slices.specs.declared.slice.Ending.TheVariants as endings
-use Rattle.view_slices.specs.declared.slice.Group.{Group}
-use Rattle.view_slices.specs.declared.slice.Slice.{Slice}
-use Rattle.view_slices.specs.declared.slice.Sliced.{Sliced}
+use Rattle.view_shapes.specs.declared.file.Opened as code
+use Rattle.view_statements.specs.declared.slice.Ending.{Ending}
+use Rattle.view_statements.specs.declared.slice.Ending.TheVariants as endings
+use Rattle.view_statements.specs.declared.slice.Group.{Group}
+use Rattle.view_statements.specs.declared.slice.Slice.{Slice}
+use Rattle.view_statements.specs.declared.slice.Sliced.{Sliced}
 use Rattle.view_statements.specs.Reading.{statement, statements}
 use Rattle.view_slices.specs.Slices.{File, PlainSlice, PlainGroup, PlainEnding, Open, Grouped, Returned}
 use Rattle.view_slices.specs.Views.{PlainSliced}

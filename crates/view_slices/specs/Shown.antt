@@ -11,7 +11,7 @@ use Rattle.view_rules.specs.declared.sight.Param.{Param}
 use Rattle.view_rules.specs.Cells.{made, all_made}
 use Rattle.view_rules.specs.Setting.{Within}
 use Rattle.view_rules.specs.Spelled.{kind_word, table_of}
-use Rattle.view_slices.specs.declared.slice.Printed.{Printed}
+use Rattle.view_statements.specs.declared.slice.Printed.{Printed}
 use Rattle.view_slices.specs.Slices.{PlainSlice, PlainGroup, PlainEnding, Open, Grouped, Returned}
 use Rattle.view_statements.specs.Cells.{statement_cells, all_cells}
 use Rattle.view_statements.specs.Statements.{truth_word}

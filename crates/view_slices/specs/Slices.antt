@@ -27,15 +27,15 @@ use Rattle.view_rules.specs.Options.{◌>>=◌, where_so}
 use Rattle.view_rules.specs.Setting.{Within, past_all, is_name_among}
 use Rattle.view_rules.specs.Sights.{in_sight}
 use Rattle.view_rules.specs.Spelled.{bytes_at}
-use Rattle.view_scope.specs.declared.method.Method.{Method}
+use Rattle.view_shapes.specs.declared.method.Method.{Method}
 use Rattle.view_scope.specs.declared.standing.Standing.{Standing}
 use Rattle.view_scope.specs.Guards.{is_guarded_by}
 use Rattle.view_scope.specs.Nulls.{is_tested_by, tested_in}
 use Rattle.view_scope.specs.Outside.{is_in_sight_by, is_inside_try, body_of}
 use Rattle.view_scope.specs.Standing.{standing_of}
-use Rattle.view_slices.specs.declared.file.File as code
-use Rattle.view_slices.specs.declared.slice.Printed.{Printed}
-use Rattle.view_slices.specs.declared.slice.Words.{Words}
+use Rattle.view_shapes.specs.declared.file.File as code
+use Rattle.view_statements.specs.declared.slice.Printed.{Printed}
+use Rattle.view_statements.specs.declared.slice.Words.{Words}
 use Rattle.view_statements.specs.declared.frame.Place.{Place}
 use Rattle.view_statements.specs.Places.{Frame, at_top, own, is_no_word, is_seen_name}
 use Rattle.view_statements.specs.Statements.{Passed, with_sight, statement_of, statements_of, truth_word}

@@ -21,17 +21,17 @@ use Rattle.view_rules.specs.Cells.{all_made}
 use Rattle.view_rules.specs.Decisions.{same_kind, same_type}
 use Rattle.view_rules.specs.Setting.{Within}
 use Rattle.view_rules.specs.Sights.{in_sight}
-use Rattle.view_scope.specs.declared.method.Method.{Method}
-use Rattle.view_scope.specs.declared.method.Parameter.{Parameter}
+use Rattle.view_shapes.specs.declared.method.Method.{Method}
+use Rattle.view_shapes.specs.declared.method.Parameter.{Parameter}
 use Rattle.view_scope.specs.declared.standing.Standing.{Standing}
 use Rattle.view_scope.specs.Methods.{method_of}
 use Rattle.view_scope.specs.Nulls.{tested_in}
 use Rattle.view_scope.specs.Obscured.{means_the_same, word_at}
 use Rattle.view_scope.specs.Outside.{body_of}
 use Rattle.view_scope.specs.Standing.{standing_of}
-use Rattle.view_slices.specs.declared.slice.Printed.{Printed}
-use Rattle.view_slices.specs.declared.slice.Read.{Read}
-use Rattle.view_slices.specs.declared.slice.Words.{Words}
+use Rattle.view_statements.specs.declared.slice.Printed.{Printed}
+use Rattle.view_statements.specs.declared.slice.Read.{Read}
+use Rattle.view_statements.specs.declared.slice.Words.{Words}
 use Rattle.view_slices.specs.Shown.{method_cells}
 use Rattle.view_slices.specs.Slices.{File, PlainSlice, within, is_slice_by, is_print_of, returned}
 use Rattle.view_slices.specs.Words.{class_name, members, are_words}

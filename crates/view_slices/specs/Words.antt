@@ -12,11 +12,11 @@ use Rattle.view_shapes.specs.declared.members.Stretch.{Stretch}
 use Rattle.view_shapes.specs.Members.{members_of}
 use Rattle.view_rules.specs.declared.sight.ClassConstant.{ClassConstant}
 use Rattle.view_rules.specs.Decisions.{same_kind}
-use Rattle.view_scope.specs.declared.method.Method.{Method}
+use Rattle.view_shapes.specs.declared.method.Method.{Method}
 use Rattle.view_scope.specs.Allowed.{keeps_meaning, is_no_field, is_fetch_read, is_template_read, is_constant_read, is_free_in}
 use Rattle.view_scope.specs.Constants.{constants_among}
 use Rattle.view_scope.specs.Obscured.{is_there, is_clear, word_at}
-use Rattle.view_slices.specs.declared.slice.Words.{Words}
+use Rattle.view_statements.specs.declared.slice.Words.{Words}
 use Rattle.view_slices.specs.declared.words.Known.{Known}
 use Rattle.view_slices.specs.Slices.{File}
 

@@ -23,10 +23,10 @@ use Rattle.view_rules.specs.declared.sight.Param.{Param}
 use Rattle.view_rules.specs.declared.sight.Sighted.{Sighted}
 use Rattle.view_rules.specs.Tree.{PlainExpression}
 use Rattle.view_rules.specs.Tree as exprs
-use Rattle.view_scope.specs.declared.method.Method.{Method}
-use Rattle.view_scope.specs.declared.method.Parameter.{Parameter}
-use Rattle.view_slices.specs.declared.slice.Printed.{Printed}
-use Rattle.view_slices.specs.declared.slice.Words.{Words}
+use Rattle.view_shapes.specs.declared.method.Method.{Method}
+use Rattle.view_shapes.specs.declared.method.Parameter.{Parameter}
+use Rattle.view_statements.specs.declared.slice.Printed.{Printed}
+use Rattle.view_statements.specs.declared.slice.Words.{Words}
 use Rattle.view_slices.specs.Slices.{File, PlainSlice, PlainEnding, Open, Grouped, Returned}
 use Rattle.view_slices.specs.Views.{PlainSliced, file_in, is_view, is_again, class_cells}
 use Rattle.view_statements.specs.declared.statement.Step.TheVariants as counts

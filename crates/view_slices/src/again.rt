@@ -4,9 +4,9 @@ ghost use Rattle.view_slices.specs.Reading.{slice as plain};
 ghost use Rattle.view_slices.specs.Views as specs;
 
 use crate::prints::{is_print_of, returned};
-use crate::{Printed, Slice};
 use view_map::ScalarKind;
 use view_rules::{Param, Sighted, find_sighted, same_kind, same_type};
+use view_statements::{Printed, Slice};
 
 fn same_column(a: Option<u32>, b: Option<u32>) -> bool
     ensures { result ≡ specs.same_column a b }

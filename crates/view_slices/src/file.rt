@@ -11,36 +11,17 @@ use std::alloc::Global;
 use view_items::{Item, closings, is_plain, items, rounds};
 use view_map::ViewMap;
 use view_scope::means_the_same;
-use view_shapes::{ClassPlace, class_of, is_plain_name};
+use view_shapes::{ClassPlace, File, Opened, class_of, is_plain_name};
 
-/// A file: its items, the closing bracket of each and the bracket round each, and its class.
-#[derive(Drop)]
-pub struct File<'a> {
-    pub items: &'a [Item],
-    pub closings: &'a [usize],
-    pub rounds: &'a [usize],
-    pub class: ClassPlace,
-}
-
-/// A file that owns what it is made of.
-#[derive(Drop)]
-pub struct Opened {
-    pub items: Items<Item>,
-    pub closings: Items<usize>,
-    pub rounds: Items<usize>,
-    pub class: ClassPlace,
-}
-
-impl Opened {
-    pub fn file(&self) -> File<'_>
-        ensures { file_of result ≡ opened self.now }
-    {
-        File {
-            items: self.items.as_slice(),
-            closings: self.closings.as_slice(),
-            rounds: self.rounds.as_slice(),
-            class: self.class,
-        }
+/// What is looked at of a file that owns it.
+pub fn looked_at(file: &Opened) -> File<'_>
+    ensures { file_of result ≡ opened file.now }
+{
+    File {
+        items: file.items.as_slice(),
+        closings: file.closings.as_slice(),
+        rounds: file.rounds.as_slice(),
+        class: file.class,
     }
 }
 

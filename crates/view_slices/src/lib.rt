@@ -8,16 +8,14 @@ mod placed;
 mod prints;
 mod seen;
 mod shown;
-mod slice;
 mod slices;
 mod view;
 mod words;
 pub mod worked;
 
 pub use again::is_again;
-pub use file::{File, Opened, class_name, open_file};
+pub use file::{class_name, looked_at, open_file};
 pub use shown::put_method;
-pub use slice::{Ending, Group, Printed, Read, Slice, Sliced, Words};
 pub use slices::{is_slice, within};
 pub use view::{is_view, put_class, slice_name};
 pub use words::{Known, are_words, known_in};

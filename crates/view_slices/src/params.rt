@@ -4,12 +4,10 @@ ghost use Rattle.view_slices.specs.Reading.{slice as plain, ending as plain_endi
 ghost use Rattle.view_slices.specs.Slices as specs;
 ghost use Rattle.view_slices.specs.Slices.{file_of};
 
-use crate::{Ending, File, Slice};
 use view_map::{FetchPattern, Member, Part, PatternItem, RowClass, ScalarKind, Template, ViewMap};
 use view_rules::{JavaType, Param, Sighted, find_sighted, same_kind};
-use view_scope::Method;
-use view_shapes::has_name;
-use view_statements::is_no_word;
+use view_shapes::{File, Method, has_name};
+use view_statements::{Ending, Slice, is_no_word};
 
 fn is_in_pattern(name: &[u8], pattern: &[PatternItem]) -> bool
     ensures { result ≡ specs.is_in_pattern name.now pattern.now }

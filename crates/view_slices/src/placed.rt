@@ -6,11 +6,10 @@ ghost use Rattle.view_slices.specs.Slices.{file_of};
 ghost use Rattle.view_scope.specs.Outside.{body_of as body_in};
 ghost use Rattle.view_statements.specs.Places.{frame_of};
 
-use crate::{File, Slice};
 use view_rules::{JavaType, Sighted, is_name_among};
-use view_scope::{Method, Standing, is_guarded, is_in_sight_at, is_inside_try, is_tested};
-use view_shapes::{Stretch, has_name};
-use view_statements::{Frame, is_seen_name};
+use view_scope::{Standing, is_guarded, is_in_sight_at, is_inside_try, is_tested};
+use view_shapes::{File, Method, Stretch, has_name};
+use view_statements::{Frame, Slice, is_seen_name};
 
 fn same_stretch(a: Stretch, b: Stretch) -> bool
     ensures { result ≡ specs.same_stretch a b }

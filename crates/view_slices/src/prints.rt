@@ -6,14 +6,12 @@ ghost use Rattle.view_slices.specs.Slices as specs;
 ghost use Rattle.view_statements.specs.Reading.{statement, statements};
 ghost use Rattle.view_statements.specs.Statements.{with_sight};
 
-use crate::{Ending, Printed, Slice};
 use view_items::Item;
 use view_rules::{
     JavaType, Sighted, Within, bytes_at, find_sighted, holds_get, is_scalar, same_type, truth,
 };
-use view_scope::Method;
-use view_shapes::{is_named, may_be_set};
-use view_statements::{Statement, is_handed};
+use view_shapes::{Method, is_named, may_be_set};
+use view_statements::{Ending, Printed, Slice, Statement, is_handed};
 
 /// Whether a variable of a name and a type is printed.
 pub fn is_print_of(name: &[u8], java: JavaType, p: &Printed) -> bool

@@ -6,13 +6,12 @@ ghost use Rattle.view_slices.specs.Reading.{slice as plain, group as plain_group
 ghost use Rattle.view_slices.specs.Shown as specs;
 ghost use Rattle.view_statements.specs.Reading.{statement};
 
-use crate::{Ending, Group, Printed, Slice};
 use qbs_base::{Column, NoMemory, Table};
 use std::alloc::Global;
 use view_items::Cells;
 use view_map::{RowClass, ScalarKind};
 use view_rules::{JavaType, Param, Within, kind_word, push_all_made, push_made, table_of};
-use view_statements::{Statement, put_statement, put_statements, truth_word};
+use view_statements::{Ending, Group, Printed, Slice, Statement, put_statement, put_statements, truth_word};
 
 // ---- The head
 

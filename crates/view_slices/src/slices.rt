@@ -10,14 +10,13 @@ use crate::params::is_named_well;
 use crate::placed::is_placed;
 use crate::prints::are_prints;
 use crate::seen::{check_seen, sight_before};
-use crate::{File, Slice, Words};
 use qbs_base::{NoMemory, Table};
 use std::alloc::Global;
 use view_map::ViewMap;
 use view_rules::Within;
-use view_scope::{Method, Standing};
-use view_shapes::Stretch;
-use view_statements::Frame;
+use view_scope::Standing;
+use view_shapes::{File, Method, Stretch};
+use view_statements::{Frame, Slice, Words};
 
 /// What is fixed while a slice is looked at.
 pub fn within<'a>(

@@ -4,18 +4,14 @@ ghost use Rattle.view_slices.specs.Slices.{file_of};
 ghost use Rattle.view_slices.specs.Words as specs;
 
 use crate::file::class_name;
-use crate::{File, Words};
 use qbs_base::{Bytes, Items, NoMemory};
 use std::alloc::Global;
 use view_items::Item;
 use view_map::{Constant, FetchPattern, RowClass, Template, ViewMap};
 use view_rules::{ClassConstant, same_kind};
-use view_scope::{
-    Method, constants_of, is_clear, is_constant_read, is_fetch_read, is_free_in, is_no_field,
-    is_template_read, is_there, keeps_meaning,
-};
-use view_shapes::Stretch;
-use view_statements::copied;
+use view_scope::{constants_of, is_clear, is_constant_read, is_fetch_read, is_free_in, is_no_field, is_template_read, is_there, keeps_meaning};
+use view_shapes::{File, Method, Stretch};
+use view_statements::{Words, copied};
 
 /// What is asked once for a file: which fetch patterns mean in its class what the map says, which constants of the map no field hides, the
 /// constants of the class, and the names of classes that nothing obscures.

@@ -2,9 +2,8 @@
 use qbs_base::{Bytes, Items};
 use view_map::ScalarKind;
 use view_rules::{ClassConstant, JavaType, Param, Sighted};
-use view_scope::Method;
-use view_shapes::Stretch;
-use view_statements::Statement;
+use crate::Statement;
+use view_shapes::{Method, Stretch};
 
 /// A variable that is printed at the end of what is seen.
 #[derive(Drop)]
