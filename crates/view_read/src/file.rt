@@ -9,8 +9,14 @@ use std::alloc::Global;
 use view_items::{Item, closes, closings, is_plain, items, opens, rounds, sign_of};
 use view_map::{Literal, ViewMap};
 use view_rules::ClassConstant;
-use view_scope::{constants_of, first_is_free, hides, is_clear, is_free_in, is_no_field, is_pattern_free, is_template_read, is_there, keeps_meaning, method_of, method_prefix_end, standing_of, tested_in};
-use view_shapes::{ClassPlace, File, Method, Stretch, class_of, end_of, is_plain_name, is_word, members_of};
+use view_scope::{
+    constants_of, first_is_free, hides, is_clear, is_free_in, is_no_field, is_pattern_free,
+    is_template_read, is_there, keeps_meaning, method_of, method_prefix_end, standing_of,
+    tested_in,
+};
+use view_shapes::{
+    ClassPlace, File, Method, Stretch, class_of, end_of, is_plain_name, is_word, members_of,
+};
 use view_statements::{Read, Slice, Sliced, Words};
 
 /// A loop that isn't seen: the number of its first item, why, and where.

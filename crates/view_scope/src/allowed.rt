@@ -12,7 +12,10 @@ use crate::patterns::{
 use qbs_base::Name;
 use view_items::Item;
 use view_map::{Constant, FetchPattern, Part, PatternItem, Template, ViewMap};
-use view_shapes::{ClassPlace, Method, Stretch, has_name, is_called, is_free, is_name, is_one_of_signs, is_one_of_words, is_set_at, is_sign, is_word};
+use view_shapes::{
+    ClassPlace, Method, Stretch, has_name, is_called, is_free, is_name, is_one_of_signs,
+    is_one_of_words, is_set_at, is_sign, is_word,
+};
 
 // ---- Free names
 

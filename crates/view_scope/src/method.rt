@@ -7,8 +7,8 @@ use qbs_base::{Items, NoMemory};
 use std::alloc::Global;
 use view_items::{Item, is_shallow};
 use view_shapes::{
-    Method, Parameter, Stretch, closing_at, dotted_end, is_one_of_words, is_plain_name, is_sign, is_word, prefix_end,
-    variable_prefix_end,
+    Method, Parameter, Stretch, closing_at, dotted_end, is_one_of_words, is_plain_name, is_sign,
+    is_word, prefix_end, variable_prefix_end,
 };
 
 const METHOD_MODIFIERS: [&str; 10] = [

@@ -3,11 +3,13 @@ ghost use Rattle.std.specs.Prelude.{◌≡◌, ◌<◌, ◌≤◌, ◌^◌, IfSo
 ghost use Rattle.view_rules.specs.Setting.{within_of};
 ghost use Rattle.view_scope.specs.Outside as specs;
 
-use crate::guards::{is_before_end_of, is_in_body, stands_before};
 use crate::Standing;
+use crate::guards::{is_before_end_of, is_in_body, stands_before};
 use view_items::Item;
 use view_rules::{JavaType, Spelled, Within, same_type, type_at};
-use view_shapes::{Method, Parameter, closing_at, is_one_of_signs, is_sign, is_word, variable_prefix_end};
+use view_shapes::{
+    Method, Parameter, closing_at, is_one_of_signs, is_sign, is_word, variable_prefix_end,
+};
 
 fn spells(spelled: Option<Spelled>, java: JavaType, name: usize) -> bool
     ensures { result ≡ specs.spells spelled java name }

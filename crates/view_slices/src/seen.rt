@@ -13,7 +13,10 @@ use std::alloc::Global;
 use view_items::Item;
 use view_rules::{ColumnName, Sighted, find_sighted, past_all, same_type, truth};
 use view_shapes::{File, is_one_of_signs, is_one_of_words, is_word};
-use view_statements::{Ending, Frame, Group, Place, Slice, Statement, at_top, check_statement, check_statements, copied, push_onto, push_own, truth_word};
+use view_statements::{
+    Ending, Frame, Group, Place, Slice, Statement, at_top, check_statement, check_statements,
+    copied, push_onto, push_own, truth_word,
+};
 
 fn is_walk(st: &Statement) -> bool
     ensures { result ≡ specs.is_walk (statement st.now) }

@@ -11,7 +11,9 @@ use std::alloc::Global;
 use view_items::Cells;
 use view_map::{RowClass, ScalarKind};
 use view_rules::{JavaType, Param, Within, kind_word, push_all_made, push_made, table_of};
-use view_statements::{Ending, Group, Printed, Slice, Statement, put_statement, put_statements, truth_word};
+use view_statements::{
+    Ending, Group, Printed, Slice, Statement, put_statement, put_statements, truth_word,
+};
 
 // ---- The head
 

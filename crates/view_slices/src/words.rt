@@ -9,7 +9,10 @@ use std::alloc::Global;
 use view_items::Item;
 use view_map::{Constant, FetchPattern, RowClass, Template, ViewMap};
 use view_rules::{ClassConstant, same_kind};
-use view_scope::{constants_of, is_clear, is_constant_read, is_fetch_read, is_free_in, is_no_field, is_template_read, is_there, keeps_meaning};
+use view_scope::{
+    constants_of, is_clear, is_constant_read, is_fetch_read, is_free_in, is_no_field,
+    is_template_read, is_there, keeps_meaning,
+};
 use view_shapes::{File, Method, Stretch};
 use view_statements::{Words, copied};
 

@@ -1,8 +1,8 @@
 // Slices: sequences of statements of a block that are seen as methods.
+use crate::Statement;
 use qbs_base::{Bytes, Items};
 use view_map::ScalarKind;
 use view_rules::{ClassConstant, JavaType, Param, Sighted};
-use crate::Statement;
 use view_shapes::{Method, Stretch};
 
 /// A variable that is printed at the end of what is seen.
