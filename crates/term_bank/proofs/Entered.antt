@@ -73,7 +73,7 @@ two : (ts us vs : List Tree) (r s t : Tree) → children t ≡ r ∷ s ∷ [] �
 two ts us vs r s t is g h =
     let first : has_term vs r ≡ true = subst (λ x. has_term x r ≡ true) (sym h.front.1) (has_on us h.front.0 r g.has) in
     let below : list_all (has_term vs) (children t) ≡ true =
-      subst (λ c. list_all (has_term vs) c ≡ true) (sym is) (two_tests (has_term vs r) (list_all (has_term vs) (s ∷ [])) first (two_tests (has_term vs s) true h.has refl)) in
+    subst (λ c. list_all (has_term vs) c ≡ true) (sym is) (two_tests (has_term vs r) (list_all (has_term vs) (s ∷ [])) first (two_tests (has_term vs s) true h.has refl)) in
     record {
       front = front_of ts vs (entered vs t) (front_of ts us vs g.front h.front) (entered_front vs t);
       has = entered_has vs t;

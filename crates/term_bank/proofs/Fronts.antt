@@ -54,6 +54,7 @@ has_at (u ∷ ts) zero t e = subst (λ x. (same_tree t x || list_any (same_tree 
   where
     some_is : (x t : Tree) → Some x ≡ Some t → x ≡ t
     some_is x t e = ap (λ o. elim o [ Some y ↦ y | None ↦ x ]) e
+
     one_test : (a b : Bool) → a ≡ true → (a || b) ≡ true
     one_test true b p = refl
     one_test false b p = cc

@@ -14,8 +14,8 @@ pub invariant_of-self-in-Err : goal.invariant_of-self-in-Err
 invariant_of-self-in-Err c =
     let long : c.len-len.result ≡ length c.replace-terms.result.items = omega (arith, c.len-len.ensures, c.replace-terms.result.ok) in
     let back =
-      cut_back c.replace-terms.result.items c.enter_parts.new.terms.items c.truncate.new.self.items c.len-len.result long c.truncate.ensures.items c.enter_parts.ensures.grows
-      ∙ ap (λ v. map tree_of v.items) c.replace-terms.ensures.value in
+    cut_back c.replace-terms.result.items c.enter_parts.new.terms.items c.truncate.new.self.items c.len-len.result long c.truncate.ensures.items c.enter_parts.ensures.grows
+    ∙ ap (λ v. map tree_of v.items) c.replace-terms.ensures.value in
     record { well = subst IsBank (sym back) c.args.self.now.well }
 
 pub returns-in-Err-clause-err : goal.returns-in-Err-clause-err
