@@ -289,7 +289,8 @@ fn argument_to(items: &[Item], rounds: &[usize], opening: usize, first: usize) -
 #[tactic(auto, using(crate::proofs::Operands::bare_other, crate::proofs::Operands::bare_stuck, crate::proofs::Operands::bare_inside, crate::proofs::Operands::bare_behind_cast, crate::proofs::Operands::bare_end))]
 fn bare(items: &[Item], closings: &[usize], first: usize, end: usize) -> Stretch
     requires { first ≤ length items.now }
-    ensures { result ≡ specs.bare (length items.now) items.now closings.now first end }
+    ensures value { result ≡ specs.bare (length items.now) items.now closings.now first end }
+    ensures within { result.from ≤ length items.now }
 {
     let mut from = first;
     let mut to = end;
