@@ -120,9 +120,13 @@ guards_text : Tests (of_body (codes "g(Objects.toString(r));")) 0 (codes "r") fa
 unfolding closing number_len piece_of items_from items_of closed_from closings_of rounds_from rounds_of found_in class_of member_end_in members_in modifiers_end form_of try_end end_within try_blocks case_blocks blocks_within statements_in blocks_under numbers is_set_within is_shallow_at arguments_end type_rest dotted_end prefix_end parameters_from exceptions_end outline_of method_prefix_end operand_from operand_to out_of_parentheses argument_to bare
 guards_text = refl
 
-guards_behind_type_arguments : Tests (of_body (codes "if (r.<A, List<?>>conv() == null) g();")) 0 (codes "r") true
+guards_behind_type_arguments : Tests (of_body (codes "if ((r).<A, List<?>>conv() == null) g();")) 0 (codes "r") true
 unfolding closing number_len piece_of items_from items_of closed_from closings_of rounds_from rounds_of found_in class_of member_end_in members_in modifiers_end form_of try_end end_within try_blocks case_blocks blocks_within statements_in blocks_under numbers is_set_within is_shallow_at arguments_end type_rest dotted_end prefix_end parameters_from exceptions_end outline_of method_prefix_end operand_from operand_to out_of_parentheses argument_to bare
 guards_behind_type_arguments = refl
+
+guards_by_what_it_gives : Tests (of_body (codes "if (r.name() == null) g();")) 0 (codes "r") false
+unfolding closing number_len piece_of items_from items_of closed_from closings_of rounds_from rounds_of found_in class_of member_end_in members_in modifiers_end form_of try_end end_within try_blocks case_blocks blocks_within statements_in blocks_under numbers is_set_within is_shallow_at arguments_end type_rest dotted_end prefix_end parameters_from exceptions_end outline_of method_prefix_end operand_from operand_to out_of_parentheses argument_to bare
+guards_by_what_it_gives = refl
 
 guards_by_case : Tests (of_body (codes "switch (r) { case null -> g(); }")) 0 (codes "r") true
 unfolding closing number_len piece_of items_from items_of closed_from closings_of rounds_from rounds_of found_in class_of member_end_in members_in modifiers_end form_of try_end end_within try_blocks case_blocks blocks_within statements_in blocks_under numbers is_set_within is_shallow_at arguments_end type_rest dotted_end prefix_end parameters_from exceptions_end outline_of method_prefix_end operand_from operand_to out_of_parentheses argument_to bare
@@ -161,7 +165,7 @@ unfolding closing number_len piece_of items_from items_of closed_from closings_o
 guards_where_set_elsewhere = refl
 
 guards : WorkedGuards
-guards = record { tested = guards_tested; other = guards_other; guarded = guards_guarded; by_equals = guards_by_equals; by_class = guards_by_class; where_set = guards_where_set; beside_another = guards_beside_another; member = guards_member; in_parentheses = guards_in_parentheses; behind_a_cast = guards_behind_a_cast; another_argument = guards_another_argument; text_or_null = guards_text_or_null; text = guards_text; behind_type_arguments = guards_behind_type_arguments; by_case = guards_by_case; by_or = guards_by_or; by_and = guards_by_and; inside = guards_inside; inside_or = guards_inside_or; behind_else = guards_behind_else; with_else = guards_with_else; nested = guards_nested; where_set_elsewhere = guards_where_set_elsewhere }
+guards = record { tested = guards_tested; other = guards_other; guarded = guards_guarded; by_equals = guards_by_equals; by_class = guards_by_class; where_set = guards_where_set; beside_another = guards_beside_another; member = guards_member; in_parentheses = guards_in_parentheses; behind_a_cast = guards_behind_a_cast; another_argument = guards_another_argument; text_or_null = guards_text_or_null; text = guards_text; behind_type_arguments = guards_behind_type_arguments; by_what_it_gives = guards_by_what_it_gives; by_case = guards_by_case; by_or = guards_by_or; by_and = guards_by_and; inside = guards_inside; inside_or = guards_inside_or; behind_else = guards_behind_else; with_else = guards_with_else; nested = guards_nested; where_set_elsewhere = guards_where_set_elsewhere }
 
 sight_of_for : Sees (codes "class A { void f() { for (User u : xs) { go(); } } }") true
 unfolding closing number_len piece_of items_from items_of closed_from closings_of rounds_from rounds_of found_in class_of member_end_in members_in modifiers_end form_of try_end end_within try_blocks case_blocks blocks_within statements_in blocks_under numbers is_shallow_at arguments_end type_rest dotted_end prefix_end parameters_from exceptions_end outline_of method_prefix_end last_of_names is_in_import front_in is_loose is_java_class hides_last hides_name
@@ -178,6 +182,18 @@ sight_of_block = refl
 sight_of_inner_block : Sees (codes "class A { void f() { if (b) { User u = g(); } go(); } }") false
 unfolding closing number_len piece_of items_from items_of closed_from closings_of rounds_from rounds_of found_in class_of member_end_in members_in modifiers_end form_of try_end end_within try_blocks case_blocks blocks_within statements_in blocks_under numbers is_shallow_at arguments_end type_rest dotted_end prefix_end parameters_from exceptions_end outline_of method_prefix_end last_of_names is_in_import front_in is_loose is_java_class hides_last hides_name
 sight_of_inner_block = refl
+
+sight_of_fetch : Sees (codes "class A { void f() { for (final var u : users.all()) { go(); } } }") true
+unfolding closing number_len piece_of items_from items_of closed_from closings_of rounds_from rounds_of found_in class_of member_end_in members_in modifiers_end form_of try_end end_within try_blocks case_blocks blocks_within statements_in blocks_under numbers is_shallow_at arguments_end type_rest dotted_end prefix_end parameters_from exceptions_end outline_of method_prefix_end last_of_names is_in_import front_in is_loose is_java_class hides_last hides_name
+sight_of_fetch = refl
+
+sight_of_list : Sees (codes "class A { void f() { for (var u : us) { go(); } } }") false
+unfolding closing number_len piece_of items_from items_of closed_from closings_of rounds_from rounds_of found_in class_of member_end_in members_in modifiers_end form_of try_end end_within try_blocks case_blocks blocks_within statements_in blocks_under numbers is_shallow_at arguments_end type_rest dotted_end prefix_end parameters_from exceptions_end outline_of method_prefix_end last_of_names is_in_import front_in is_loose is_java_class hides_last hides_name
+sight_of_list = refl
+
+sight_of_more_than_fetch : Sees (codes "class A { void f() { for (var u : users.all().some()) { go(); } } }") false
+unfolding closing number_len piece_of items_from items_of closed_from closings_of rounds_from rounds_of found_in class_of member_end_in members_in modifiers_end form_of try_end end_within try_blocks case_blocks blocks_within statements_in blocks_under numbers is_shallow_at arguments_end type_rest dotted_end prefix_end parameters_from exceptions_end outline_of method_prefix_end last_of_names is_in_import front_in is_loose is_java_class hides_last hides_name
+sight_of_more_than_fetch = refl
 
 sight_plain : MeansTheSame user_map (codes "import java.util.List; class A { static class Row { } }") true
 unfolding closing number_len piece_of items_from items_of closed_from closings_of rounds_from rounds_of found_in class_of member_end_in members_in modifiers_end form_of try_end end_within try_blocks case_blocks blocks_within statements_in blocks_under numbers is_shallow_at arguments_end type_rest dotted_end prefix_end parameters_from exceptions_end outline_of method_prefix_end last_of_names is_in_import front_in is_loose is_java_class hides_last hides_name
@@ -216,7 +232,7 @@ unfolding closing number_len piece_of items_from items_of closed_from closings_o
 sight_imported_first = refl
 
 sight : WorkedSight
-sight = record { of_for = sight_of_for; behind_for = sight_behind_for; of_block = sight_of_block; of_inner_block = sight_of_inner_block; plain = sight_plain; nested = sight_nested; of_java = sight_of_java; imported = sight_imported; itself = sight_itself; nested_first = sight_nested_first; imported_class = sight_imported_class; imported_field = sight_imported_field; imported_first = sight_imported_first }
+sight = record { of_for = sight_of_for; behind_for = sight_behind_for; of_block = sight_of_block; of_inner_block = sight_of_inner_block; of_fetch = sight_of_fetch; of_list = sight_of_list; of_more_than_fetch = sight_of_more_than_fetch; plain = sight_plain; nested = sight_nested; of_java = sight_of_java; imported = sight_imported; itself = sight_itself; nested_first = sight_nested_first; imported_class = sight_imported_class; imported_field = sight_imported_field; imported_first = sight_imported_first }
 
 fronts_of_field : BeginsWith (codes "this.users.findAll()") (codes "users")
 unfolding closing number_len piece_of items_from items_of front_in is_loose

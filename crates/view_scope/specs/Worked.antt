@@ -125,7 +125,8 @@ pub record WorkedGuards : Type 0 where
   pub another_argument : Tests (of_body (codes "g(defaultString(x, r));")) 0 (codes "r") false
   pub text_or_null : Tests (of_body (codes "g(Objects.toString((r), x));")) 0 (codes "r") true
   pub text : Tests (of_body (codes "g(Objects.toString(r));")) 0 (codes "r") false
-  pub behind_type_arguments : Tests (of_body (codes "if (r.<A, List<?>>conv() == null) g();")) 0 (codes "r") true
+  pub behind_type_arguments : Tests (of_body (codes "if ((r).<A, List<?>>conv() == null) g();")) 0 (codes "r") true
+  pub by_what_it_gives : Tests (of_body (codes "if (r.name() == null) g();")) 0 (codes "r") false
   pub by_case : Tests (of_body (codes "switch (r) { case null -> g(); }")) 0 (codes "r") true
   pub by_or : Guards (of_body (codes "if (r == null || x > 3) return; go();")) 0 (codes "go") true
   pub by_and : Guards (of_body (codes "if (r == null && x > 3) return; go();")) 0 (codes "go") false
@@ -144,14 +145,25 @@ user_class = record { class = codes "User"; within = None; table = 0; by_value =
 abbrev pub user_map : ViewMap
 user_map = record { classes = user_class ∷ []; fetches = []; constants = []; templates = []; texts_binary = false }
 
+-- with the pattern `users.all()` for its rows
+abbrev pub fetching_map : ViewMap
+fetching_map =
+    record {
+      classes = user_class ∷ [];
+      fetches = record { table = 0; within = None; items = pattern_items (items_of (codes "users.all()")) } ∷ [];
+      constants = [];
+      templates = [];
+      texts_binary = false;
+    }
+
 abbrev pub user_setting : List Item → Within
 user_setting items =
     record {
-      map = user_map;
+      map = fetching_map;
       tables = [];
       items = items;
       classes = 0 ∷ [];
-      fetches = [];
+      fetches = 0 ∷ [];
       templates = [];
       map_constants = [];
       constants = [];
@@ -194,6 +206,9 @@ pub record WorkedSight : Type 0 where
   pub behind_for : Sees (codes "class A { void f() { for (User u : xs) { g(); } go(); } }") false
   pub of_block : Sees (codes "class A { void f() { final User u = g(); if (b) { go(); } } }") true
   pub of_inner_block : Sees (codes "class A { void f() { if (b) { User u = g(); } go(); } }") false
+  pub of_fetch : Sees (codes "class A { void f() { for (final var u : users.all()) { go(); } } }") true
+  pub of_list : Sees (codes "class A { void f() { for (var u : us) { go(); } } }") false
+  pub of_more_than_fetch : Sees (codes "class A { void f() { for (var u : users.all().some()) { go(); } } }") false
   pub plain : MeansTheSame user_map (codes "import java.util.List; class A { static class Row { } }") true
   pub nested : MeansTheSame user_map (codes "class A { static class User { } }") false
   pub of_java : MeansTheSame user_map (codes "class A { enum Math { B } }") false
