@@ -9,6 +9,7 @@ ghost use Rattle.view_slices.specs.Words.{known_in as all_known};
 
 use crate::file::class_name;
 use crate::shown::put_method;
+use crate::slices::{is_slice, within};
 use crate::words::{Known, are_words, known_in};
 use itoa::Buffer;
 use qbs_base::{Bytes, NoMemory, Table};
@@ -18,7 +19,7 @@ use view_map::ViewMap;
 use view_rules::{Within, push_all_made};
 use view_scope::{Standing, method_of, standing_of, tested_in};
 use view_shapes::{File, Method, Parameter, Stretch, members_of};
-use view_statements::{Read, Slice, Sliced, Words, is_slice, within};
+use view_statements::{Read, Slice, Sliced, Words};
 
 // ---- Methods
 
