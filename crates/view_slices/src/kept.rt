@@ -16,7 +16,7 @@ use view_shapes::{Stretch, is_named};
 use view_statements::{Ending, Printed, Slice, Statement};
 
 /// The items of the source and those of what is written, and what the slice of the source prints.
-#[derive(Clone, Copy)]
+#[derive(Drop)]
 struct Beside<'a> {
     items: &'a [Item],
     written: &'a [Item],
@@ -72,8 +72,8 @@ fn up_to_item(items: &[Item], count: usize) -> &[Item]
     }
 }
 
-fn same_items(b: Beside, s: Stretch, t: Stretch) -> bool
-    ensures { result ≡ specs.same_items (beside_of b) s t }
+fn same_items(b: &Beside, s: Stretch, t: Stretch) -> bool
+    ensures { result ≡ specs.same_items (beside_of b.now) s t }
 {
     let count = s.to.saturating_sub(s.from);
     count == t.to.saturating_sub(t.from)
@@ -164,7 +164,7 @@ fn are_none(sts: &[Statement]) -> bool
 {
     match sts {
         [] => true,
-        [_, ..] => false,
+        [_st, _rest @ ..] => false,
     }
 }
 
@@ -211,23 +211,21 @@ fn shape_of(st: &Statement) -> u32
     }
 }
 
-#[tactic(auto, using(view_statements::proofs::Nodes::nodes))]
 fn body_of(st: &Statement) -> &[Statement]
     ensures { statements result.now ≡ specs.body_of (statement st.now) }
 {
     match st {
-        Statement::If { body, .. }
-        | Statement::IfElse { body, .. }
-        | Statement::ForEach { body, .. }
-        | Statement::ForIndex { body, .. }
-        | Statement::ForIterator { body, .. }
-        | Statement::While { body, .. }
-        | Statement::Skip { rest: body, .. } => body.as_slice(),
+        Statement::If { body, .. } => body.as_slice(),
+        Statement::IfElse { body, .. } => body.as_slice(),
+        Statement::ForEach { body, .. } => body.as_slice(),
+        Statement::ForIndex { body, .. } => body.as_slice(),
+        Statement::ForIterator { body, .. } => body.as_slice(),
+        Statement::While { body, .. } => body.as_slice(),
+        Statement::Skip { rest, .. } => rest.as_slice(),
         _ => &[],
     }
 }
 
-#[tactic(auto, using(view_statements::proofs::Nodes::nodes))]
 fn other_of(st: &Statement) -> &[Statement]
     ensures { statements result.now ≡ specs.other_of (statement st.now) }
 {
@@ -237,22 +235,22 @@ fn other_of(st: &Statement) -> &[Statement]
     }
 }
 
-fn is_front(b: Beside, s: &Statement, t: &Statement) -> bool
-    ensures { result ≡ specs.is_front (beside_of b) (statement s.now) (statement t.now) }
+fn is_front(b: &Beside, s: &Statement, t: &Statement) -> bool
+    ensures { result ≡ specs.is_front (beside_of b.now) (statement s.now) (statement t.now) }
 {
     shape_of(s) == shape_of(t) && same_items(b, head_of(s), head_of(t))
 }
 
-fn is_needed(b: Beside, at: usize, name: usize, java: JavaType) -> bool
-    ensures { result ≡ specs.is_needed (beside_of b) at name java }
+fn is_needed(b: &Beside, at: usize, name: usize, java: JavaType) -> bool
+    ensures { result ≡ specs.is_needed (beside_of b.now) at name java }
 {
     is_scalar(java)
         && (is_named(b.items, b"final", at, name)
             && is_printed(b.prints, word_at(b.items, name), java))
 }
 
-fn may_be_left_out(b: Beside, st: &Statement) -> bool
-    ensures { result ≡ specs.may_be_left_out (beside_of b) (statement st.now) }
+fn may_be_left_out(b: &Beside, st: &Statement) -> bool
+    ensures { result ≡ specs.may_be_left_out (beside_of b.now) (statement st.now) }
 {
     match st {
         Statement::Declaration { at, name, java, .. }
@@ -273,8 +271,8 @@ fn behind_first(sts: &[Statement]) -> &[Statement]
 }
 
 #[cycle(kept)]
-fn is_first(b: Beside, levels: usize, s: &Statement, sts: &[Statement]) -> bool
-    ensures { result ≡ specs.is_first (specs.is_kept (beside_of b) levels (statement s.now)) (statements sts.now) }
+fn is_first(b: &Beside, levels: usize, s: &Statement, sts: &[Statement]) -> bool
+    ensures { result ≡ specs.is_first (specs.is_kept (beside_of b.now) levels (statement s.now)) (statements sts.now) }
 {
     match sts {
         [] => false,
@@ -283,8 +281,8 @@ fn is_first(b: Beside, levels: usize, s: &Statement, sts: &[Statement]) -> bool
 }
 
 #[cycle(kept)]
-fn are_kept(b: Beside, levels: usize, source: &[Statement], written: &[Statement]) -> bool
-    ensures { result ≡ specs.are_kept (beside_of b) levels (statements source.now) (statements written.now) }
+fn are_kept(b: &Beside, levels: usize, source: &[Statement], written: &[Statement]) -> bool
+    ensures { result ≡ specs.are_kept (beside_of b.now) levels (statements source.now) (statements written.now) }
 {
     let mut rest = written;
     for s in source {
@@ -302,8 +300,8 @@ fn are_kept(b: Beside, levels: usize, source: &[Statement], written: &[Statement
 }
 
 #[cycle(kept)]
-fn is_kept(b: Beside, levels: usize, s: &Statement, t: &Statement) -> bool
-    ensures { result ≡ specs.is_kept (beside_of b) levels (statement s.now) (statement t.now) }
+fn is_kept(b: &Beside, levels: usize, s: &Statement, t: &Statement) -> bool
+    ensures { result ≡ specs.is_kept (beside_of b.now) levels (statement s.now) (statement t.now) }
 {
     match levels.checked_sub(1) {
         Some(levels) => {
@@ -315,8 +313,8 @@ fn is_kept(b: Beside, levels: usize, s: &Statement, t: &Statement) -> bool
     }
 }
 
-fn is_ending_kept(b: Beside, levels: usize, s: &Ending, t: &Ending) -> bool
-    ensures { result ≡ specs.is_ending_kept (beside_of b) levels (plain_ending s.now) (plain_ending t.now) }
+fn is_ending_kept(b: &Beside, levels: usize, s: &Ending, t: &Ending) -> bool
+    ensures { result ≡ specs.is_ending_kept (beside_of b.now) levels (plain_ending s.now) (plain_ending t.now) }
 {
     match t {
         Ending::Grouped(h) => match s {
@@ -340,9 +338,9 @@ pub fn keeps_statements(items: &[Item], slice: &Slice, written: &[Item], again: 
     };
     let levels = slice.to.saturating_sub(slice.from);
     are_kept(
-        b,
+        &b,
         levels,
         slice.statements.as_slice(),
         again.statements.as_slice(),
-    ) && is_ending_kept(b, levels, &slice.ending, &again.ending)
+    ) && is_ending_kept(&b, levels, &slice.ending, &again.ending)
 }
