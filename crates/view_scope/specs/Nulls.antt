@@ -7,7 +7,7 @@ use Rattle.view_items.specs.declared.item.Item.{Item}
 use Rattle.view_items.specs.Brackets.{if_some}
 use Rattle.view_shapes.specs.declared.members.Stretch.{Stretch}
 use Rattle.view_shapes.specs.Found.{is_word, is_sign, is_name, is_one_of_words, is_one_of_signs, before, closing_at}
-use Rattle.view_shapes.specs.Mentions.{numbers, is_named}
+use Rattle.view_shapes.specs.Mentions.{numbers, is_mention}
 use Rattle.view_shapes.specs.Uses.{is_called}
 
 abbrev pub from_to : ℕ → ℕ → Stretch
@@ -195,9 +195,13 @@ tested_at items closings rounds k =
 abbrev pub tested_in : List Item → List ℕ → List ℕ → ℕ → ℕ → List Stretch
 tested_in items closings rounds from to = flat_map (tested_at items closings rounds) (numbers from (to - from))
 
--- a variable is named in one of these stretches
+-- A variable is named there, and no dot stands behind it: behind one what it gives is compared, and not itself, since where it is null that throws.
+abbrev pub is_compared : List Item → List ℕ → ℕ → Bool
+is_compared items name k = is_mention items name k && not (is_sign (codes ".") items (k + 1))
+
+-- so it is in one of these stretches
 abbrev pub is_named_in : List Item → List ℕ → Stretch → Bool
-is_named_in items name s = is_named items name s.from s.to
+is_named_in items name s = list_any (is_compared items name) (numbers s.from (s.to - s.from))
 
 abbrev pub is_tested_by : List Item → List Stretch → List ℕ → Bool
 is_tested_by items tested name = list_any (is_named_in items name) tested

@@ -6,7 +6,7 @@ use qbs_base::{Items, NoMemory};
 use std::alloc::Global;
 use view_items::Item;
 use view_shapes::{
-    Stretch, closing_at, is_called, is_name, is_named, is_one_of_signs, is_one_of_words, is_sign,
+    Stretch, closing_at, is_called, is_mention, is_name, is_one_of_signs, is_one_of_words, is_sign,
     is_word,
 };
 
@@ -289,7 +289,8 @@ fn argument_to(items: &[Item], rounds: &[usize], opening: usize, first: usize) -
 #[tactic(auto, using(crate::proofs::Operands::bare_other, crate::proofs::Operands::bare_stuck, crate::proofs::Operands::bare_inside, crate::proofs::Operands::bare_behind_cast, crate::proofs::Operands::bare_end))]
 fn bare(items: &[Item], closings: &[usize], first: usize, end: usize) -> Stretch
     requires { first ≤ length items.now }
-    ensures { result ≡ specs.bare (length items.now) items.now closings.now first end }
+    ensures value { result ≡ specs.bare (length items.now) items.now closings.now first end }
+    ensures within { result.from ≤ length items.now }
 {
     let mut from = first;
     let mut to = end;
@@ -462,10 +463,23 @@ pub fn tested_in(
     Ok(list)
 }
 
+/// Whether the variable is named there, and not what it gives.
+fn is_compared(items: &[Item], name: &[u8], number: usize) -> bool
+    ensures { result ≡ specs.is_compared items.now name.now number }
+{
+    is_mention(items, name, number) && !is_sign(".", items, number + 1)
+}
+
+#[tactic(auto, using(view_shapes::proofs::Numbers::any_here, view_shapes::proofs::Numbers::any_next, view_shapes::proofs::Numbers::any_end))]
 fn is_named_in(items: &[Item], name: &[u8], s: Stretch) -> bool
     ensures { result ≡ specs.is_named_in items.now name.now s }
 {
-    is_named(items, name, s.from, s.to)
+    for number in s.from..s.to {
+        if is_compared(items, name, number) {
+            return true;
+        }
+    }
+    false
 }
 
 /// Whether a variable is tested for null, where these are the stretches in which variables are. Time goes with their items.
