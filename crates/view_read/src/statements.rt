@@ -26,7 +26,7 @@ pub struct Condition {
     pub close: usize,
 }
 
-/// A body, in braces or of at most one statement, and the number of its last item.
+/// A body, in braces or of one statement, and the number of its last item.
 #[derive(Drop)]
 pub struct Body {
     pub braces: bool,
@@ -101,14 +101,6 @@ impl<'a> Reader<'a> {
                 braces: true,
                 statements,
                 end,
-            });
-        }
-        let at = self.at;
-        if self.take(b";") {
-            return Ok(Body {
-                braces: false,
-                statements,
-                end: at,
             });
         }
         let mark = self.mark();
