@@ -84,6 +84,11 @@ impl<'b> Places<'b> {
 }
 
 impl<'a> Reader<'a> {
+    /// Whether an item may stand behind the name of what is declared.
+    fn may_follow_declared(&self, number: usize) -> bool {
+        matches!(self.bytes(number), b"=" | b";" | b"," | b":" | b")")
+    }
+
     /// Whether the variable whose name stands at a number is in sight at the next item.
     fn is_declared_at(
         &self,
@@ -113,6 +118,9 @@ impl<'a> Reader<'a> {
         let mut places = Places::of(self.alloc, variables)?;
         let size = source.to.saturating_sub(source.name);
         for k in source.name..self.at {
+            if !self.may_follow_declared(k.saturating_add(1)) {
+                continue;
+            }
             let Some(number) = places.missing(self.bytes(k)) else {
                 continue;
             };

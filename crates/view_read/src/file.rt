@@ -339,6 +339,10 @@ impl Numbers {
         }
     }
 
+    fn has_room(&self, most: usize) -> bool {
+        self.list.len() < most
+    }
+
     /// Takes the next number, or leaves it out.
     fn take(&mut self, wanted: bool) -> Result<(), NoMemory> {
         if wanted {
@@ -464,17 +468,16 @@ impl<'a> Class<'a> {
             .iter()
             .zip(self.map_constants.as_slice().iter())
         {
-            numbers.take(
-                is_named(named, *first)
-                    && numbers.list.len() < most
-                    && first_is_free(
-                        file.items,
-                        file.closings,
-                        file.rounds,
-                        m,
-                        constant.names.as_slice(),
-                    ),
-            )?;
+            let wanted = is_named(named, *first)
+                && numbers.has_room(most)
+                && first_is_free(
+                    file.items,
+                    file.closings,
+                    file.rounds,
+                    m,
+                    constant.names.as_slice(),
+                );
+            numbers.take(wanted)?;
         }
         Ok(numbers.list)
     }
