@@ -29,4 +29,5 @@ pub mod Rewrote
 pub mod Twins
 pub mod TypedRuns
 pub mod Unnesting
+pub mod Viewing
 pub mod Worded

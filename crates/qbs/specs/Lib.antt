@@ -19,4 +19,5 @@ pub mod Sql
 pub mod Store
 pub mod Top
 pub mod Unnest
+pub mod View
 pub mod Within

@@ -18,6 +18,7 @@ mod sql;
 mod stored;
 mod top;
 mod unnest;
+mod view;
 
 pub use clean::qbs_main_over_clean_ends;
 pub use deliveries::fetch::MOST_SCHEMA;
