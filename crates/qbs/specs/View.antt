@@ -1,5 +1,5 @@
 -- The command `view`: what is seen of a Java file by a map, as a program that has a method for each slice.
-use Rattle.std.specs.Prelude.{◌≡◌, ℕ, ◌+◌, ◌<◌, ◌≤◌, ◌⊎◌, List, [], ◌∷◌, ◌++◌, length, codes, map, filter, Bool, true, false, Option, Some, None, slice_get}
+use Rattle.std.specs.Prelude.{◌≡◌, ℕ, ◌+◌, ◌<◌, ◌≤◌, List, [], ◌∷◌, ◌++◌, length, codes, map, filter, Bool, true, false, Option, Some, None, slice_get}
 use Rattle.std.specs.Io.KnownBytes.{Appends}
 use Rattle.std.specs.List.{flat_map}
 use Rattle.qbs_base.specs.declared.status.Status.{Status}
@@ -21,7 +21,7 @@ use Rattle.deliveries.specs.declared.plan.Plan.{Plan}
 use Rattle.deliveries.specs.Deliver.{Change}
 use Rattle.deliveries.specs.Limits.{most_map, most_schema, most_source}
 use Rattle.deliveries.specs.Plan.{Given, too_long}
-use Rattle.deliveries.specs.Steps.{Ends, IsRead, reads}
+use Rattle.deliveries.specs.Steps.{Ends, IsRead, reads, step}
 use Rattle.plans.specs.Opening.{IsSchemaOf, IsMapOf, IsProgramOf, has_schema, has_map}
 
 -- ---- What is seen
@@ -45,14 +45,37 @@ starts_of v = flat_map (method_starts v.file) v.methods
 abbrev pub text_of : ViewMap → Schema → View → List ℕ
 text_of m tables v = laid_out (class_cells m tables v.file v.methods)
 
+-- what is seen of a source: a view and the program of its text, or nothing
+pub data Seen : Type 0 where
+  Methods : View → PlainProgram → Seen
+  Nothing : Seen
+
+-- the view is one of the source, and its text has this well-typed program
+abbrev pub IsSeen : ViewMap → Schema → List ℕ → Seen → Type 0
+IsSeen m tables source (Methods v p) = IsView m tables source v × IsProgramOf tables (text_of m tables v) p
+IsSeen m tables source Nothing = Unit {0}
+
+-- a view is longer than a source may be
+pub record IsTooLong (m : ViewMap) (tables : Schema) (source : List ℕ) (plan : Plan) : Type 0 where
+  pub view : View
+  pub is_view : IsView m tables source view
+  pub long : most_source < length (text_of m tables view)
+  pub due : plan ≡ too_long (codes "view")
+
+abbrev pub sees : ViewMap → Schema → List ℕ → (Seen → Ends) → Ends
+sees m tables source next = step (IsSeen m tables source) (IsTooLong m tables source) next
+
 -- a class without methods stands for a file of which nothing is seen
 abbrev pub nothing_seen : List ℕ
 nothing_seen = codes "class View {\n}\n"
 
--- What is written, and where the slices begin in the source: a view, whose text has a well-typed program, or nothing.
-pub data Sees (m : ViewMap) (tables : Schema) (source : List ℕ) : List ℕ → List ℕ → Type 0 where
-  methods : (v : View) (p : PlainProgram) → IsView m tables source v → IsProgramOf tables (text_of m tables v) p → Sees m tables source (text_of m tables v) (starts_of v)
-  nothing : Sees m tables source nothing_seen []
+abbrev pub seen_text : ViewMap → Schema → Seen → List ℕ
+seen_text m tables (Methods v p) = text_of m tables v
+seen_text m tables Nothing = nothing_seen
+
+abbrev pub seen_starts : Seen → List ℕ
+seen_starts (Methods v p) = starts_of v
+seen_starts Nothing = []
 
 -- ---- The report
 
@@ -77,21 +100,11 @@ pub record IsWritten (source out starts : List ℕ) (plan : Plan) : Type 0 where
   pub written : plan ≡ viewed_plan out lines
 
 -- what is seen is written
-pub record Views (m : ViewMap) (tables : Schema) (source : List ℕ) (plan : Plan) : Type 0 where
-  pub out : List ℕ
-  pub starts : List ℕ
-  pub sees : Sees m tables source out starts
-  pub is_written : IsWritten source out starts plan
-
--- what is seen is longer than a source may be
-pub record SeesTooMuch (m : ViewMap) (tables : Schema) (source : List ℕ) (plan : Plan) : Type 0 where
-  pub view : View
-  pub is_view : IsView m tables source view
-  pub long : most_source < length (text_of m tables view)
-  pub due : plan ≡ too_long (codes "view")
+abbrev pub writes_seen : ViewMap → Schema → List ℕ → Seen → Ends
+writes_seen m tables source seen = IsWritten source (seen_text m tables seen) (seen_starts seen)
 
 abbrev pub views : ViewMap → Schema → List ℕ → Ends
-views m tables source plan = SeesTooMuch m tables source plan ⊎ Views m tables source plan
+views m tables source = sees m tables source (writes_seen m tables source)
 
 -- ---- The command
 
@@ -113,11 +126,12 @@ pub record IsViewing (words schema source out rep : List ℕ) : Type 0 where
   pub map : ViewMap
   pub is_map : IsMapOf tables words map
   -- text: what is seen of the source by the map, a well-typed program, or nothing
-  pub starts : List ℕ
-  pub sees : Sees map tables source out starts
+  pub seen : Seen
+  pub is_seen : IsSeen map tables source seen
+  pub text : out ≡ seen_text map tables seen
   -- report: where each slice begins, in their order, among lines of loops that aren't seen
   pub lines : List ViewLine
-  pub slices : filter is_slice_line lines ≡ slice_lines source 1 starts
+  pub slices : filter is_slice_line lines ≡ slice_lines source 1 (seen_starts seen)
   pub report : rep ≡ flat_map view_line lines
 
 -- all files were read, and both sinks have grown by what is written
