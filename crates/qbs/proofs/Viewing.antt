@@ -91,19 +91,3 @@ viewed files may words out rep result done map schema source has ok =
       wrote_text = w.wrote_text;
       wrote_lines = w.wrote_lines;
     }
-
--- ---- lines among others
-
-alone : (l : ViewLine) (b : Bool) → b ≡ false → (if b then l ∷ [] else []) ≡ []
-alone l false is = refl
-alone l true is = absurd cc
-
-pub other_line : (xs : List ViewLine) (l : ViewLine) → is_slice_line l ≡ false → filter is_slice_line (xs ++ l ∷ []) ≡ filter is_slice_line xs
-other_line xs l is = filter-append is_slice_line xs (l ∷ []) ∙ ap (λ (ys : List ViewLine). filter is_slice_line xs ++ ys) (alone l (is_slice_line l) is) ∙ append-nil (filter is_slice_line xs)
-
-pub slice_line : (xs : List ViewLine) (l : ViewLine) → is_slice_line l ≡ true → filter is_slice_line (xs ++ l ∷ []) ≡ filter is_slice_line xs ++ l ∷ []
-slice_line xs l is = filter-append is_slice_line xs (l ∷ []) ∙ ap (λ (ys : List ViewLine). filter is_slice_line xs ++ ys) (kept l (is_slice_line l) is)
-  where
-    kept : (k : ViewLine) (b : Bool) → b ≡ true → (if b then k ∷ [] else []) ≡ k ∷ []
-    kept k true e = refl
-    kept k false e = absurd cc

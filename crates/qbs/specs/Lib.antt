@@ -15,6 +15,7 @@ pub mod Pruners
 pub mod Reports
 pub mod Rewrite
 pub mod Run
+pub mod Seen
 pub mod Sql
 pub mod Store
 pub mod Top

@@ -14,6 +14,7 @@ mod opened;
 mod prove;
 mod rewrite;
 mod run;
+mod seen;
 mod sql;
 mod stored;
 mod top;

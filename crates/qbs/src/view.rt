@@ -1,43 +1,30 @@
 // The command `view`.
-ghost use Rattle.std.specs.Prelude.{◌≡◌, ◌++◌, IfOk, IfSome, OnOk, IsTrue, Some, false, ◌∷◌, [], map, filter, slice_get};
+ghost use Rattle.std.specs.Prelude.{◌≡◌, ◌+◌, ◌++◌, IfOk, OnOk, false, ◌∷◌, [], map, filter, slice_get};
 ghost use Rattle.std.specs.List.{flat_map};
-ghost use Rattle.qbs_base.specs.Values.{Schema};
-ghost use Rattle.java_ast.specs.Tree.{PlainProgram};
-ghost use Rattle.deliveries.specs.Code.{Goes, OrMemory};
+ghost use Rattle.deliveries.specs.Code.{OrMemory};
 ghost use Rattle.deliveries.specs.Plan.{given};
 ghost use Rattle.deliveries.specs.Reads.{looks, OnlyReads};
-ghost use Rattle.plans.specs.Opening.{IsProgramOf};
 ghost use Rattle.text_places.specs.Places.{AreMarks};
-ghost use Rattle.view_map.specs.declared.model.ViewMap.{ViewMap};
-ghost use Rattle.view_slices.specs.Reading.{slice as plain_slice, sliced as plain_sliced};
+ghost use Rattle.view_slices.specs.Reading.{slices as plain_slices, sliced as plain_sliced, all_sliced};
 ghost use Rattle.view_slices.specs.Slices.{file_of};
-ghost use Rattle.view_slices.specs.Views.{file_in, class_cells};
-ghost use Rattle.view_text.specs.Layout.{laid_out};
+ghost use Rattle.qbs.specs.Seen.{seen_by, text_by, view_by};
 ghost use Rattle.qbs.specs.View as specs;
-ghost use Rattle.qbs.specs.View.{SeesTooMuch, Views, views, view_of, view as view_files};
+ghost use Rattle.qbs.specs.View.{view_of, view as view_files};
 
+use crate::seen::{Seen, Viewed, see};
 use deliveries::Plan;
-use deliveries::fetch::{
-    MOST_MAP, MOST_SOURCE, Stop, fetch, fetch_schema, fetch_source, refused as too_long,
-};
+use deliveries::fetch::{MOST_MAP, Stop, fetch, fetch_schema, fetch_source};
 use files_sinks::Files;
-use plans::opening::{open_map, open_program, open_schema};
+use plans::opening::{open_map, open_schema};
 use qbs_base::{Bytes, Items, NoMemory, Status, Text};
-use schema::Schema;
 use std::alloc::Global;
 use text_places::{Place, marks_in, span_by};
 use view_items::Item;
-use view_map::ViewMap;
-use view_read::{Loop, View, find_view};
+use view_read::{Loop, View};
 use view_reports::{ViewLine, view_report};
-use view_rules::push_all_made;
-use view_slices::{
-    File, Slice, Sliced, Words, is_view, open_file, put_class, put_method, within,
-};
-use view_text::lay_out;
-
-/// Where a slice is refused its blocks are looked into, and no block stands deeper than 64 others.
-const MOST_ROUNDS: usize = 66;
+use view_shapes::File;
+use view_slices::looked_at;
+use view_statements::{Slice, Sliced};
 
 /// What is due for the files of a map, a schema and a source.
 pub fn plan_view<F: Files>(
@@ -62,7 +49,8 @@ fn plan_texts(alloc: Global, map: &[u8], schema: &[u8], source: &[u8]) -> Result
 {
     let tables = open_schema(alloc, schema)?;
     let map = open_map(alloc, &tables, map)?;
-    plan_seen(alloc, &map, &tables, source)
+    let seen = see(alloc, &map, &tables, source)?;
+    Ok(plan_seen(alloc, source, &seen)?)
 }
 
 // ---- What is written
@@ -78,7 +66,7 @@ fn start_of(items: &[Item], number: usize) -> usize
 }
 
 fn push_starts(file: &File, slices: &[Slice], starts: &mut Items<usize>) -> Result<(), NoMemory>
-    ensures { OnOk result (starts.new ≡ starts.old ++ map (specs.slice_start (file_of file.now)) (map plain_slice slices.now)) }
+    ensures { OnOk result (starts.new ≡ starts.old ++ map (specs.slice_start (file_of file.now)) (plain_slices slices.now)) }
 {
     for slice in slices {
         starts.push(start_of(file.items, slice.from))?;
@@ -88,7 +76,7 @@ fn push_starts(file: &File, slices: &[Slice], starts: &mut Items<usize>) -> Resu
 
 /// Where the slices of methods begin.
 fn starts_of(alloc: Global, file: &File, methods: &[Sliced]) -> Result<Items<usize>, NoMemory>
-    ensures { IfOk result (λ starts. starts ≡ flat_map (specs.method_starts (file_of file.now)) (map plain_sliced methods.now)) }
+    ensures { IfOk result (λ starts. starts ≡ flat_map (specs.method_starts (file_of file.now)) (all_sliced methods.now)) }
 {
     let mut starts = Items::new(alloc);
     for method in methods {
@@ -113,12 +101,13 @@ fn unseen_line(source: &Source, unseen: Loop) -> ViewLine
     let because = start_of(source.items, unseen.unseen.at);
     ViewLine::Unseen {
         at: span_by(source.bytes, source.marks, at),
-        rule: unseen.unseen.reason.number() as u32,
+        rule: unseen.unseen.reason.number().min(12) as u32,
         because: span_by(source.bytes, source.marks, because),
     }
 }
 
 /// Lines of the loops that begin before a byte; those behind are given back.
+#[tactic(auto, using(crate::proofs::Viewed::other_line))]
 fn push_loops<'a>(
     source: &Source,
     loops: &'a [Loop],
@@ -141,7 +130,18 @@ fn push_loops<'a>(
     Ok(rest)
 }
 
+/// The number behind another one, unless so many things are more than fit into memory.
+fn next(k: u64) -> Result<u64, NoMemory>
+    ensures { IfOk result (λ n. n ≡ k + 1) }
+{
+    match k.checked_add(1) {
+        Some(n) => Ok(n),
+        None => Err(NoMemory),
+    }
+}
+
 /// The lines of slices and of loops that aren't seen, both in the order of the text.
+#[tactic(auto, using(crate::proofs::Viewed::slice_line))]
 fn lines_of(
     alloc: Global,
     source: &Source,
@@ -158,7 +158,7 @@ fn lines_of(
         rest = push_loops(source, rest, *start, &mut lines)?;
         let at = span_by(source.bytes, source.marks, *start);
         lines.push(ViewLine::Slice { k, at })?;
-        k += 1;
+        k = next(k)?;
     }
     push_loops(source, rest, usize::MAX, &mut lines)?;
     Ok(lines)
@@ -190,156 +190,45 @@ fn plan_text(
     })
 }
 
-/// Nothing of the file is seen.
+// What is due for a view.
+fn plan_viewed(
+    alloc: Global,
+    source: &[u8],
+    file: &File,
+    viewed: &Viewed,
+) -> Result<Plan, NoMemory>
+    ensures { IfOk result (specs.IsWritten source.now viewed.now.text (specs.starts_of (view_by (file_of file.now) viewed.now))) }
+{
+    let found = &viewed.found;
+    let starts = starts_of(alloc, file, found.methods.as_slice())?;
+    let text = Bytes::from_vec(viewed.text.as_slice().to_vec(alloc)?);
+    plan_text(
+        alloc,
+        source,
+        file.items,
+        text,
+        starts.as_slice(),
+        found.loops.as_slice(),
+    )
+}
+
+// What is due where nothing is seen.
 fn plan_nothing(alloc: Global, source: &[u8], found: &View) -> Result<Plan, NoMemory>
-    ensures { IfOk result (λ plan. (m : ViewMap) (tables : Schema) → Views m tables source.now plan) }
+    ensures { IfOk result (specs.IsWritten source.now specs.nothing_seen []) }
 {
     let text = Bytes::from_vec(b"class View {\n}\n".to_vec(alloc)?);
     let items = found.items.as_slice();
     plan_text(alloc, source, items, text, &[], found.loops.as_slice())
 }
 
-// ---- What is seen
-
-/// Whether a text has a well-typed program.
-fn is_typed(alloc: Global, schema: &Schema, text: &[u8]) -> Result<bool, NoMemory>
-    ensures { IfOk result (λ b. IsTrue b → (p : PlainProgram) × IsProgramOf schema.now text.now p) }
+// What is due for what is seen.
+fn plan_seen(alloc: Global, source: &[u8], seen: &Seen) -> Result<Plan, NoMemory>
+    ensures { IfOk result (specs.IsWritten source.now (text_by seen.now) (specs.seen_starts (seen_by seen.now))) }
 {
-    match open_program(alloc, schema, text) {
-        Ok(_) => Ok(true),
-        Err(Stop::Due(_)) => Ok(false),
-        Err(Stop::Memory) => Err(NoMemory),
-    }
-}
-
-/// The text of the class that methods are seen as.
-fn text_of(
-    alloc: Global,
-    map: &ViewMap,
-    schema: &Schema,
-    file: &File,
-    methods: &[Sliced],
-) -> Result<Bytes, NoMemory>
-    ensures { IfOk result (λ text. text ≡ laid_out (class_cells map.now schema.now (file_of file.now) (map plain_sliced methods.now))) }
-{
-    let mut cells = Items::new(alloc);
-    put_class(alloc, map, schema.tables(), file, methods, &mut cells)?;
-    lay_out(alloc, cells.as_slice())
-}
-
-/// The first item of a slice is refused, where its method alone isn't well typed.
-fn refuse_slice(
-    alloc: Global,
-    map: &ViewMap,
-    schema: &Schema,
-    file: &File,
-    words: &Words,
-    slice: &Slice,
-    refused: &mut Vec<usize>,
-) -> Result<(), NoMemory> {
-    let mut cells = Items::new(alloc);
-    let w = within(map, schema.tables(), file, words, slice);
-    push_all_made(alloc, &w, slice.from, &[b"class", b"View", b"{"], &mut cells)?;
-    put_method(alloc, &w, b"s1", slice, &mut cells)?;
-    push_all_made(alloc, &w, slice.from, &[b"}"], &mut cells)?;
-    let text = lay_out(alloc, cells.as_slice())?;
-    if !is_typed(alloc, schema, text.as_slice())? {
-        refused.push(slice.from)?;
-    }
-    Ok(())
-}
-
-fn refuse_untyped(
-    alloc: Global,
-    map: &ViewMap,
-    schema: &Schema,
-    file: &File,
-    methods: &[Sliced],
-    refused: &mut Vec<usize>,
-) -> Result<(), NoMemory> {
-    for method in methods {
-        for slice in method.slices.as_slice() {
-            refuse_slice(alloc, map, schema, file, &method.read.words, slice, refused)?;
+    match seen {
+        Seen::Methods { file, viewed } => {
+            plan_viewed(alloc, source, &looked_at(file), viewed)
         }
-    }
-    Ok(())
-}
-
-/// What is due for what was found in a file, unless a slice of it is none or isn't well typed, and is refused.
-fn plan_found(
-    alloc: Global,
-    map: &ViewMap,
-    schema: &Schema,
-    source: &[u8],
-    file: &File,
-    found: &View,
-    refused: &mut Vec<usize>,
-) -> Result<Option<Plan>, Stop>
-    requires { file_in map.now source.now ≡ Some (file_of file.now) }
-    ensures { Goes result (λ plan. IfSome plan (Views map.now schema.now source.now)) (SeesTooMuch map.now schema.now source.now) }
-{
-    let methods = found.methods.as_slice();
-    if !is_view(alloc, map, schema.tables(), file, methods, refused)? {
-        return Ok(None);
-    }
-    let text = text_of(alloc, map, schema, file, methods)?;
-    if text.len() as u64 > MOST_SOURCE {
-        return Err(too_long(alloc, Status::Limit, "qbs: limit: ", "view"));
-    }
-    if !is_typed(alloc, schema, text.as_slice())? {
-        refuse_untyped(alloc, map, schema, file, methods, refused)?;
-        return Ok(None);
-    }
-    let starts = starts_of(alloc, file, methods)?;
-    let items = found.items.as_slice();
-    let plan = plan_text(alloc, source, items, text, starts.as_slice(), found.loops.as_slice())?;
-    Ok(Some(plan))
-}
-
-/// What is due for a file in which something may be seen. Where a slice is refused, another is looked for.
-fn plan_file(
-    alloc: Global,
-    map: &ViewMap,
-    schema: &Schema,
-    source: &[u8],
-    file: &File,
-) -> Result<Plan, Stop>
-    requires { file_in map.now source.now ≡ Some (file_of file.now) }
-    ensures { OrMemory result (views map.now schema.now source.now) }
-{
-    let mut refused = Vec::new(alloc);
-    for _ in 0..MOST_ROUNDS {
-        let known = refused.len();
-        let found = find_view(alloc, map, schema.tables(), source, refused.as_slice())?;
-        if let Some(plan) = plan_found(alloc, map, schema, source, file, &found, &mut refused)? {
-            return Ok(plan);
-        }
-        if refused.len() == known {
-            break;
-        }
-    }
-    plan_unread(alloc, map, schema, source)
-}
-
-/// What is due where nothing is seen.
-fn plan_unread(
-    alloc: Global,
-    map: &ViewMap,
-    schema: &Schema,
-    source: &[u8],
-) -> Result<Plan, Stop>
-    ensures { OrMemory result (views map.now schema.now source.now) }
-{
-    let found = find_view(alloc, map, schema.tables(), source, &[])?;
-    Ok(plan_nothing(alloc, source, &found)?)
-}
-
-// What is due for a source.
-fn plan_seen(alloc: Global, map: &ViewMap, schema: &Schema, source: &[u8]) -> Result<Plan, Stop>
-    ensures { OrMemory result (views map.now schema.now source.now) }
-{
-    match open_file(alloc, map, source)? {
-        Some(file) => plan_file(alloc, map, schema, source, &file.file()),
-        None => plan_unread(alloc, map, schema, source),
+        Seen::Nothing { found } => plan_nothing(alloc, source, found),
     }
 }
