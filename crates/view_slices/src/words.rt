@@ -325,7 +325,7 @@ fn same_constant(c: &ClassConstant, d: &ClassConstant) -> bool
                     && same_sign(c.value.negative, d.value.negative))))
 }
 
-fn same_sign(a: bool, b: bool) -> bool
+pub fn same_sign(a: bool, b: bool) -> bool
     ensures { result ≡ specs.same_sign a b }
 {
     (a && b) || (!a && !b)
