@@ -142,7 +142,10 @@ fn view_once(
         (IsTooLong map.now schema.now source.now) }
 {
     let tables = schema.tables();
-    let found = held(alloc, find_view(alloc, map, tables, source, refused.as_slice()))?;
+    let found = held(
+        alloc,
+        find_view(alloc, map, tables, source, refused.as_slice()),
+    )?;
     let methods = found.methods.as_slice();
     if !is_view(alloc, map, tables, file, methods, refused)? {
         return Ok(None);

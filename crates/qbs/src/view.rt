@@ -191,12 +191,7 @@ fn plan_text(
 }
 
 // What is due for a view.
-fn plan_viewed(
-    alloc: Global,
-    source: &[u8],
-    file: &File,
-    viewed: &Viewed,
-) -> Result<Plan, NoMemory>
+fn plan_viewed(alloc: Global, source: &[u8], file: &File, viewed: &Viewed) -> Result<Plan, NoMemory>
     ensures { IfOk result (specs.IsWritten source.now viewed.now.text (specs.starts_of (view_by (file_of file.now) viewed.now))) }
 {
     let found = &viewed.found;
@@ -226,9 +221,7 @@ fn plan_seen(alloc: Global, source: &[u8], seen: &Seen) -> Result<Plan, NoMemory
     ensures { IfOk result (specs.IsWritten source.now (text_by seen.now) (specs.seen_starts (seen_by seen.now))) }
 {
     match seen {
-        Seen::Methods { file, viewed } => {
-            plan_viewed(alloc, source, &looked_at(file), viewed)
-        }
+        Seen::Methods { file, viewed } => { plan_viewed(alloc, source, &looked_at(file), viewed) }
         Seen::Nothing { found } => plan_nothing(alloc, source, found),
     }
 }
