@@ -322,7 +322,7 @@ inline_listed files calm schema source plan right h =
 
 views_listed : (m : ViewMap) (tables : Schema) (t : List ℕ) (plan : Plan) → views m tables t plan → (plan.status ≡ statuses.Ok) ⊎ (plan.status ≡ statuses.Limit)
 views_listed m tables t plan (inl h) = inr (ap (λ (x : Plan). x.status) h.due)
-views_listed m tables t plan (inr h) = inl (ap (λ (x : Plan). x.status) h.is_written.written)
+views_listed m tables t plan (inr (seen, is, h)) = inl (ap (λ (x : Plan). x.status) h.written)
 
 view_listed : (files : Given) → ((name : List ℕ) → files.failed name → ⊥) → (words schema source : List ℕ) (plan : Plan) →
     HasSchema files.told schema (λ tables. HasFile files.told words most_map (λ bytes. (m : ViewMap) × IsMapOf tables bytes m) × HasFile files.told source most_source (λ bytes. Unit {0})) →

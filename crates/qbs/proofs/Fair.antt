@@ -132,7 +132,7 @@ module _ (files : Given) (Names : List ℕ → Type 0) where
 
   views_fair : (m : ViewMap) (tables : Schema) (t : List ℕ) (plan : Plan) → views m tables t plan → IsFair files Names plan
   views_fair m tables t plan (inl h) = fair_as plan _ h.due (refusal_fair statuses.Limit _ (λ e. cc) (λ e. cc) (λ e. cc))
-  views_fair m tables t plan (inr h) = done_fair plan (ap (λ (x : Plan). x.status) h.is_written.written)
+  views_fair m tables t plan (inr (seen, is, h)) = done_fair plan (ap (λ (x : Plan). x.status) h.written)
 
   view_of_fair : (w s t : List ℕ) (plan : Plan) → view_of w s t plan → IsFair files Names plan
   view_of_fair w s t plan (inl h) = fair_as plan _ h.2 (refusal_fair statuses.Schema _ (λ e. cc) (λ e. cc) (λ e. cc))

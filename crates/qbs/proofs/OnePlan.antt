@@ -251,13 +251,13 @@ unbuilt_one = record { alike = λ p q a b. inl (a ∙ sym b) }
 
 command_one : (files : Given) (may : May) (c : Command) → ((name : List ℕ) → MayRead files.told c name → IsSome (files.told name)) → ((name : List ℕ) → files.failed name → ⊥) → is_fixed c ≡ true → HasOne (built files may c)
 command_one files may (commands.Rewrite o schema source) told calm fixed = record { alike = (rewrite_one files may o schema source (told schema (inl refl)) (told source (inr (inl refl))) (λ name is. told name (inr (inr is))) calm).alike }
-command_one files may (commands.Run o schema source folder method words) told calm =
+command_one files may (commands.Run o schema source folder method words) told calm fixed =
     record {
       alike = (run_one files o schema source folder (record { method = method; words = words }) (told schema (inl refl)) (told source (inr (inl refl))) (λ name file. told name (inr (inr file))) calm).alike;
     }
 command_one files may (commands.Sql schema folder query) told calm fixed = record { alike = (sql_one files schema folder query (told schema (inl refl)) (λ name file. told name (inr file)) calm).alike }
 command_one files may (commands.Prove o schema source) told calm fixed = record { alike = (prove_one files may o schema source (told schema (inl refl)) (told source (inr (inl refl))) (λ name is. told name (inr (inr is))) calm).alike }
-command_one files may (commands.Check o schema source bundle) told calm =
+command_one files may (commands.Check o schema source bundle) told calm fixed =
     record { alike = (check_one files schema source bundle (told schema (inl refl)) (told source (inr (inl refl))) (told bundle (inr (inr refl))) calm).alike }
 command_one files may (commands.Make n) told calm fixed = record { alike = (make_one n).alike }
 command_one files may (commands.Unnest o s t) told calm fixed = record { alike = (unnest_one files o s t (told s (inl refl)) (told t (inr refl)) calm).alike }

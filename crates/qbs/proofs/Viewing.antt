@@ -1,35 +1,18 @@
 -- What is seen of a file is worth follows from a plan that is due and was delivered.
-use Rattle.std.proofs.Common.{◌≡◌, ◌<◌, ◌≤◌, inl, inr, ℕ, ◌+◌, ◌++◌, List, [], ◌∷◌, map, filter, length, slice_get, Bool, true, false, Option, Some, None, Result, Ok, Err, IfOk, OnOk, sym, refl, ap, ◌∙◌, subst, codes}
-use Rattle.std.proofs.lemmas.List.{append-nil}
-use Rattle.std.proofs.lemmas.List.Elements.{filter-append}
-use Rattle.std.specs.Prelude.{IfSome, if◌then◌else◌}
-use Rattle.std.specs.List.{flat_map}
-use Rattle.qbs_base.specs.declared.memory.NoMemory.{NoMemory}
+use Rattle.std.proofs.Common.{◌≡◌, inl, inr, ℕ, List, map, Ok, sym, refl, ◌∙◌, subst, codes}
 use Rattle.qbs_base.specs.declared.status.Status.{Status}
 use Rattle.qbs_base.specs.declared.status.Status.TheVariants as statuses
 use Rattle.qbs_base.specs.Values.{Schema}
-use Rattle.java_ast.specs.Tree.{PlainProgram}
-use Rattle.text_places.specs.Places.{span_in}
-use Rattle.view_map.specs.declared.model.ViewMap.{ViewMap}
-use Rattle.view_reports.specs.declared.lines.ViewLine.{ViewLine}
-use Rattle.view_reports.specs.declared.lines.ViewLine.TheVariants as says
-use Rattle.view_reports.specs.Lines.{view_line}
-use Rattle.view_slices.specs.Slices.{File, PlainSlice}
-use Rattle.view_slices.specs.Views.{View, PlainSliced, IsView, file_in, is_view, class_cells}
-use Rattle.view_text.specs.Layout.{laid_out}
 use Rattle.words.specs.declared.command.Command.TheVariants as commands
 use Rattle.deliveries.specs.declared.plan.Plan.{Plan}
-use Rattle.deliveries.specs.declared.fetch.Stop.{Stop}
-use Rattle.deliveries.specs.Code.{Goes, OrMemory, StopsFor}
 use Rattle.deliveries.specs.Deliver.{Change}
 use Rattle.deliveries.specs.Limits.{most_map, most_schema, most_source}
-use Rattle.deliveries.specs.Plan.{Given, too_long}
+use Rattle.deliveries.specs.Plan.{Given}
 use Rattle.deliveries.specs.Steps.{IsRead}
-use Rattle.plans.specs.Opening.{IsSchemaOf, IsMapOf, IsProgramOf}
 use Rattle.qbs.specs.Commands.{is_built}
 use Rattle.qbs.specs.Pruners.{May}
 use Rattle.qbs.specs.Top.{IsDone}
-use Rattle.qbs.specs.View.{Sees, methods, nothing, text_of, starts_of, nothing_seen, is_slice_line, slice_lines, IsWritten, Views, SeesTooMuch, views, view_of, view, IsViewing, HasViewing}
+use Rattle.qbs.specs.View.{view_of, view, IsViewing, HasViewing}
 use Rattle.qbs.proofs.Evident.{due_for, written}
 use Rattle.qbs.proofs.Promised.{unread, where_ends}
 
@@ -39,17 +22,18 @@ viewed_of : (w s t : List ℕ) (plan : Plan) → view_of w s t plan → plan.sta
 viewed_of w s t plan (inl h) ok = let e : statuses.Schema ≡ statuses.Ok = subst (λ (p : Plan). p.status ≡ statuses.Ok) h.2 ok in absurd cc
 viewed_of w s t plan (inr (tables, is, inl h)) ok = let e : statuses.View ≡ statuses.Ok = subst (λ (p : Plan). p.status ≡ statuses.Ok) h.2 ok in absurd cc
 viewed_of w s t plan (inr (tables, is, inr (m, has, inl h))) ok = let e : statuses.Limit ≡ statuses.Ok = subst (λ (p : Plan). p.status ≡ statuses.Ok) h.due ok in absurd cc
-viewed_of w s t plan (inr (tables, is, inr (m, has, inr h))) ok =
-    subst (λ (x : Plan). IsViewing w s t x.out x.rep) (sym h.is_written.written)
+viewed_of w s t plan (inr (tables, is, inr (m, has, inr (seen, sees, h)))) ok =
+    subst (λ (x : Plan). IsViewing w s t x.out x.rep) (sym h.written)
     (record {
       tables = tables;
       is_schema = is;
       map = m;
       is_map = has;
-      starts = h.starts;
-      sees = h.sees;
-      lines = h.is_written.lines;
-      slices = h.is_written.slices;
+      seen = seen;
+      is_seen = sees;
+      text = refl;
+      lines = h.lines;
+      slices = h.slices;
       report = refl;
     })
 
