@@ -29,4 +29,6 @@ pub mod Rewrote
 pub mod Twins
 pub mod TypedRuns
 pub mod Unnesting
+pub mod Viewed
+pub mod Viewing
 pub mod Worded

@@ -15,8 +15,10 @@ pub mod Pruners
 pub mod Reports
 pub mod Rewrite
 pub mod Run
+pub mod Seen
 pub mod Sql
 pub mod Store
 pub mod Top
 pub mod Unnest
+pub mod View
 pub mod Within
