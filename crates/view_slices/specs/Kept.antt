@@ -1,6 +1,6 @@
 -- What is written in place of a slice: statements of the source as they stand there, some of them left out, and statements that ask. What is
 -- seen has no widths of numbers and no `final`, so it alone doesn't tell what Java makes of a statement.
-use Rattle.std.specs.Prelude.{ℕ, zero, suc, ◌+◌, ◌-◌, Bool, true, false, ◌&&◌, ◌||◌, ◌==◌, not, List, [], ◌∷◌, take, drop, codes, Option, Some, None, slice_get, if◌then◌else◌}
+use Rattle.std.specs.Prelude.{ℕ, zero, suc, ◌-◌, Bool, true, false, ◌&&◌, ◌==◌, not, List, [], ◌∷◌, take, drop, codes, Option, Some, None, slice_get, if◌then◌else◌}
 use Rattle.std.specs.Str.{bytes_eq}
 use Rattle.view_items.specs.declared.item.Item.{Item}
 use Rattle.view_shapes.specs.declared.members.Stretch.{Stretch}
@@ -13,7 +13,7 @@ use Rattle.view_scope.specs.Obscured.{word_at}
 use Rattle.view_statements.specs.declared.slice.Printed.{Printed}
 use Rattle.view_statements.specs.Tree.{PlainStatement, PlainStatements, Nothing, Then}
 use Rattle.view_statements.specs.Tree as plain
-use Rattle.view_slices.specs.Slices.{PlainSlice, PlainEnding, Open, Grouped, Returned, is_printed}
+use Rattle.view_slices.specs.Slices.{PlainSlice, PlainEnding, Grouped, is_printed}
 use Rattle.view_slices.specs.Words.{same_sign}
 use Rattle.view_slices.specs.declared.kept.Beside as code
 
@@ -176,6 +176,9 @@ is_kept b (suc n) s t =
 
 abbrev pub are_kept : Beside → ℕ → PlainStatements → PlainStatements → Bool
 are_kept b n ss ts = are_kept_by b (is_kept b n) ss ts
+
+abbrev pub are_bodies_kept : Beside → ℕ → PlainStatement → PlainStatement → Bool
+are_bodies_kept b n s t = are_kept b n (body_of s) (body_of t) && are_kept b n (other_of s) (other_of t)
 
 -- a group stays as it is, or gives way
 abbrev pub is_ending_kept : Beside → ℕ → PlainEnding → PlainEnding → Bool

@@ -300,15 +300,18 @@ fn are_kept(b: &Beside, levels: usize, source: &[Statement], written: &[Statemen
 }
 
 #[cycle(kept)]
+fn are_bodies_kept(b: &Beside, levels: usize, s: &Statement, t: &Statement) -> bool
+    ensures { result ≡ specs.are_bodies_kept (beside_of b.now) levels (statement s.now) (statement t.now) }
+{
+    are_kept(b, levels, body_of(s), body_of(t)) && are_kept(b, levels, other_of(s), other_of(t))
+}
+
+#[cycle(kept)]
 fn is_kept(b: &Beside, levels: usize, s: &Statement, t: &Statement) -> bool
     ensures { result ≡ specs.is_kept (beside_of b.now) levels (statement s.now) (statement t.now) }
 {
     match levels.checked_sub(1) {
-        Some(levels) => {
-            is_front(b, s, t)
-                && (are_kept(b, levels, body_of(s), body_of(t))
-                    && are_kept(b, levels, other_of(s), other_of(t)))
-        }
+        Some(levels) => is_front(b, s, t) && are_bodies_kept(b, levels, s, t),
         None => false,
     }
 }

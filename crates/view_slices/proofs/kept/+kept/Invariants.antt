@@ -4,13 +4,16 @@ use Rattle.view_statements.specs.Reading.{statements}
 use Rattle.view_slices.proofs.kept.+kept.Given as goal
 
 abbrev pub decreases-is_first : goal.decreases-is_first
-decreases-is_first l = 3 * l.levels + 1
+decreases-is_first l = l.levels * 4 + 1
 
 abbrev pub decreases-are_kept : goal.decreases-are_kept
-decreases-are_kept l = 3 * l.levels + 2
+decreases-are_kept l = l.levels * 4 + 2
 
 abbrev pub decreases-is_kept : goal.decreases-is_kept
-decreases-is_kept l = 3 * l.levels
+decreases-is_kept l = l.levels * 4
+
+abbrev pub decreases-are_bodies_kept : goal.decreases-are_bodies_kept
+decreases-are_bodies_kept l = l.levels * 4 + 3
 
 abbrev pub invariant-are_kept-loop-s : goal.invariant-are_kept-loop-s
 invariant-are_kept-loop-s l =
