@@ -33,13 +33,9 @@ use Rattle.view_statements.specs.declared.slice.Printed.{Printed}
 use Rattle.view_statements.specs.declared.slice.Read.{Read}
 use Rattle.view_statements.specs.declared.slice.Words.{Words}
 use Rattle.view_slices.specs.Shown.{method_cells}
+pub use Rattle.view_statements.specs.Slices.{PlainSliced}
 use Rattle.view_slices.specs.Slices.{File, PlainSlice, within, is_slice_by, is_print_of, returned}
 use Rattle.view_slices.specs.Words.{class_name, members, are_words}
-
--- a method, what may be read in it, and its slices
-pub record PlainSliced : Type 0 where
-  pub read : Read
-  pub slices : List PlainSlice
 
 pub record View : Type 0 where
   pub file : File
