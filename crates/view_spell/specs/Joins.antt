@@ -90,12 +90,19 @@ abbrev pub lists_bound : Schema → PlainListing → SqlItem → Bool
 lists_bound schema q (items.Whole item) = are_bound schema q item
 lists_bound schema q (items.Column c) = false
 
-abbrev pub is_once : Schema → Result PlainQuery SqlRule → Bool
-is_once schema (Ok (Listing q)) = lists_bound schema q q.item
-is_once schema (Ok (Number q)) = false
-is_once schema (Ok (Truth q)) = false
-is_once schema (Err rule) = false
+abbrev pub is_once : Schema → PlainQuery → Bool
+is_once schema (Listing q) = lists_bound schema q q.item
+is_once schema (Number q) = false
+is_once schema (Truth q) = false
+
+abbrev pub asked_of : Result PlainQuery SqlRule → Option PlainQuery
+asked_of (Ok q) = Some q
+asked_of (Err rule) = None
+
+abbrev pub is_once_of : Schema → Option PlainQuery → Bool
+is_once_of schema None = false
+is_once_of schema (Some q) = is_once schema q
 
 -- the query of a text lists no row twice, as far as keys are unique
 abbrev pub lists_once : Schema → List ℕ → Bool
-lists_once schema text = is_once schema (query_of_text schema text)
+lists_once schema text = is_once_of schema (asked_of (query_of_text schema text))

@@ -31,10 +31,13 @@ is_brace (Some c) = bytes_eq c.bytes (codes "}")
 abbrev pub has_body : List Cell → ℕ → Bool
 has_body cells to = is_brace (cell_before cells to)
 
--- the bytes of the items from one number up to another
+-- the bytes of the items from one number to another, and up to another
+abbrev pub origin_through : List Item → ℕ → ℕ → Option Origin
+origin_through items from last = slice_get items from >>= (λ a. slice_get items last >>= (λ b. Some (record { from = a.from; to = b.to })))
+
 abbrev pub origin_to : List Item → ℕ → ℕ → Option Origin
 origin_to items from zero = None
-origin_to items from (suc last) = slice_get items from >>= (λ a. slice_get items last >>= (λ b. Some (record { from = a.from; to = b.to })))
+origin_to items from (suc last) = origin_through items from last
 
 -- ---- Groups
 
@@ -42,7 +45,7 @@ abbrev pub taking : Origin → Bool → Taken
 taking at found = record { at = at; found = found }
 
 abbrev pub walk_origin : List Item → PlainStatement → Option Origin
-walk_origin items (plain.ForEach at inferred name java walked close braces body end) = origin_to items at (suc end)
+walk_origin items (plain.ForEach at inferred name java walked close braces body end) = origin_through items at end
 walk_origin items _ = None
 
 -- a patch before the loop of a group leaves the group alone; any other begins where the loop begins or before it, ends with it, and takes the

@@ -1,6 +1,8 @@
 // Queries that list no row twice.
-ghost use Rattle.std.specs.Prelude.{◌≡◌, ◌++◌, OnOk, IfOk, option_copied};
-ghost use Rattle.sql_ast.specs.Reading.{condition, filter_of, listing};
+ghost use Rattle.std.specs.Prelude.{◌≡◌, ◌+◌, ◌<◌, ◌^◌, ◌++◌, length, OnOk, IfOk, box_value, option_copied};
+ghost use Rattle.std.specs.Option.{option_map};
+ghost use Rattle.sql_ast.specs.Reader.{query_of_text};
+ghost use Rattle.sql_ast.specs.Reading.{condition, filter_of, listing, query};
 ghost use Rattle.view_spell.specs.Joins as specs;
 
 use qbs_base::{Column, Fail, NoMemory, Text, columns_at};
@@ -11,21 +13,21 @@ use std::alloc::Global;
 
 // ---- Conditions
 
-fn is_named(column: u32, named: &SqlColumn) -> bool
+fn is_named(column: usize, named: &SqlColumn) -> bool
     ensures { result ≡ specs.is_named column named.now }
 {
     match named {
-        SqlColumn::Named { number, .. } => *number == column,
+        SqlColumn::Named { number, .. } => *number as usize == column,
         SqlColumn::Pos => false,
     }
 }
 
 /// Whether an operand is this column of an item.
-fn is_column(item: u32, column: u32, opnd: &SqlOpnd) -> bool
+fn is_column(item: usize, column: usize, opnd: &SqlOpnd) -> bool
     ensures { result ≡ specs.is_column item column opnd.now }
 {
     match opnd {
-        SqlOpnd::Column(c) => c.item == item && is_named(column, &c.column),
+        SqlOpnd::Column(c) => c.item as usize == item && is_named(column, &c.column),
         SqlOpnd::Lit(_) | SqlOpnd::Param(_) => false,
     }
 }
@@ -53,7 +55,7 @@ fn is_fixed(bound: &[bool], opnd: &SqlOpnd) -> bool
 }
 
 /// Whether a part of a condition's outermost AND makes a column equal to what is fixed.
-fn fixes(bound: &[bool], item: u32, column: u32, cond: &Cond) -> bool
+fn fixes(bound: &[bool], item: usize, column: usize, cond: &Cond) -> bool
     ensures { result ≡ specs.fixes bound.now item column (condition cond.now) }
 {
     match cond {
@@ -66,7 +68,7 @@ fn fixes(bound: &[bool], item: u32, column: u32, cond: &Cond) -> bool
     }
 }
 
-fn is_column_fixed(bound: &[bool], item: u32, column: u32, filter: &Option<Cond>) -> bool
+fn is_column_fixed(bound: &[bool], item: usize, column: usize, filter: &Option<Cond>) -> bool
     ensures { result ≡ specs.is_column_fixed bound.now item column (filter_of filter.now) }
 {
     match filter {
@@ -79,8 +81,8 @@ fn is_column_fixed(bound: &[bool], item: u32, column: u32, filter: &Option<Cond>
 
 fn is_fixed_where_primary(
     bound: &[bool],
-    item: u32,
-    number: u32,
+    item: usize,
+    number: usize,
     column: &Column,
     filter: &Option<Cond>,
 ) -> bool
@@ -91,11 +93,12 @@ fn is_fixed_where_primary(
 
 fn are_fixed_from(
     bound: &[bool],
-    item: u32,
-    number: u32,
+    item: usize,
+    number: usize,
     columns: &[Column],
     filter: &Option<Cond>,
 ) -> bool
+    requires { number + length columns.now < 2 ^ 64 }
     ensures { result ≡ specs.are_fixed_from bound.now item number columns.now (filter_of filter.now) }
 {
     match columns {
@@ -107,7 +110,7 @@ fn are_fixed_from(
     }
 }
 
-fn is_key_fixed(bound: &[bool], item: u32, columns: &[Column], filter: &Option<Cond>) -> bool
+fn is_key_fixed(bound: &[bool], item: usize, columns: &[Column], filter: &Option<Cond>) -> bool
     ensures { result ≡ specs.is_key_fixed bound.now item columns.now (filter_of filter.now) }
 {
     columns.iter().any(|c| c.primary) && are_fixed_from(bound, item, 0, columns, filter)
@@ -120,11 +123,12 @@ fn push_bound(
     schema: &Schema,
     filter: &Option<Cond>,
     all: &[bool],
-    item: u32,
+    item: usize,
     from: &[FromItem],
     bound: &[bool],
     out: &mut Vec<bool>,
 ) -> Result<(), NoMemory>
+    requires { item + length from.now < 2 ^ 64 }
     ensures { OnOk result (out.new.items ≡ out.old.items ++ specs.bound_from schema.now (filter_of filter.now) all.now item from.now bound.now) }
 {
     match (from, bound) {
@@ -173,7 +177,7 @@ fn only_listed(alloc: Global, listed: u32, from: &[FromItem]) -> Result<Vec<bool
     let mut out = Vec::new(alloc);
     let mut item = 1;
     for _from in from {
-        out.push(item == listed)?;
+        out.push(item == listed as usize)?;
         item += 1;
     }
     Ok(out)
@@ -201,14 +205,32 @@ fn lists_bound(alloc: Global, schema: &Schema, query: &ListQuery) -> Result<bool
     }
 }
 
-/// Whether the query of a text lists no row twice, as far as keys are unique.
+fn is_once(alloc: Global, schema: &Schema, asked: &Query) -> Result<bool, NoMemory>
+    ensures { IfOk result (λ b. b ≡ specs.is_once schema.now (query asked.now)) }
+{
+    match asked {
+        Query::Listing(listing) => lists_bound(alloc, schema, listing),
+        Query::Number(_) | Query::Truth(_) => Ok(false),
+    }
+}
+
+/// The query of a text, where it has one.
+fn query_of(alloc: Global, schema: &Schema, text: &Text) -> Result<Option<Box<Query>>, NoMemory>
+    ensures { IfOk result (λ q. option_map query (option_map box_value q) ≡ specs.asked_of (query_of_text schema.now text.now)) }
+{
+    match parse_query(alloc, schema, text) {
+        Ok(asked) => Ok(Some(Box::new(alloc, asked)?)),
+        Err(Fail::Fault(_)) => Ok(None),
+        Err(Fail::NoMemory) => Err(NoMemory),
+    }
+}
+
+/// Whether the query of a text lists no row twice, as far as keys are unique. It fails only by want of memory.
 pub fn lists_once(alloc: Global, schema: &Schema, text: &Text) -> Result<bool, NoMemory>
     ensures { IfOk result (λ b. b ≡ specs.lists_once schema.now text.now) }
 {
-    match parse_query(alloc, schema, text) {
-        Ok(Query::Listing(query)) => lists_bound(alloc, schema, &query),
-        Ok(Query::Number(_)) | Ok(Query::Truth(_)) => Ok(false),
-        Err(Fail::Fault(_)) => Ok(false),
-        Err(Fail::NoMemory) => Err(NoMemory),
+    match query_of(alloc, schema, text)? {
+        Some(asked) => is_once(alloc, schema, &asked),
+        None => Ok(false),
     }
 }

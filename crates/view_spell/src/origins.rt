@@ -81,19 +81,26 @@ pub fn bytes_of<'a>(seen: &Seen<'a>, at: Origin) -> &'a [u8] {
     }
 }
 
-/// The bytes from the first of some items to the last one, which is the item before the number `to`.
+/// The bytes from the first of some items to the last one.
+fn origin_through(items: &[Item], from: usize, last: usize) -> Option<Origin>
+    ensures { result ≡ specs.origin_through items.now from last }
+{
+    let first = items.get(from)?;
+    let last = items.get(last)?;
+    Some(Origin {
+        from: first.from,
+        to: last.to,
+    })
+}
+
+/// The bytes of the items from the number `from` up to `to`: none where there are no such items.
 pub fn origin_of_items(items: &[Item], from: usize, to: usize) -> Option<Origin>
     ensures { result ≡ specs.origin_to items.now from to }
 {
     if to == 0 {
         return None;
     }
-    let first = items.get(from)?;
-    let last = items.get(to - 1)?;
-    Some(Origin {
-        from: first.from,
-        to: last.to,
-    })
+    origin_through(items, from, to - 1)
 }
 
 // ---- Groups
@@ -110,7 +117,7 @@ fn origin_of_walk(items: &[Item], walk: &Statement) -> Option<Origin>
     ensures { result ≡ specs.walk_origin items.now (statement walk.now) }
 {
     match walk {
-        Statement::ForEach { at, end, .. } => origin_of_items(items, *at, *end + 1),
+        Statement::ForEach { at, end, .. } => origin_through(items, *at, *end),
         _ => None,
     }
 }

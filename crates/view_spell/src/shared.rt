@@ -20,8 +20,7 @@ use std::alloc::Global;
 use view_items::Item;
 use view_map::{RowClass, ViewMap};
 use view_rules::{JavaType, Sighted};
-use view_statements::Slice;
-use view_statements::Statement;
+use view_statements::{Slice, Statement};
 
 // ---- What statements list
 
@@ -70,26 +69,26 @@ fn lists(table: &Name, statement: &Stmt) -> bool
 fn any_lists(table: &Name, block: &[Stmt]) -> bool
     ensures { result ≡ specs.any_lists table.now (plain_statements block.now) }
 {
-    match block {
-        [] => false,
-        [s, block @ ..] => lists(table, s) || any_lists(table, block),
+    for statement in block {
+        if lists(table, statement) {
+            return true;
+        }
     }
+    false
 }
 
 /// Whether more than one statement lists rows of a table.
 fn is_listed_twice(table: &Name, block: &[Stmt]) -> bool
     ensures { result ≡ specs.is_listed_twice table.now (plain_statements block.now) }
 {
-    match block {
-        [] => false,
-        [s, block @ ..] => {
-            if lists(table, s) {
-                any_lists(table, block)
-            } else {
-                is_listed_twice(table, block)
-            }
+    let mut rest = block;
+    while let [statement, behind @ ..] = rest {
+        if lists(table, statement) {
+            return any_lists(table, behind);
         }
+        rest = behind;
     }
+    false
 }
 
 // ---- What is in sight
@@ -134,10 +133,12 @@ fn sets(items: &[Item], name: &[u8], statement: &Statement) -> bool
 fn is_set_in(items: &[Item], name: &[u8], statements: &[Statement]) -> bool
     ensures { result ≡ specs.is_set_in items.now name.now (seen_statements statements.now) }
 {
-    match statements {
-        [] => false,
-        [s, statements @ ..] => sets(items, name, s) || is_set_in(items, name, statements),
+    for statement in statements {
+        if sets(items, name, statement) {
+            return true;
+        }
     }
+    false
 }
 
 fn is_met(seen: &Seen, slice: &Slice, table: u32, v: &Sighted) -> bool

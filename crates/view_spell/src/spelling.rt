@@ -1,39 +1,27 @@
 // The patches of a file, slice by slice.
-ghost use Rattle.std.specs.Prelude.{◌≡◌, true, false, IfOk, option_copied};
+ghost use Rattle.std.specs.Prelude.{◌≡◌, ◌≤◌, ◌++◌, List, length, true, false, IfOk, IfSome, OnOk};
 ghost use Rattle.std.specs.List.{prefix_len};
-ghost use Rattle.java_stretches.specs.Patches.{plain_patch, plain_patches};
-ghost use Rattle.view_statements.specs.Slices.{slice as plain, all_sliced};
+ghost use Rattle.java_stretches.specs.Patches.{PlainPatch, plain_patch, plain_patches};
+ghost use Rattle.view_statements.specs.Slices.{PlainSlice, slice as plain, sliced as plain_sliced, all_sliced};
 ghost use Rattle.view_text.specs.Layout.{stretches_of};
+ghost use Rattle.view_shapes.specs.declared.method.Method.{Method};
+ghost use Rattle.view_spell.specs.Origins.{origin_to};
 ghost use Rattle.view_spell.specs.Placed as specs;
 ghost use Rattle.view_spell.specs.Reading.{seen_as};
-ghost use Rattle.view_spell.specs.Shared.{any_shared as any_shared_in};
+ghost use Rattle.view_spell.specs.Shared.{SeenAs, any_shared as any_shared_in};
 
 use crate::arguments::Spelling;
 use crate::blocks::push_block;
 use crate::fetched::{Fetched, fetched_in};
 use crate::origins::{Origin, Seen, Taken, line_of, margin_at, origin_of_items, stretch_taken};
 use crate::shared::any_shared;
+use crate::spelled::{SliceSpelled, SlicesSpelled};
 use crate::starts::{Start, Starts, push_starts_of};
 use java_stretches::Patch;
-use qbs_base::{Items, NoMemory, Text};
+use qbs_base::{NoMemory, Text};
 use std::alloc::Global;
 use text_patches::{TextPatch, TextPatches};
 use view_statements::{Slice, Sliced};
-
-/// What becomes of the patches of a slice.
-#[derive(Drop)]
-pub enum SliceSpelled {
-    /// It has none.
-    Left,
-    /// They are these of the file, in order and apart, within the bytes of the slice.
-    Patched(TextPatches),
-    /// One of them can't be said in the words of the file.
-    Unlike,
-    /// One of them lists rows that could be told from other objects.
-    Shared,
-}
-
-pub type SlicesSpelled = Items<SliceSpelled>;
 
 // ---- Patches
 
@@ -57,7 +45,10 @@ fn spell_patch(
     taken: Taken,
     line: Line,
     patch: &Patch,
-) -> Result<Option<TextPatch>, NoMemory> {
+) -> Result<Option<TextPatch>, NoMemory>
+    requires { seen.now.stretches.now ≡ stretches_of seen.now.cells.now }
+    ensures { IfOk result (λ o. IfSome o (λ t. (t.from ≡ taken.at.from) × (t.to ≡ taken.at.to))) }
+{
     let s = Spelling {
         seen,
         slice,
@@ -92,7 +83,10 @@ fn spell_patches(
     starts: &[Start],
     line: &mut Line,
     patches: &[Patch],
-) -> Result<Option<TextPatches>, NoMemory> {
+) -> Result<Option<TextPatches>, NoMemory>
+    requires { seen.now.stretches.now ≡ stretches_of seen.now.cells.now }
+    ensures { IfOk result (λ o. IfSome o (λ ts. specs.take_each (seen_as seen.now) (plain slice.now) (plain_patches patches.now) ts ≡ true)) }
+{
     let mut spelled = TextPatches::new(alloc);
     for patch in patches {
         let Some(taken) = stretch_taken(seen, slice, patch.from, patch.to) else {
@@ -123,31 +117,26 @@ fn are_apart(from: u64, to: u64, patches: &[TextPatch]) -> bool
     from <= to
 }
 
-/// Whether patches lie in the bytes of a slice.
-fn are_within(at: Option<Origin>, patches: &[TextPatch]) -> bool
-    ensures { result ≡ specs.are_within at patches.now }
+/// What patches of a slice are, where they lie in its bytes and behind those of the slices before it, which end at a byte of the file.
+fn placed(source: &[u8], at: Option<Origin>, last: &mut usize, patches: TextPatches) -> SliceSpelled
+    requires { last.old ≤ length source.now }
+    ensures within { last.new ≤ length source.now }
+    ensures apart { specs.are_apart last.old last.new (specs.patches_in result) ≡ true }
+    ensures spelling { (seen : SeenAs) (s : PlainSlice) (ps : List PlainPatch) → at ≡ origin_to seen.items s.from s.to → specs.take_each seen s ps patches ≡ true → specs.is_spelling seen s ps result ≡ true }
 {
     match at {
-        Some(at) => are_apart(at.from as u64, at.to as u64, patches),
-        None => false,
-    }
-}
-
-/// Patches are taken only where they lie in the bytes of the slice.
-fn placed(seen: &Seen, slice: &Slice, patches: Option<TextPatches>) -> SliceSpelled
-    ensures placed { specs.is_placed seen.now.items.now (plain slice.now) result ≡ true }
-    ensures unshared { specs.says_shared result ≡ false }
-{
-    match patches {
-        None => SliceSpelled::Unlike,
-        Some(patches) => {
-            let at = origin_of_items(seen.items, slice.from, slice.to);
-            if are_within(at, patches.as_slice()) {
+        Some(at) => {
+            if *last <= at.from
+                && at.to <= source.len()
+                && are_apart(at.from as u64, at.to as u64, patches.as_slice())
+            {
+                *last = at.to;
                 SliceSpelled::Patched(patches)
             } else {
                 SliceSpelled::Unlike
             }
         }
+        None => SliceSpelled::Unlike,
     }
 }
 
@@ -159,15 +148,24 @@ fn spell_words(
     seen: &Seen,
     slice: &Slice,
     line: &mut Line,
+    last: &mut usize,
     patches: &[Patch],
 ) -> Result<SliceSpelled, NoMemory>
-    ensures placed { IfOk result (λ x. specs.is_placed seen.now.items.now (plain slice.now) x ≡ true) }
-    ensures unshared { IfOk result (λ x. specs.says_shared x ≡ false) }
+    requires laid { seen.now.stretches.now ≡ stretches_of seen.now.cells.now }
+    requires within { last.old ≤ length seen.now.source.now }
+    ensures within { last.new ≤ length seen.now.source.now }
+    ensures apart { IfOk result (λ x. specs.are_apart last.old last.new (specs.patches_in x) ≡ true) }
+    ensures spelling { IfOk result (λ x. specs.is_spelling (seen_as seen.now) (plain slice.now) (plain_patches patches.now) x ≡ true) }
 {
     let mut starts = Starts::new(alloc);
     push_starts_of(slice, &mut starts)?;
-    let spelled = spell_patches(alloc, seen, slice, starts.as_slice(), line, patches)?;
-    Ok(placed(seen, slice, spelled))
+    match spell_patches(alloc, seen, slice, starts.as_slice(), line, patches)? {
+        Some(spelled) => {
+            let at = origin_of_items(seen.items, slice.from, slice.to);
+            Ok(placed(seen.source, at, last, spelled))
+        }
+        None => Ok(SliceSpelled::Unlike),
+    }
 }
 
 fn spell_slice(
@@ -176,11 +174,14 @@ fn spell_slice(
     slice: &Slice,
     fetched: &[Fetched],
     line: &mut Line,
+    last: &mut usize,
     patches: &[Patch],
 ) -> Result<SliceSpelled, NoMemory>
-    requires { seen.now.stretches.now ≡ stretches_of seen.now.cells.now }
-    ensures placed { IfOk result (λ x. specs.is_placed seen.now.items.now (plain slice.now) x ≡ true) }
-    ensures shared { IfOk result (λ x. specs.says_shared x ≡ any_shared_in (seen_as seen.now) (plain slice.now) fetched.now (plain_patches patches.now)) }
+    requires laid { seen.now.stretches.now ≡ stretches_of seen.now.cells.now }
+    requires within { last.old ≤ length seen.now.source.now }
+    ensures within { last.new ≤ length seen.now.source.now }
+    ensures apart { IfOk result (λ x. specs.are_apart last.old last.new (specs.patches_in x) ≡ true) }
+    ensures answer { IfOk result (λ x. specs.is_answer_where (seen_as seen.now) (plain slice.now) (any_shared_in (seen_as seen.now) (plain slice.now) fetched.now (plain_patches patches.now)) (plain_patches patches.now) x ≡ true) }
 {
     if patches.is_empty() {
         return Ok(SliceSpelled::Left);
@@ -188,7 +189,7 @@ fn spell_slice(
     if any_shared(alloc, seen, slice, fetched, patches)? {
         return Ok(SliceSpelled::Shared);
     }
-    spell_words(alloc, seen, slice, line, patches)
+    spell_words(alloc, seen, slice, line, last, patches)
 }
 
 /// Whether a patch is one of the method with this number.
@@ -211,22 +212,28 @@ fn count_of(number: usize, patches: &[Patch]) -> usize
         .count()
 }
 
-/// Pushes what becomes of the patches of a method's slices, of which the first has this number, and gives the patches that are left.
+/// Pushes what becomes of the patches of a method's slices, of which the first has the number of what was pushed before, and gives the patches
+/// that are left.
 fn spell_method<'a>(
     alloc: Global,
     seen: &Seen,
     sliced: &Sliced,
     line: &mut Line,
+    last: &mut usize,
     patches: &'a [Patch],
     spelled: &mut SlicesSpelled,
 ) -> Result<&'a [Patch], NoMemory>
-    requires { seen.now.stretches.now ≡ stretches_of seen.now.cells.now }
+    requires laid { seen.now.stretches.now ≡ stretches_of seen.now.cells.now }
+    requires within { last.old ≤ length seen.now.source.now }
+    ensures within { last.new ≤ length seen.now.source.now }
+    ensures apart { OnOk result (specs.are_apart 0 last.old (specs.patches_of spelled.old) ≡ true → specs.are_apart 0 last.new (specs.patches_of spelled.new) ≡ true) }
+    ensures answers { IfOk result (λ rest. (ss : List (Method × PlainSlice)) (ps : List PlainPatch) → specs.AreAnswered (seen_as seen.now) ss ps spelled.old (plain_patches patches.now) → specs.AreAnswered (seen_as seen.now) (ss ++ specs.slices_in (plain_sliced sliced.now)) ps spelled.new (plain_patches rest.now)) }
 {
     let mut rest = patches;
     let fetched = fetched_in(alloc, seen.map, seen.items, &sliced.read.method)?;
     for slice in sliced.slices.as_slice() {
         let (own, behind) = rest.split_at(count_of(spelled.len(), rest));
-        let one = spell_slice(alloc, seen, slice, fetched.as_slice(), line, own)?;
+        let one = spell_slice(alloc, seen, slice, fetched.as_slice(), line, last, own)?;
         spelled.push(one)?;
         rest = behind;
     }
@@ -234,7 +241,8 @@ fn spell_method<'a>(
 }
 
 /// What becomes of the patches of what a file is seen as: one answer for each slice, in their order. The patches are in the order of the text,
-/// and the slice with a number is seen as the method with that number. It fails only by want of memory.
+/// and the slice with a number is seen as the method with that number. What is said of the file by the answers is in order and apart. It fails
+/// only by want of memory.
 pub fn spell(
     alloc: Global,
     seen: &Seen,
@@ -242,13 +250,15 @@ pub fn spell(
     patches: &[Patch],
 ) -> Result<SlicesSpelled, NoMemory>
     requires laid { seen.now.stretches.now ≡ stretches_of seen.now.cells.now }
-    ensures placed { IfOk result (λ spelled. specs.are_answers (seen_as seen.now) 0 (specs.slices_with (all_sliced methods.now)) (plain_patches patches.now) spelled ≡ true) }
+    ensures answers { IfOk result (λ spelled. specs.are_answers (seen_as seen.now) 0 (specs.slices_with (all_sliced methods.now)) (plain_patches patches.now) spelled ≡ true) }
+    ensures apart { IfOk result (λ spelled. specs.are_apart 0 (length seen.now.source.now) (specs.patches_of spelled) ≡ true) }
 {
     let mut spelled = SlicesSpelled::new(alloc);
     let mut line = Line { begin: 0, byte: 0 };
+    let mut last = 0;
     let mut rest = patches;
     for sliced in methods {
-        rest = spell_method(alloc, seen, sliced, &mut line, rest, &mut spelled)?;
+        rest = spell_method(alloc, seen, sliced, &mut line, &mut last, rest, &mut spelled)?;
     }
     Ok(spelled)
 }

@@ -1,5 +1,0 @@
-use Rattle.std.proofs.Common.{length}
-use Rattle.view_spell.proofs.shared.+is_listed_twice.Given as goal
-
-abbrev pub decreases-is_listed_twice : goal.decreases-is_listed_twice
-decreases-is_listed_twice l = length l.block.now
