@@ -86,17 +86,17 @@ pub slice_on : (seen : SeenAs) (ss : List (Method × PlainSlice)) (ps : List Pla
     → AreAnswered seen (ss ++ slices_of m (take (i + 1) all)) ps ys (plain_patches behind)
 slice_on seen ss ps m all i s xs ys x rest mine behind n fetched lt at h count is_mine is_behind is_fetched answer more =
     let own_is : own (length xs) (plain_patches rest) ≡ plain_patches mine =
-        ap (λ (j : ℕ). take j (plain_patches rest)) (sym count) ∙ take-map plain_patch n rest ∙ ap plain_patches (sym is_mine) in
+    ap (λ (j : ℕ). take j (plain_patches rest)) (sym count) ∙ take-map plain_patch n rest ∙ ap plain_patches (sym is_mine) in
     let others_are : others (length xs) (plain_patches rest) ≡ plain_patches behind =
-        ap (λ (j : ℕ). drop j (plain_patches rest)) (sym count) ∙ drop-map plain_patch n rest ∙ ap plain_patches (sym is_behind) in
+    ap (λ (j : ℕ). drop j (plain_patches rest)) (sym count) ∙ drop-map plain_patch n rest ∙ ap plain_patches (sym is_behind) in
     let e : take (i + 1) all ≡ take i all ++ s ∷ [] = take_more all i s lt ∙ ap (λ (q : Slice). take i all ++ q ∷ []) (sym at) in
     let pair : PlainSlice → Method × PlainSlice = λ p. (m, p) in
     let f : slices_of m (take i all ++ s ∷ []) ≡ slices_of m (take i all) ++ (m, slice s) ∷ [] =
-        ap (map pair) (map-append slice (take i all) (s ∷ [])) ∙ map-append pair (slices (take i all)) (slice s ∷ []) in
+    ap (map pair) (map-append slice (take i all) (s ∷ [])) ∙ map-append pair (slices (take i all)) (slice s ∷ []) in
     let all_are : ss ++ slices_of m (take (i + 1) all) ≡ (ss ++ slices_of m (take i all)) ++ (m, slice s) ∷ [] =
-        ap (λ (t : List Slice). ss ++ slices_of m t) e ∙ ap (λ (t : List (Method × PlainSlice)). ss ++ t) f ∙ sym (append_assoc ss (slices_of m (take i all)) ((m, slice s) ∷ [])) in
+    ap (λ (t : List Slice). ss ++ slices_of m t) e ∙ ap (λ (t : List (Method × PlainSlice)). ss ++ t) f ∙ sym (append_assoc ss (slices_of m (take i all)) ((m, slice s) ∷ [])) in
     let g : is_answer seen m (slice s) (plain_patches mine) x ≡ true =
-        subst (λ (fs : List Fetched). is_answer_where seen (slice s) (any_shared seen (slice s) fs (plain_patches mine)) (plain_patches mine) x ≡ true) is_fetched answer in
+    subst (λ (fs : List Fetched). is_answer_where seen (slice s) (any_shared seen (slice s) fs (plain_patches mine)) (plain_patches mine) x ≡ true) is_fetched answer in
     let k : is_answer seen m (slice s) (own (length xs) (plain_patches rest)) x ≡ true = subst (λ (qs : List PlainPatch). is_answer seen m (slice s) qs x ≡ true) (sym own_is) g in
     rw (all_are, more, ← others_are) (answered_more seen (ss ++ slices_of m (take i all)) ps xs (plain_patches rest) m (slice s) x h k)
 

@@ -1,4 +1,5 @@
 pub mod Fetched
+pub mod Heads
 pub mod Joins
 pub mod Marks
 pub mod Origins

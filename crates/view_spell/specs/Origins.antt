@@ -1,6 +1,7 @@
 -- Where in the file what is seen comes from.
 use Rattle.std.specs.Prelude.{ℕ, zero, suc, ◌-◌, Bool, true, false, ◌&&◌, ◌||◌, not, ◌==◌, nat_le, nat_lt, List, [], ◌∷◌, codes, Option, Some, None, slice_get, if◌then◌else◌}
 use Rattle.std.specs.Str.{bytes_eq}
+use Rattle.text_patches.specs.Patching.{stretch}
 use Rattle.view_items.specs.declared.cell.Cell.{Cell}
 use Rattle.view_items.specs.declared.item.Item.{Item}
 use Rattle.view_rules.specs.Options.{◌>>=◌}
@@ -22,6 +23,10 @@ cell_before cells (suc byte) = cell_with cells byte
 -- the bytes of the file from which the tokens from one byte of what is seen up to another come
 abbrev pub origin_of : List Cell → ℕ → ℕ → Option Origin
 origin_of cells from to = cell_with cells from >>= (λ first. cell_before cells to >>= (λ last. Some (record { from = first.from; to = last.to })))
+
+-- those bytes
+abbrev pub bytes_in : List ℕ → Origin → List ℕ
+bytes_in source at = stretch source at.from at.to
 
 abbrev pub is_brace : Option Cell → Bool
 is_brace None = false

@@ -1,4 +1,7 @@
 // Arguments of queries in the words of a file.
+ghost use Rattle.std.specs.Prelude.{IfOk, Some};
+ghost use Rattle.view_spell.specs.Heads.{IsPushed};
+
 use crate::origins::Seen;
 use crate::starts::{Start, type_before};
 use itoa::Buffer;
@@ -22,7 +25,9 @@ pub struct Spelling<'a> {
 /// Whether there is a spelling.
 pub type Spelled = Result<bool, NoMemory>;
 
-pub fn push_words(out: &mut Vec<u8>, words: &[u8]) -> Spelled {
+pub fn push_words(out: &mut Vec<u8>, words: &[u8]) -> Spelled
+    ensures { IfOk result (λ b. IsPushed b out.old.items out.new.items (Some words.now)) }
+{
     out.extend_from_slice(words)?;
     Ok(true)
 }

@@ -1,11 +1,15 @@
 // Statements that ask, in the words of a file.
+ghost use Rattle.std.specs.Prelude.{◌≡◌, IfOk, option_copied};
+ghost use Rattle.view_spell.specs.Heads as specs;
+
 use crate::arguments::{Spelled, Spelling, push_words};
-use crate::origins::{Origin, Taken, bytes_of};
+use crate::origins::{Origin, Taken, bytes_of, origin_through};
 use crate::starts::{Start, StartForm, find_start, type_before};
 use crate::templates::{Filling, push_filled, template_for};
 use java_ast::{Expr, ExprNode, Stmt, StmtNode};
 use qbs_base::{Name, NoMemory, Text};
 use std::alloc::Global;
+use view_items::Item;
 use view_map::{QueryKind, RowClass, ScalarKind};
 use view_rules::JavaType;
 use view_statements::Ending;
@@ -44,7 +48,9 @@ fn is_int(java: JavaType) -> bool {
     }
 }
 
-fn kind_word(kind: ScalarKind) -> &'static [u8] {
+fn kind_word(kind: ScalarKind) -> &'static [u8]
+    ensures { result.now ≡ specs.kind_word kind }
+{
     match kind {
         ScalarKind::Int => b"int",
         ScalarKind::Long => b"long",
@@ -54,7 +60,9 @@ fn kind_word(kind: ScalarKind) -> &'static [u8] {
 }
 
 /// The word of a type that stands in place of `var`, which is only seen of a single value.
-fn word_of(java: JavaType) -> Option<&'static [u8]> {
+fn word_of(java: JavaType) -> Option<&'static [u8]>
+    ensures { option_copied result ≡ specs.word_of java }
+{
     match java {
         JavaType::Scalar(scalar) => Some(kind_word(scalar.kind)),
         _ => None,
@@ -177,71 +185,64 @@ fn push_value(alloc: Global, out: &mut Vec<u8>, s: &Spelling, asked: Asked, e: &
 
 // ---- Heads
 
-/// The bytes from one item to the end of another.
-fn between<'a>(s: &Spelling<'a>, from: usize, to: usize) -> &'a [u8] {
-    match (s.seen.items.get(from), s.seen.items.get(to)) {
-        (Some(first), Some(last)) => {
-            bytes_of(
-                s.seen,
-                Origin {
-                    from: first.from,
-                    to: last.to,
-                },
-            )
-        }
-        _ => &[],
-    }
+/// The bytes of a declaration before the word before its name, and from the end of that to the end of the name.
+#[derive(Clone, Copy)]
+struct Inferred {
+    front: Origin,
+    back: Origin,
 }
 
-/// The bytes from the end of one item to that of another.
-fn behind<'a>(s: &Spelling<'a>, from: usize, to: usize) -> &'a [u8] {
-    match (s.seen.items.get(from), s.seen.items.get(to)) {
-        (Some(first), Some(last)) => {
-            bytes_of(
-                s.seen,
-                Origin {
-                    from: first.to,
-                    to: last.to,
-                },
-            )
-        }
-        _ => &[],
+fn inferred_at(items: &[Item], at: usize, name: usize) -> Option<Inferred>
+    ensures { result ≡ specs.inferred_at items.now at name }
+{
+    if name == 0 {
+        return None;
     }
-}
-
-/// The bytes from an item up to another one.
-fn up_to<'a>(s: &Spelling<'a>, from: usize, to: usize) -> &'a [u8] {
-    match (s.seen.items.get(from), s.seen.items.get(to)) {
-        (Some(first), Some(last)) => {
-            bytes_of(
-                s.seen,
-                Origin {
-                    from: first.from,
-                    to: last.from,
-                },
-            )
-        }
-        _ => &[],
-    }
+    let first = items.get(at)?;
+    let word = items.get(name - 1)?;
+    let last = items.get(name)?;
+    Some(Inferred {
+        front: Origin {
+            from: first.from,
+            to: word.from,
+        },
+        back: Origin {
+            from: word.to,
+            to: last.to,
+        },
+    })
 }
 
 /// Pushes the beginning of a declaration by `var` with its type in place of the word, which stands directly before the name.
-fn push_inferred(out: &mut Vec<u8>, s: &Spelling, start: Start) -> Spelled {
+fn push_inferred(out: &mut Vec<u8>, s: &Spelling, start: Start) -> Spelled
+    ensures { IfOk result (λ b. specs.IsPushed b out.old.items out.new.items (specs.inferred_head s.now.seen.now.items.now s.now.seen.now.source.now start)) }
+{
     let Some(word) = word_of(start.java) else {
         return Ok(false);
     };
-    if start.name == 0 {
+    let Some(at) = inferred_at(s.seen.items, start.at, start.name) else {
         return Ok(false);
-    }
-    out.extend_from_slice(up_to(s, start.at, start.name - 1))?;
+    };
+    out.extend_from_slice(bytes_of(s.seen, at.front))?;
     out.extend_from_slice(word)?;
-    push_words(out, behind(s, start.name - 1, start.name))
+    push_words(out, bytes_of(s.seen, at.back))
+}
+
+fn push_typed(out: &mut Vec<u8>, s: &Spelling, start: Start) -> Spelled
+    ensures { IfOk result (λ b. specs.IsPushed b out.old.items out.new.items (specs.typed_head s.now.seen.now.items.now s.now.seen.now.source.now start)) }
+{
+    match origin_through(s.seen.items, start.at, start.name) {
+        Some(at) => push_words(out, bytes_of(s.seen, at)),
+        None => Ok(false),
+    }
 }
 
 /// Pushes the beginning of a declaration up to its name.
-fn push_start(out: &mut Vec<u8>, s: &Spelling, start: Start) -> Spelled {
+fn push_start(out: &mut Vec<u8>, s: &Spelling, start: Start) -> Spelled
+    ensures { IfOk result (λ b. specs.IsPushed b out.old.items out.new.items (specs.head_of s.now.seen.now.items.now s.now.seen.now.source.now start)) }
+{
     match start.form {
-        StartForm::Typed | StartForm::Set => push_words(out, between(s, start.at, start.name)),
+        StartForm::Typed | StartForm::Set => push_typed(out, s, start),
         StartForm::Inferred => push_inferred(out, s, start),
         StartForm::Walked => Ok(false),
     }

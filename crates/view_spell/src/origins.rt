@@ -6,6 +6,7 @@ ghost use Rattle.view_text.specs.Layout.{stretches_of};
 ghost use Rattle.view_spell.specs.Origins as specs;
 
 use schema::Schema;
+use text_patches::stretch;
 use view_items::{Cell, Item};
 use view_map::ViewMap;
 use view_statements::{Ending, Group, Slice, Statement};
@@ -73,16 +74,14 @@ pub fn has_body(seen: &Seen, to: u64) -> bool
 }
 
 /// The bytes of the file.
-pub fn bytes_of<'a>(seen: &Seen<'a>, at: Origin) -> &'a [u8] {
-    if at.from <= at.to && at.to <= seen.source.len() {
-        &seen.source[at.from..at.to]
-    } else {
-        &[]
-    }
+pub fn bytes_of<'a>(seen: &Seen<'a>, at: Origin) -> &'a [u8]
+    ensures { result.now ≡ specs.bytes_in seen.now.source.now at }
+{
+    stretch(seen.source, at.from as u64, at.to as u64)
 }
 
 /// The bytes from the first of some items to the last one.
-fn origin_through(items: &[Item], from: usize, last: usize) -> Option<Origin>
+pub fn origin_through(items: &[Item], from: usize, last: usize) -> Option<Origin>
     ensures { result ≡ specs.origin_through items.now from last }
 {
     let first = items.get(from)?;

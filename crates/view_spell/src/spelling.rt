@@ -258,7 +258,15 @@ pub fn spell(
     let mut last = 0;
     let mut rest = patches;
     for sliced in methods {
-        rest = spell_method(alloc, seen, sliced, &mut line, &mut last, rest, &mut spelled)?;
+        rest = spell_method(
+            alloc,
+            seen,
+            sliced,
+            &mut line,
+            &mut last,
+            rest,
+            &mut spelled,
+        )?;
     }
     Ok(spelled)
 }
