@@ -1,5 +1,5 @@
 -- One more answer.
-use Rattle.std.proofs.Common.{◌≡◌, ℕ, suc, ◌+◌, ◌<◌, ◌≤◌, true, List, [], ◌∷◌, ◌++◌, map, take, drop, length, get_or, Option, Some, sym, ap, subst, append_assoc, ◌∙◌, refl, rules, arith}
+use Rattle.std.proofs.Common.{◌≡◌, ℕ, suc, ◌+◌, ◌<◌, ◌≤◌, Bool, true, false, List, [], ◌∷◌, ◌++◌, map, take, drop, length, get_or, Option, Some, sym, ap, subst, append_assoc, ◌∙◌, refl, rules, arith}
 use Rattle.std.specs.List.{prefix_len}
 use Rattle.std.proofs.lemmas.Bool.{and_parts, and_from, eq-eqb}
 use Rattle.std.proofs.lemmas.List.{append-nil, map-append, take-map, drop-map, take_more, take_all}
@@ -13,9 +13,10 @@ use Rattle.view_statements.specs.Slices.{PlainSlice, PlainSliced, slice, slices,
 use Rattle.view_spell.specs.declared.fetched.Fetched.{Fetched}
 use Rattle.view_spell.specs.declared.origins.Taken.{Taken}
 use Rattle.view_spell.specs.declared.spelled.SliceSpelled.{SliceSpelled}
+use Rattle.view_spell.specs.declared.spelled.SliceSpelled.TheVariants as spelled
 use Rattle.view_spell.specs.Fetched.{fetched_in}
 use Rattle.view_spell.specs.Origins.{stretch_taken}
-use Rattle.view_spell.specs.Placed.{takes, take_each, is_answer_where, is_answer, is_in_method, own, others, slices_in, slices_with, are_answers, left, AreAnswered}
+use Rattle.view_spell.specs.Placed.{takes, take_each, is_spelling, is_answer_where, is_answer, is_in_method, own, others, slices_in, slices_with, are_answers, left, AreAnswered}
 use Rattle.view_spell.specs.Shared.{SeenAs, any_shared}
 
 pub taken_more : (seen : SeenAs) (s : PlainSlice) (ps : List PlainPatch) (ts : List TextPatch) (p : PlainPatch) (t : TextPatch)
@@ -56,13 +57,13 @@ pub answered_more : (seen : SeenAs) (ss : List (Method × PlainSlice)) (ps : Lis
     → AreAnswered seen ss ps xs rest → is_answer seen m s (own (length xs) rest) x ≡ true → AreAnswered seen (ss ++ (m, s) ∷ []) ps (xs ++ x ∷ []) (others (length xs) rest)
 answered_more seen ss ps xs rest m s x h e =
     record {
-      answers = answers_more seen 0 ss ps xs m s x h.answers (rw h.rest at e);
-      rest = rw (left_more 0 ss ps (m, s), as_many seen 0 ss ps xs h.answers, h.rest) refl;
+      answers = answers_more seen 0 ss ps xs m s x h.answers (rw h.are_left at e);
+      are_left = rw (left_more 0 ss ps (m, s), as_many seen 0 ss ps xs h.answers, h.are_left) refl;
     }
 
 -- at first there is none
 pub answered_none : (seen : SeenAs) (ps : List PlainPatch) → AreAnswered seen [] ps [] ps
-answered_none seen ps = record { answers = refl; rest = refl }
+answered_none seen ps = record { answers = refl; are_left = refl }
 
 -- ---- Slices, as code has them
 
@@ -123,3 +124,18 @@ method_on seen ps all i x xs rest lt at h =
 pub methods_last : (seen : SeenAs) (ps : List PlainPatch) (all : List Sliced) (i : ℕ) (xs : List SliceSpelled) (rest : List PlainPatch) → length all ≤ i
     → AreAnswered seen (slices_with (all_sliced (take i all))) ps xs rest → are_answers seen 0 (slices_with (all_sliced all)) ps xs ≡ true
 methods_last seen ps all i xs rest le h = let k : AreAnswered seen (slices_with (all_sliced all)) ps xs rest = rw (take_all i all le) at h in k.answers
+
+-- ---- One answer
+
+pub answer_left : (seen : SeenAs) (s : PlainSlice) (shared : Bool) (ps : List Patch) → ps ≡ [] → is_answer_where seen s shared (plain_patches ps) spelled.Left ≡ true
+answer_left seen s shared [] h = refl
+answer_left seen s shared (p ∷ ps) h = absurd cc
+
+pub answer_shared : (seen : SeenAs) (s : PlainSlice) (shared : Bool) (ps : List Patch) → 0 < length ps → shared ≡ true → is_answer_where seen s shared (plain_patches ps) spelled.Shared ≡ true
+answer_shared seen s shared [] lt h = absurd (omega (arith, lt))
+answer_shared seen s shared (p ∷ ps) lt h = rw h refl
+
+pub answer_spelled : (seen : SeenAs) (s : PlainSlice) (shared : Bool) (ps : List Patch) (x : SliceSpelled) → 0 < length ps → shared ≡ false → is_spelling seen s (plain_patches ps) x ≡ true
+    → is_answer_where seen s shared (plain_patches ps) x ≡ true
+answer_spelled seen s shared [] x lt h k = absurd (omega (arith, lt))
+answer_spelled seen s shared (p ∷ ps) x lt h k = rw h k

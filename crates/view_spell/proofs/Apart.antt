@@ -15,6 +15,10 @@ apart_from a b c (p ∷ ps) le h =
     let k = and_parts (nat_le b p.from) (nat_le p.from p.to) e.0 in
     and_from _ _ (and_from _ _ (le-leb a p.from (omega (arith, leb-true b p.from k.0))) k.1) e.1
 
+-- no patch stands between a byte and it
+pub apart_none : (a : ℕ) → are_apart a a [] ≡ true
+apart_none a = le-leb a a (omega arith)
+
 -- it ends where it began, or behind
 pub apart_grows : (a b : ℕ) (ps : List TextPatch) → are_apart a b ps ≡ true → a ≤ b
 apart_grows a b [] h = leb-true a b h

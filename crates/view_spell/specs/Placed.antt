@@ -110,4 +110,4 @@ left k (s ∷ ss) ps = left (suc k) ss (others k ps)
 -- slices have answers, and these patches are left for those behind
 pub record AreAnswered (seen : SeenAs) (ss : List (Method × PlainSlice)) (ps : List PlainPatch) (xs : List SliceSpelled) (rest : List PlainPatch) : Type 0 where
   pub answers : are_answers seen 0 ss ps xs ≡ true
-  pub rest : rest ≡ left 0 ss ps
+  pub are_left : rest ≡ left 0 ss ps

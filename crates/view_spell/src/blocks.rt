@@ -1,4 +1,7 @@
 // The statements of a patch in the words of a file.
+ghost use Rattle.std.specs.Prelude.{◌≡◌};
+ghost use Rattle.view_text.specs.Layout.{stretches_of};
+
 use crate::arguments::{Spelled, Spelling, push_words};
 use crate::asks::push_ask;
 use crate::origins::{Origin, Taken, bytes_of, has_body, origin_of};
@@ -13,7 +16,9 @@ fn is_kept_whole(taken: Taken, at: Origin) -> bool {
 }
 
 /// Pushes a kept statement as it stands.
-fn push_kept(out: &mut Vec<u8>, s: &Spelling, taken: Taken, statement: &Stmt) -> Spelled {
+fn push_kept(out: &mut Vec<u8>, s: &Spelling, taken: Taken, statement: &Stmt) -> Spelled
+    requires { s.now.seen.now.stretches.now ≡ stretches_of s.now.seen.now.cells.now }
+{
     let Some(at) = origin_of(s.seen, statement.span.start, statement.span.end) else {
         return Ok(false);
     };
@@ -30,7 +35,9 @@ fn push_one(
     s: &Spelling,
     taken: Taken,
     statement: &Stmt,
-) -> Spelled {
+) -> Spelled
+    requires { s.now.seen.now.stretches.now ≡ stretches_of s.now.seen.now.cells.now }
+{
     if has_body(s.seen, statement.span.end) {
         push_ask(alloc, out, s, taken, statement)
     } else {
@@ -51,7 +58,9 @@ fn push_all(
     taken: Taken,
     margin: &[u8],
     block: &[Stmt],
-) -> Spelled {
+) -> Spelled
+    requires { s.now.seen.now.stretches.now ≡ stretches_of s.now.seen.now.cells.now }
+{
     let mut first = true;
     for statement in block {
         if !first {
@@ -86,7 +95,9 @@ pub fn push_block(
     taken: Taken,
     margin: &[u8],
     block: &[Stmt],
-) -> Spelled {
+) -> Spelled
+    requires { s.now.seen.now.stretches.now ≡ stretches_of s.now.seen.now.cells.now }
+{
     let spelled = push_all(alloc, out, s, taken, margin, block)?;
     if spelled && taken.found {
         push_return(out, s, margin)

@@ -191,7 +191,7 @@ fn is_told(
     table: u32,
     text: &Text,
 ) -> Result<bool, NoMemory>
-    ensures { IfOk result (λ b. b ≡ specs.is_told (seen_as seen.now) (around_of around) name.now table text.now) }
+    ensures { IfOk result (λ b. b ≡ specs.is_told (seen_as seen.now) (around_of around.entry) name.now table text.now) }
 {
     if is_listed_twice(name, around.block)
         || is_met_outside(seen, around.slice, table)
@@ -210,7 +210,7 @@ fn is_told_in(
     name: &Name,
     text: &Text,
 ) -> Result<bool, NoMemory>
-    ensures { IfOk result (λ b. b ≡ specs.is_told_in (seen_as seen.now) (around_of around) name.now text.now (table_number seen.now.schema.now name.now)) }
+    ensures { IfOk result (λ b. b ≡ specs.is_told_in (seen_as seen.now) (around_of around.entry) name.now text.now (table_number seen.now.schema.now name.now)) }
 {
     match seen.schema.table(name) {
         Some(table) => {
@@ -225,7 +225,7 @@ fn is_told_in(
 }
 
 fn is_value_told(alloc: Global, seen: &Seen, around: Around, value: &Expr) -> Result<bool, NoMemory>
-    ensures { IfOk result (λ b. b ≡ specs.is_listing_told (seen_as seen.now) (around_of around) (specs.table_listed (expression value.now)) (specs.text_asked (expression value.now))) }
+    ensures { IfOk result (λ b. b ≡ specs.is_listing_told (seen_as seen.now) (around_of around.entry) (specs.table_listed (expression value.now)) (specs.text_asked (expression value.now))) }
 {
     match (table_listed(value), text_asked(value)) {
         (Some(table), Some(text)) => is_told_in(alloc, seen, around, table, text),
@@ -241,7 +241,7 @@ fn is_statement_told(
     statement: &Stmt,
 ) -> Result<bool, NoMemory>
     requires { seen.now.stretches.now ≡ stretches_of seen.now.cells.now }
-    ensures { IfOk result (λ b. b ≡ specs.is_statement_told (seen_as seen.now) (around_of around) (plain_statement statement.now)) }
+    ensures { IfOk result (λ b. b ≡ specs.is_statement_told (seen_as seen.now) (around_of around.entry) (plain_statement statement.now)) }
 {
     if !has_body(seen, statement.span.end) {
         return Ok(false);
@@ -254,7 +254,7 @@ fn is_statement_told(
 
 fn is_any_told(alloc: Global, seen: &Seen, around: Around, block: &[Stmt]) -> Result<bool, NoMemory>
     requires { seen.now.stretches.now ≡ stretches_of seen.now.cells.now }
-    ensures { IfOk result (λ b. b ≡ specs.is_any_told (seen_as seen.now) (around_of around) (plain_statements block.now)) }
+    ensures { IfOk result (λ b. b ≡ specs.is_any_told (seen_as seen.now) (around_of around.entry) (plain_statements block.now)) }
 {
     for statement in block {
         if is_statement_told(alloc, seen, around, statement)? {

@@ -118,6 +118,7 @@ fn are_apart(from: u64, to: u64, patches: &[TextPatch]) -> bool
 }
 
 /// What patches of a slice are, where they lie in its bytes and behind those of the slices before it, which end at a byte of the file.
+#[tactic(auto, using(crate::proofs::Apart::apart_from, crate::proofs::Apart::apart_none))]
 fn placed(source: &[u8], at: Option<Origin>, last: &mut usize, patches: TextPatches) -> SliceSpelled
     requires { last.old ≤ length source.now }
     ensures within { last.new ≤ length source.now }
@@ -143,6 +144,7 @@ fn placed(source: &[u8], at: Option<Origin>, last: &mut usize, patches: TextPatc
 // ---- Slices
 
 /// The patches of a slice in the words of the file.
+#[tactic(auto, using(crate::proofs::Apart::apart_none))]
 fn spell_words(
     alloc: Global,
     seen: &Seen,
@@ -168,6 +170,7 @@ fn spell_words(
     }
 }
 
+#[tactic(auto, using(crate::proofs::Apart::apart_none, crate::proofs::Answered::answer_left, crate::proofs::Answered::answer_shared, crate::proofs::Answered::answer_spelled))]
 fn spell_slice(
     alloc: Global,
     seen: &Seen,
@@ -183,13 +186,16 @@ fn spell_slice(
     ensures apart { IfOk result (λ x. specs.are_apart last.old last.new (specs.patches_in x) ≡ true) }
     ensures answer { IfOk result (λ x. specs.is_answer_where (seen_as seen.now) (plain slice.now) (any_shared_in (seen_as seen.now) (plain slice.now) fetched.now (plain_patches patches.now)) (plain_patches patches.now) x ≡ true) }
 {
-    if patches.is_empty() {
-        return Ok(SliceSpelled::Left);
+    match patches {
+        [] => Ok(SliceSpelled::Left),
+        [_, ..] => {
+            if any_shared(alloc, seen, slice, fetched, patches)? {
+                Ok(SliceSpelled::Shared)
+            } else {
+                spell_words(alloc, seen, slice, line, last, patches)
+            }
+        }
     }
-    if any_shared(alloc, seen, slice, fetched, patches)? {
-        return Ok(SliceSpelled::Shared);
-    }
-    spell_words(alloc, seen, slice, line, last, patches)
 }
 
 /// Whether a patch is one of the method with this number.
