@@ -8,12 +8,13 @@ ghost use Rattle.query_search.specs.Verdicts as spec;
 use kernel_lang::{Candidate, KFragment};
 use qbs_base::{Items, NoMemory};
 use std::alloc::Global;
+use term_bank::TermBank;
 use tor_axioms::{Condition, Derivations};
-use tor_prover::derive_over;
+use tor_prover::derive_over_with;
 use tor_terms::Atoms;
 use vc_gen::conditions_over;
 
-/// The derivations of these conditions, one for each, where each has one.
+/// The derivations of these conditions, one for each, where each has one. They have one bank of terms.
 fn derive_all(
     alloc: Global,
     atoms: &Atoms,
@@ -21,9 +22,10 @@ fn derive_all(
 ) -> Result<Option<Derivations>, NoMemory>
     ensures { IfOk result (λ o. option_map proofs_in o ≡ spec.all_derived (claims_over atoms.now conditions.now)) }
 {
+    let mut bank = TermBank::new(alloc);
     let mut all = Items::new(alloc);
     for condition in conditions {
-        match derive_over(alloc, atoms, condition)? {
+        match derive_over_with(alloc, &mut bank, atoms, condition)? {
             Some(derivation) => all.push(derivation)?,
             None => return Ok(None),
         }

@@ -6,7 +6,7 @@ use deriv_accept::accepts;
 use deriv_check::{parse_derivation, print_derivation};
 use qbs_base::{Items, NoMemory, Scalar};
 use std::alloc::{AllocError, Global};
-use tor_axioms::{Condition, Literal, Literals, Vc};
+use tor_axioms::{Condition, Derivation, Literal, Literals, Vc};
 use tor_prover::{derive, derives};
 use tor_terms::{Atom, Atoms, Operand, Term};
 
@@ -58,7 +58,7 @@ fn over(
 }
 
 // The condition of a line: its atom, what is known of it, and two terms.
-fn condition_of(alloc: Global, words: &[&str]) -> Result<Box<Vc>, NoMemory> {
+pub fn condition_of(alloc: Global, words: &[&str]) -> Result<Box<Vc>, NoMemory> {
     let left = term_of(alloc, word_at(words, 3))?;
     let right = term_of(alloc, word_at(words, 4))?;
     over(alloc, words, left, right)
@@ -102,10 +102,13 @@ pub fn put_accepted(
     Ok(out.push_str(verdict)?)
 }
 
-/// Appends the derivation that is found of a condition, its lines with semicolons between them, or that there is none.
-pub fn put_derived(out: &mut String, alloc: Global, words: &[&str]) -> Result<(), NoMemory> {
-    let vc = condition_of(alloc, words)?;
-    match derive(alloc, &vc)? {
+/// Appends a derivation that was found, its lines with semicolons between them, or that there is none.
+pub fn put_derivation(
+    out: &mut String,
+    alloc: Global,
+    found: Option<Derivation>,
+) -> Result<(), NoMemory> {
+    match found {
         Some(derivation) => {
             let derivation = Box::new(alloc, derivation)?;
             let text = print_derivation(alloc, &derivation)?;
@@ -113,6 +116,13 @@ pub fn put_derived(out: &mut String, alloc: Global, words: &[&str]) -> Result<()
         }
         None => Ok(out.push_str("none")?),
     }
+}
+
+/// Appends the derivation that is found of a condition, its lines with semicolons between them, or that there is none.
+pub fn put_derived(out: &mut String, alloc: Global, words: &[&str]) -> Result<(), NoMemory> {
+    let vc = condition_of(alloc, words)?;
+    let found = derive(alloc, &vc)?;
+    put_derivation(out, alloc, found)
 }
 
 /// Appends whether a condition is derived, which makes no derivation.

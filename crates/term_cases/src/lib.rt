@@ -2,6 +2,7 @@
 //! condition, which copies are identical, and what sums come to.
 #![tactic(auto)]
 
+mod banks;
 mod claims;
 mod copies;
 mod letters;
@@ -12,6 +13,7 @@ mod totals;
 mod values;
 mod words;
 
+use crate::banks::{put_bank, put_shared};
 use crate::claims::{put_accepted, put_derived, put_derives};
 use crate::copies::put_copy;
 use crate::rules::{put_decided, put_formula, put_rule};
@@ -29,6 +31,8 @@ fn put_answer(out: &mut String, alloc: Global, words: &[&str], line: &str) -> Re
         "accept" => put_accepted(out, alloc, words, line),
         "derive" => put_derived(out, alloc, words),
         "derives" => put_derives(out, alloc, words),
+        "shared" => put_shared(out, alloc, words),
+        "bank" => put_bank(out, alloc, words),
         "sum" => put_sum(out, alloc, words),
         "total" => put_total(out, alloc, words),
         _ => put_copy(out, alloc, words),
@@ -48,6 +52,7 @@ fn put_line(out: &mut String, alloc: Global, line: &str) -> Result<(), NoMemory>
 /// What each line asks for, a line for each. A line is a word and its operands:
 /// `rule NUMBER PATH TERM FACTS..`, `decide ATOM FACTS..`, `formula both|either LITERAL`,
 /// `accept ATOM KNOWN LEFT RIGHT : DERIVATION`, `derive ATOM KNOWN LEFT RIGHT`, `derives ATOM KNOWN LEFT RIGHT`,
+/// `shared ATOM KNOWN LEFT RIGHT`, `bank TERMS..`,
 /// `copy TERM TERMS..`, `sum HELD OTHER` or `total NUMBERS..`. Terms are written in postfix, one letter a step.
 pub fn text_of_answers(alloc: Global, cases: &str) -> Result<String, NoMemory> {
     let mut out = String::new(alloc);

@@ -11,5 +11,6 @@ pub mod Nested
 pub mod Derived
 pub mod ByHead
 pub mod Reducing
+pub mod Memorised
 mod Settled
 mod Settling

@@ -7,3 +7,6 @@ pub mod Seen
 pub mod Worked
 pub mod Heads
 pub mod Reduced
+pub mod Memos
+pub mod Remembered
+pub mod Common

@@ -30,7 +30,7 @@ added fs rows = Cat Nil (Proj (elems.Whole 0) (Sel fs rows))
 abbrev first_rows : Index → Tree
 first_rows index = Top index (Walk 0)
 
-abbrev chosen : List Form
+abbrev pub chosen : List Form
 chosen = Is 0 true ∷ []
 
 abbrev condition : List Literal → Tree → Tree → Claim
@@ -41,10 +41,10 @@ abbrev before : List Form → Claim
 before fs = condition [] (added fs (first_rows indexes.Zero)) Nil
 
 -- a turn in which the test holds, and one in which it doesn't
-abbrev turn_holding : List Form → Claim
+abbrev pub turn_holding : List Form → Claim
 turn_holding fs = condition (literal 0 true ∷ []) (added fs (first_rows (indexes.Next 0))) (Cat (added fs (first_rows (indexes.At 0))) (Single (elems.Whole 0)))
 
-abbrev turn_failing : List Form → Claim
+abbrev pub turn_failing : List Form → Claim
 turn_failing fs = condition (literal 0 false ∷ []) (added fs (first_rows (indexes.Next 0))) (added fs (first_rows (indexes.At 0)))
 
 -- after the last turn

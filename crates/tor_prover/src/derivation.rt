@@ -42,7 +42,7 @@ fn judge(
 }
 
 /// The split on an atom, where the second branch is derived too.
-fn split_at(
+pub fn split_at(
     alloc: Global,
     atom: u32,
     yes: Derivation,

@@ -6,6 +6,7 @@ ghost use Rattle.tor_terms.specs.Plain.{Form, Tree, One as PlainOne, Sel as Plai
 ghost use Rattle.tor_axioms.specs.declared.facts.Literal.{Literal as PlainLiteral};
 ghost use Rattle.tor_axioms.specs.Accepts.{Proof, Claim, accepts};
 ghost use Rattle.tor_axioms.specs.Rules.{some_no, all_yes};
+ghost use Rattle.tor_prover.specs.Common.{Common};
 ghost use Rattle.tor_prover.specs.Derive.{derivation_of};
 ghost use Rattle.tor_prover.specs.Ends.{EndsNormal};
 ghost use Rattle.tor_prover.specs.Normal.{made, met, normal_form};
@@ -45,4 +46,9 @@ pub fn derivations_are_nested_within_ten()
 /// The derivations of the conditions of a small loop and of others, or that there is none.
 pub fn worked_conditions_have_their_derivations()
     ensures { Worked }
+{}
+
+/// Two conditions of a loop share all terms of the second.
+pub fn worked_conditions_share_terms()
+    ensures { Common }
 {}

@@ -97,7 +97,7 @@ fn push_below(steps: &mut Steps, alloc: Global, child: u32, more: &[Step]) -> Re
 }
 
 /// These steps, and then what follows.
-fn after_steps(steps: Steps, rest: Outcome) -> Result<Outcome, NoMemory>
+pub fn after_steps(steps: Steps, rest: Outcome) -> Result<Outcome, NoMemory>
     ensures { IfOk result (λ o. outcome_of o ≡ spec.after_steps steps (outcome_of rest)) }
 {
     match rest {
@@ -122,7 +122,7 @@ fn after_rule(alloc: Global, rule: u32, rest: Outcome) -> Result<Outcome, NoMemo
 }
 
 /// The term with this child, where the child has a normal form.
-fn with_child(alloc: Global, head: OneHead, child: Outcome) -> Result<Outcome, NoMemory>
+pub fn with_child(alloc: Global, head: OneHead, child: Outcome) -> Result<Outcome, NoMemory>
     ensures { IfOk result (λ o. outcome_of o ≡ spec.with_child (around_one head) (outcome_of child)) }
 {
     match child {
@@ -136,7 +136,7 @@ fn with_child(alloc: Global, head: OneHead, child: Outcome) -> Result<Outcome, N
 }
 
 /// The term with these children, where both have normal forms.
-fn with_children(
+pub fn with_children(
     alloc: Global,
     head: TwoHead,
     first: Outcome,
@@ -209,7 +209,12 @@ fn normal_children(
 
 /// The normal form of a term whose children are in normal form.
 #[cycle(finish)]
-fn finish(alloc: Global, atoms: &Atoms, facts: &Facts, t: Box<Term>) -> Result<Outcome, NoMemory>
+pub fn finish(
+    alloc: Global,
+    atoms: &Atoms,
+    facts: &Facts,
+    t: Box<Term>,
+) -> Result<Outcome, NoMemory>
     requires { ChildrenAreSettled atoms.now facts.now (tree_of t.value) }
     ensures { IfOk result (λ o. outcome_of o ≡ spec.at_head atoms.now facts.now (spec.normal_form atoms.now facts.now) (tree_of t.value)) }
 {
