@@ -56,9 +56,16 @@ as_many seen k (q ∷ ss) ps (y ∷ xs) h =
 pub answered_more : (seen : SeenAs) (ss : List (Method × PlainSlice)) (ps : List PlainPatch) (xs : List SliceSpelled) (rest : List PlainPatch) (m : Method) (s : PlainSlice) (x : SliceSpelled)
     → AreAnswered seen ss ps xs rest → is_answer seen m s (own (length xs) rest) x ≡ true → AreAnswered seen (ss ++ (m, s) ∷ []) ps (xs ++ x ∷ []) (others (length xs) rest)
 answered_more seen ss ps xs rest m s x h e =
+    let i : 0 + length xs ≡ length xs = omega arith in
+    let k : length xs ≡ 0 + length ss = omega (arith, as_many seen 0 ss ps xs h.answers) in
+    let f : is_answer seen m s (own (length xs) (left 0 ss ps)) x ≡ true = subst (λ (qs : List PlainPatch). is_answer seen m s (own (length xs) qs) x ≡ true) h.are_left e in
+    let g : is_answer seen m s (own (0 + length xs) (left 0 ss ps)) x ≡ true = subst (λ (n : ℕ). is_answer seen m s (own n (left 0 ss ps)) x ≡ true) (sym i) f in
     record {
-      answers = answers_more seen 0 ss ps xs m s x h.answers (rw h.are_left at e);
-      are_left = rw (left_more 0 ss ps (m, s), as_many seen 0 ss ps xs h.answers, h.are_left) refl;
+      answers = answers_more seen 0 ss ps xs m s x h.answers g;
+      are_left =
+          ap (λ (qs : List PlainPatch). others (length xs) qs) h.are_left
+          ∙ ap (λ (n : ℕ). others n (left 0 ss ps)) k
+          ∙ sym (left_more 0 ss ps (m, s));
     }
 
 -- at first there is none

@@ -1,5 +1,5 @@
 -- Patches that lie apart.
-use Rattle.std.proofs.Common.{◌≡◌, ℕ, ◌≤◌, ◌<◌, suc, true, ◌&&◌, List, [], ◌∷◌, ◌++◌, set, length, sym, subst, append_assoc, rules, arith}
+use Rattle.std.proofs.Common.{◌≡◌, ℕ, ◌≤◌, ◌<◌, zero, suc, true, ◌&&◌, List, [], ◌∷◌, ◌++◌, set, length, sym, subst, append_assoc, rules, arith}
 use Rattle.std.specs.Prelude.{nat_le}
 use Rattle.std.proofs.lemmas.Bool.{and_parts, and_from, leb-true, le-leb}
 use Rattle.text_patches.specs.declared.patch.TextPatch.{TextPatch}
@@ -59,7 +59,7 @@ apart_kept a c (p ∷ ps) qs rs h f =
 -- without those of a slice
 pub apart_without : (xs : List SliceSpelled) (k a c : ℕ) → k < length xs → are_apart a c (patches_of xs) ≡ true → are_apart a c (patches_of (set xs k spelled.Unlike)) ≡ true
 apart_without [] k a c lt h = h
-apart_without (x ∷ xs) 0 a c lt h = apart_behind a c (patches_in x) (patches_of xs) h
+apart_without (x ∷ xs) zero a c lt h = apart_behind a c (patches_in x) (patches_of xs) h
 apart_without (x ∷ xs) (suc k) a c lt h =
     apart_kept a c (patches_in x) (patches_of xs) (patches_of (set xs k spelled.Unlike)) h (λ b e. apart_without xs k b c (omega (arith, lt)) e)
 

@@ -60,9 +60,12 @@ abbrev pub are_fixed_from : List Bool → ℕ → ℕ → List Column → Filter
 are_fixed_from bound item column [] filter = true
 are_fixed_from bound item column (c ∷ cs) filter = is_fixed_where_primary bound item column c filter && are_fixed_from bound item (suc column) cs filter
 
+abbrev pub has_key : List Column → Bool
+has_key cs = list_any (λ c. c.primary) cs
+
 -- there is a primary key, and all of it is fixed
 abbrev pub is_key_fixed : List Bool → ℕ → List Column → Filter → Bool
-is_key_fixed bound item cs filter = list_any (λ c. c.primary) cs && are_fixed_from bound item 0 cs filter
+is_key_fixed bound item cs filter = has_key cs && are_fixed_from bound item 0 cs filter
 
 -- what is bound by what was bound before, of items from a number on
 abbrev pub bound_from : Schema → Filter → List Bool → ℕ → List FromItem → List Bool → List Bool

@@ -110,10 +110,17 @@ fn are_fixed_from(
     }
 }
 
+/// Whether a table has a primary key.
+fn has_key(columns: &[Column]) -> bool
+    ensures { result ≡ specs.has_key columns.now }
+{
+    columns.iter().any(|c| c.primary)
+}
+
 fn is_key_fixed(bound: &[bool], item: usize, columns: &[Column], filter: &Option<Cond>) -> bool
     ensures { result ≡ specs.is_key_fixed bound.now item columns.now (filter_of filter.now) }
 {
-    columns.iter().any(|c| c.primary) && are_fixed_from(bound, item, 0, columns, filter)
+    has_key(columns) && are_fixed_from(bound, item, 0, columns, filter)
 }
 
 // ---- Items
@@ -131,13 +138,16 @@ fn push_bound(
     requires { item + length from.now < 2 ^ 64 }
     ensures { OnOk result (out.new.items ≡ out.old.items ++ specs.bound_from schema.now (filter_of filter.now) all.now item from.now bound.now) }
 {
-    match (from, bound) {
-        ([f, from @ ..], [b, bound @ ..]) => {
-            let columns = columns_at(schema.tables(), f.table);
-            out.push(*b || is_key_fixed(all, item, columns, filter))?;
-            push_bound(schema, filter, all, item + 1, from, bound, out)
-        }
-        _ => Ok(()),
+    match from {
+        [] => Ok(()),
+        [f, from @ ..] => match bound {
+            [] => Ok(()),
+            [b, bound @ ..] => {
+                let columns = columns_at(schema.tables(), f.table);
+                out.push(*b || is_key_fixed(all, item, columns, filter))?;
+                push_bound(schema, filter, all, item + 1, from, bound, out)
+            }
+        },
     }
 }
 

@@ -35,7 +35,6 @@ pub fn patches_in(spelled: &SliceSpelled) -> &[TextPatch]
 }
 
 /// Leaves a slice as it is: what was spelled of it can't be written. What is left of the others is in order and apart where all of it was.
-#[tactic(auto, using(crate::proofs::Apart::apart_without))]
 pub fn leave_out(spelled: &mut Vec<SliceSpelled>, number: usize)
     requires { number < length spelled.old.items }
     ensures left { spelled.new.items ≡ set spelled.old.items number spelled_as.Unlike }

@@ -212,10 +212,16 @@ fn is_in_method(number: usize, patch: &Patch) -> bool
 fn count_of(number: usize, patches: &[Patch]) -> usize
     ensures { result ≡ prefix_len (specs.is_in_method number) (plain_patches patches.now) }
 {
-    patches
-        .iter()
-        .take_while(|p| is_in_method(number, p))
-        .count()
+    let mut rest = patches;
+    let mut count = 0;
+    while let [patch, behind @ ..] = rest {
+        if !is_in_method(number, patch) {
+            return count;
+        }
+        count += 1;
+        rest = behind;
+    }
+    count
 }
 
 /// Pushes what becomes of the patches of a method's slices, of which the first has the number of what was pushed before, and gives the patches

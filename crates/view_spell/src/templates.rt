@@ -148,14 +148,14 @@ fn push_each(
     last: &[u8],
     each: &[Part],
 ) -> Spelled {
-    let mut number = 0;
+    let mut number = 0u64;
     let mut last = last;
     for _argument in filling.arguments {
         if !push_parts(alloc, out, s, filling, number, last, each)? {
             return Ok(false);
         }
         last = last_face(each, last);
-        number += 1;
+        number = number.saturating_add(1);
     }
     Ok(true)
 }
