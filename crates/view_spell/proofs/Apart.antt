@@ -70,3 +70,6 @@ patches_more (y ∷ xs) x = rw (patches_more xs x) (sym (append_assoc (patches_i
 
 pub apart_more : (a b c : ℕ) (xs : List SliceSpelled) (x : SliceSpelled) → are_apart a b (patches_of xs) ≡ true → are_apart b c (patches_in x) ≡ true → are_apart a c (patches_of (xs ++ x ∷ [])) ≡ true
 apart_more a b c xs x h k = rw (patches_more xs x) (apart_join a b c (patches_of xs) (patches_in x) h k)
+
+pub apart_on : (a b c : ℕ) (xs ys : List SliceSpelled) (x : SliceSpelled) → ys ≡ xs ++ x ∷ [] → are_apart a b (patches_of xs) ≡ true → are_apart b c (patches_in x) ≡ true → are_apart a c (patches_of ys) ≡ true
+apart_on a b c xs ys x e h k = rw e (apart_more a b c xs x h k)

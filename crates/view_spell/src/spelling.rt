@@ -210,7 +210,8 @@ fn is_in_method(number: usize, patch: &Patch) -> bool
 
 /// How many patches at the front are those of the method with this number.
 fn count_of(number: usize, patches: &[Patch]) -> usize
-    ensures { result ≡ prefix_len (specs.is_in_method number) (plain_patches patches.now) }
+    ensures count { result ≡ prefix_len (specs.is_in_method number) (plain_patches patches.now) }
+    ensures bound { result ≤ length patches.now }
 {
     let mut rest = patches;
     let mut count = 0;
