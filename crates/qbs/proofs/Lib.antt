@@ -1,3 +1,4 @@
+pub mod Again
 pub mod AlikeRuns
 pub mod Asked
 pub mod Banked
