@@ -1,4 +1,4 @@
-pub mod Again
+pub mod Readable
 pub mod AlikeRuns
 pub mod Asked
 pub mod Banked

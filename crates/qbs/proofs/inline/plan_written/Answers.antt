@@ -2,7 +2,7 @@ use Rattle.std.proofs.Common.{ℕ, List, ap}
 use Rattle.qbs_base.specs.declared.status.Status.{Status}
 use Rattle.java_ast.specs.Reading.{program as plain_program}
 use Rattle.deliveries.specs.declared.plan.Plan.{Plan}
-use Rattle.qbs.proofs.Again.{is_read_again}
+use Rattle.qbs.proofs.Readable.{is_read_again}
 use Rattle.qbs.proofs.Inlining.{whole_fits, inlines}
 use Rattle.qbs.proofs.inline.plan_written.Goals as goal
 

@@ -1,7 +1,7 @@
 use Rattle.std.proofs.Common.{ap, ◌∙◌}
 use Rattle.java_ast.specs.declared.tree.Program.{Program}
 use Rattle.java_ast.specs.Reading.{program as plain_program}
-use Rattle.qbs.proofs.Again.{is_read_again}
+use Rattle.qbs.proofs.Readable.{is_read_again}
 use Rattle.qbs.proofs.Narrowing.{lent_is_sound, narrows_lent}
 use Rattle.qbs.proofs.narrow.plan_program.Goals as goal
 

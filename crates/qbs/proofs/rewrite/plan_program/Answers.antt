@@ -1,5 +1,5 @@
 use Rattle.java_ast.specs.Reading.{program as plain_program}
-use Rattle.qbs.proofs.Again.{is_read_again}
+use Rattle.qbs.proofs.Readable.{is_read_again}
 use Rattle.qbs.proofs.Rewrote.{is_source, rewrote_as}
 use Rattle.qbs.proofs.rewrite.plan_program.Goals as goal
 

@@ -1,5 +1,5 @@
 use Rattle.java_ast.specs.Reading.{program as plain_program}
-use Rattle.qbs.proofs.Again.{is_read_again}
+use Rattle.qbs.proofs.Readable.{is_read_again}
 use Rattle.qbs.proofs.Rewrote.{is_source}
 use Rattle.qbs.proofs.Unnesting.{unnests_found}
 use Rattle.qbs.proofs.unnest.plan_program.Goals as goal
