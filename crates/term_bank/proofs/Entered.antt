@@ -1,13 +1,12 @@
 -- What entering terms keeps and gives.
-use Rattle.std.proofs.Common.{if◌then◌else◌, ◌≡◌, ℕ, ◌<◌, Bool, true, false, List, [], ◌∷◌, ◌++◌, length, map, take, Result, Ok, Err, IfOk, OnErr, refl, sym, ap, ap₂, ◌∙◌, subst, arith, ◌⊎◌, inl, inr}
-use Rattle.std.specs.List.{slice_get, list_any, list_all}
-use Rattle.std.specs.declared.option.Option.TheVariants.{Some, None}
+use Rattle.std.proofs.Common.{if◌then◌else◌, ◌≡◌, ℕ, Bool, true, false, List, [], ◌∷◌, ◌++◌, length, map, take, Result, Ok, Err, IfOk, OnErr, refl, sym, ap, ap₂, ◌∙◌, subst, inl, inr}
+use Rattle.std.specs.List.{slice_get, list_all}
+use Rattle.std.specs.declared.option.Option.TheVariants.{Some}
 use Rattle.std.proofs.lemmas.List.{take-map, length-map}
 use Rattle.tor_terms.specs.declared.term.Term.{Term}
 use Rattle.tor_terms.specs.Plain.{Tree, tree_of, Nil, Walk, Top, One, Single, Cat, Join, Sel, Proj, Uniq, Insert, Hold, Lit, Item, Count, Sum, Any, Best, Pick, Add, Or}
-use Rattle.tor_terms.specs.Same.{same_tree}
-use Rattle.term_bank.specs.Banks.{IsBank, IsFrontOf, Holds, children, entered, has_term, with_term}
-use Rattle.term_bank.proofs.Same.{same_tree-self, two_tests}
+use Rattle.term_bank.specs.Banks.{IsBank, IsFrontOf, children, entered, has_term, with_term}
+use Rattle.term_bank.proofs.Same.{two_tests}
 use Rattle.term_bank.proofs.Fronts.{front_self, front_of, get_behind, get_last, has_at, has_on, take_front, take_old}
 
 -- ---- one term

@@ -1,5 +1,5 @@
 -- What a bank holds after each of some terms was put, which have parts in common.
-use Rattle.std.specs.Prelude.{◌≡◌, List, [], ◌∷◌}
+use Rattle.std.specs.Prelude.{◌≡◌, [], ◌∷◌}
 use Rattle.tor_terms.specs.declared.term.Index.TheVariants as indexes
 use Rattle.tor_terms.specs.Plain.{Tree, Nil, Walk, Top, Cat}
 use Rattle.term_bank.specs.Banks.{with_term}

@@ -1,5 +1,5 @@
 -- What is remembered of normal forms, and what a bank holds of them.
-use Rattle.std.proofs.Common.{if◌then◌else◌, ◌≡◌, ◌⊎◌, inl, inr, ℕ, Bool, true, false, List, [], ◌∷◌, ◌++◌, Result, Ok, Err, IfOk, nat_eq, refl, sym, ap, ap₂, ◌∙◌, subst}
+use Rattle.std.proofs.Common.{if◌then◌else◌, ◌≡◌, ◌⊎◌, inl, inr, ℕ, Bool, true, false, List, [], ◌∷◌, ◌++◌, Result, Ok, Err, IfOk, nat_eq, refl, sym, ap, ◌∙◌, subst}
 use Rattle.std.proofs.lemmas.Bool.{eqb-true}
 use Rattle.std.specs.List.{slice_get}
 use Rattle.std.specs.Option.{option_map}
@@ -14,9 +14,9 @@ use Rattle.tor_axioms.specs.declared.derivation.Step.{Step}
 use Rattle.tor_axioms.specs.declared.facts.Literal.{Literal}
 use Rattle.tor_axioms.specs.Accepts.{Proof, Steps, Split, Absurd, Claim, proof_of}
 use Rattle.tor_axioms.specs.Decide.{with_facts}
-use Rattle.tor_prover.specs.Derive.{Judgement, Same, Differ, Splits, split_at, claim_made}
-use Rattle.tor_prover.specs.Normal.{Outcome, Normal, Meets, normal_form}
-use Rattle.tor_prover.specs.Memos.{known_at, IsMemoOf, normal_term, normal_under, HoldsCommon, HoldsSides, IfSame, IfSteps}
+use Rattle.tor_prover.specs.Derive.{Judgement, Same, split_at}
+use Rattle.tor_prover.specs.Normal.{Outcome, Normal, normal_form}
+use Rattle.tor_prover.specs.Memos.{known_at, IsMemoOf, normal_term, HoldsCommon, HoldsSides, IfSame, IfSteps}
 
 some_is : {A : Type 0} (x y : A) → Some x ≡ Some y → x ≡ y
 some_is x y e = ap (λ o. elim o [ Some z ↦ z | None ↦ x ]) e

@@ -355,7 +355,12 @@ impl Numbers {
 
 /// How many constants of a kind are listed of a method, since each is looked for in all of it.
 fn most_constants(m: &Method) -> usize {
-    CONSTANT_LOOKS / m.to.saturating_sub(m.name).max(1)
+    let count = m.to.saturating_sub(m.name);
+    if count == 0 {
+        0
+    } else {
+        CONSTANT_LOOKS / count
+    }
 }
 
 fn copy_bytes(alloc: Global, bytes: &[u8]) -> Result<Bytes, NoMemory> {

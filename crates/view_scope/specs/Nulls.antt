@@ -199,9 +199,12 @@ tested_in items closings rounds from to = flat_map (tested_at items closings rou
 abbrev pub is_compared : List Item → List ℕ → ℕ → Bool
 is_compared items name k = is_mention items name k && not (is_sign (codes ".") items (k + 1))
 
+abbrev pub is_compared_in : List Item → List ℕ → ℕ → ℕ → Bool
+is_compared_in items name from to = list_any (is_compared items name) (numbers from (to - from))
+
 -- so it is in one of these stretches
 abbrev pub is_named_in : List Item → List ℕ → Stretch → Bool
-is_named_in items name s = list_any (is_compared items name) (numbers s.from (s.to - s.from))
+is_named_in items name s = is_compared_in items name s.from s.to
 
 abbrev pub is_tested_by : List Item → List Stretch → List ℕ → Bool
 is_tested_by items tested name = list_any (is_named_in items name) tested

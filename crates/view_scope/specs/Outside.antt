@@ -71,10 +71,13 @@ is_list_of java close (Some s) = (s.0 == close) && is_element s.1 java
 abbrev pub is_fetched_by : Within → JavaType → ℕ → ℕ → ℕ → Bool
 is_fetched_by w java from close n = is_list_of java close (fetch_at w n from from)
 
+abbrev pub is_fetched_among : Within → JavaType → ℕ → ℕ → List ℕ → Bool
+is_fetched_among w java from close ns = list_any (is_fetched_by w java from close) ns
+
 -- `var`, the name, and behind the colon a fetch pattern, whole, up to the parenthesis that closes the head
 abbrev pub is_fetched_up_to : Within → JavaType → ℕ → Option ℕ → Bool
 is_fetched_up_to w java from None = false
-is_fetched_up_to w java from (Some c) = list_any (is_fetched_by w java from c) w.fetches
+is_fetched_up_to w java from (Some c) = is_fetched_among w java from c w.fetches
 
 abbrev pub walks_fetch : Within → List ℕ → JavaType → ℕ → ℕ → Option ℕ → Bool
 walks_fetch w closings java at opening None = false

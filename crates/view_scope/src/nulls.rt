@@ -471,15 +471,21 @@ fn is_compared(items: &[Item], name: &[u8], number: usize) -> bool
 }
 
 #[tactic(auto, using(view_shapes::proofs::Numbers::any_here, view_shapes::proofs::Numbers::any_next, view_shapes::proofs::Numbers::any_end))]
-fn is_named_in(items: &[Item], name: &[u8], s: Stretch) -> bool
-    ensures { result ≡ specs.is_named_in items.now name.now s }
+fn is_compared_in(items: &[Item], name: &[u8], from: usize, to: usize) -> bool
+    ensures { result ≡ specs.is_compared_in items.now name.now from to }
 {
-    for number in s.from..s.to {
+    for number in from..to {
         if is_compared(items, name, number) {
             return true;
         }
     }
     false
+}
+
+fn is_named_in(items: &[Item], name: &[u8], s: Stretch) -> bool
+    ensures { result ≡ specs.is_named_in items.now name.now s }
+{
+    is_compared_in(items, name, s.from, s.to)
 }
 
 /// Whether a variable is tested for null, where these are the stretches in which variables are. Time goes with their items.

@@ -110,16 +110,21 @@ fn is_fetched_by(w: &Within, java: JavaType, from: usize, close: usize, number: 
     is_list_of(java, close, fetch_at(w, number, from, from))
 }
 
+fn is_fetched_among(w: &Within, java: JavaType, from: usize, close: usize, numbers: &[u32]) -> bool
+    ensures { result ≡ specs.is_fetched_among (within_of w.now) java from close numbers.now }
+{
+    numbers
+        .iter()
+        .any(|n| is_fetched_by(w, java, from, close, *n))
+}
+
 /// Whether a fetch pattern that may be read stands from a number up to the closing parenthesis.
 fn is_fetched_up_to(w: &Within, java: JavaType, from: usize, close: Option<usize>) -> bool
     ensures { result ≡ specs.is_fetched_up_to (within_of w.now) java from close }
 {
     match close {
         None => false,
-        Some(close) => w
-            .fetches
-            .iter()
-            .any(|n| is_fetched_by(w, java, from, close, *n)),
+        Some(close) => is_fetched_among(w, java, from, close, w.fetches),
     }
 }
 

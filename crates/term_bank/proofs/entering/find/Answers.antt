@@ -1,4 +1,4 @@
-use Rattle.std.proofs.Common.{◌≡◌, true, Some, map, refl, sym, ap, ◌∙◌, length, slice_get}
+use Rattle.std.proofs.Common.{◌≡◌, true, Some, map, refl, sym, ap, ◌∙◌, length}
 use Rattle.std.specs.Option.{option_map}
 use Rattle.std.proofs.lemmas.Option.{slice_get_read, slice_get-map}
 use Rattle.tor_terms.specs.Plain.{tree_of}

@@ -1,4 +1,4 @@
-use Rattle.std.proofs.Common.{◌≡◌, Some, ap, ap₂, sym, ◌∙◌}
+use Rattle.std.proofs.Common.{Some, ap, ap₂, sym, ◌∙◌}
 use Rattle.tor_terms.specs.Plain.{tree_of}
 use Rattle.tor_terms.specs.Same.{same_tree}
 use Rattle.tor_terms.proofs.Identical.{same_tree-true}

@@ -1,6 +1,6 @@
-use Rattle.std.proofs.Common.{◌≡◌, List, [], length, map, sym, ap, ◌∙◌, subst, arith}
+use Rattle.std.proofs.Common.{◌≡◌, [], length, map, sym, ap, ◌∙◌, subst, arith}
 use Rattle.std.proofs.lemmas.List.{append-nil}
-use Rattle.tor_terms.specs.Plain.{Tree, tree_of}
+use Rattle.tor_terms.specs.Plain.{tree_of}
 use Rattle.term_bank.specs.Banks.{IsBank}
 use Rattle.term_bank.proofs.Entered.{grew, cut_back}
 use Rattle.term_bank.proofs.bank.TermBank.put.Goals as goal
