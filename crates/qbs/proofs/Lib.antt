@@ -1,3 +1,4 @@
+pub mod Readable
 pub mod AlikeRuns
 pub mod Asked
 pub mod Banked

@@ -6,14 +6,13 @@ use Rattle.std.specs.Prelude.{if◌then◌else◌}
 use Rattle.qbs_base.specs.Values.{Schema}
 use Rattle.view_map.specs.declared.model.ViewMap.{ViewMap}
 use Rattle.view_reports.specs.declared.lines.ViewLine.{ViewLine}
-use Rattle.view_reports.specs.declared.lines.ViewLine.TheVariants as says
 use Rattle.deliveries.specs.declared.plan.Plan.{Plan}
 use Rattle.deliveries.specs.declared.fetch.Stop.{Stop}
 use Rattle.deliveries.specs.Code.{Goes}
 use Rattle.deliveries.specs.Limits.{most_source}
 use Rattle.deliveries.specs.Plan.{too_long}
 use Rattle.view_slices.specs.Slices.{File}
-use Rattle.view_slices.specs.Views.{View, PlainSliced, IsView, file_in, is_view, class_cells}
+use Rattle.view_slices.specs.Views.{PlainSliced, file_in, is_view, class_cells}
 use Rattle.view_text.specs.Layout.{laid_out}
 use Rattle.qbs.specs.declared.seen.Seen as code
 use Rattle.qbs.specs.declared.seen.Seen.TheVariants as found

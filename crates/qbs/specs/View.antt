@@ -1,12 +1,11 @@
 -- The command `view`: what is seen of a Java file by a map, as a program that has a method for each slice.
-use Rattle.std.specs.Prelude.{◌≡◌, ℕ, ◌+◌, ◌<◌, ◌≤◌, List, [], ◌∷◌, ◌++◌, length, codes, map, filter, Bool, true, false, Option, Some, None, slice_get}
+use Rattle.std.specs.Prelude.{◌≡◌, ℕ, ◌+◌, ◌<◌, List, [], ◌∷◌, length, codes, map, filter, Bool, true, false, Option, Some, None, slice_get}
 use Rattle.std.specs.Io.KnownBytes.{Appends}
 use Rattle.std.specs.List.{flat_map}
 use Rattle.qbs_base.specs.declared.status.Status.{Status}
 use Rattle.qbs_base.specs.Values.{Schema}
 use Rattle.java_ast.specs.Tree.{PlainProgram}
 use Rattle.text_places.specs.Places.{span_in}
-use Rattle.view_items.specs.declared.cell.Cell.{Cell}
 use Rattle.view_items.specs.declared.item.Item.{Item}
 use Rattle.view_map.specs.declared.model.ViewMap.{ViewMap}
 use Rattle.view_slices.specs.Slices.{File, PlainSlice}

@@ -1,7 +1,6 @@
 // What is seen of a file: a view that is one, and the program of its text.
-ghost use Rattle.std.specs.Prelude.{◌≡◌, ◌<◌, IfOk, IfSome, IsTrue, Some, length, codes};
+ghost use Rattle.std.specs.Prelude.{◌≡◌, ◌<◌, IfOk, IfSome, Some, length, codes};
 ghost use Rattle.java_ast.specs.Reading.{program as plain_program};
-ghost use Rattle.java_ast.specs.Tree.{PlainProgram};
 ghost use Rattle.deliveries.specs.Code.{Goes};
 ghost use Rattle.deliveries.specs.Limits.{most_source};
 ghost use Rattle.deliveries.specs.Plan.{too_long as too_long_plan};

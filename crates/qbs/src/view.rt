@@ -5,7 +5,7 @@ ghost use Rattle.deliveries.specs.Code.{OrMemory};
 ghost use Rattle.deliveries.specs.Plan.{given};
 ghost use Rattle.deliveries.specs.Reads.{looks, OnlyReads};
 ghost use Rattle.text_places.specs.Places.{AreMarks};
-ghost use Rattle.view_slices.specs.Reading.{slices as plain_slices, sliced as plain_sliced, all_sliced};
+ghost use Rattle.view_slices.specs.Reading.{slices as plain_slices, all_sliced};
 ghost use Rattle.view_slices.specs.Slices.{file_of};
 ghost use Rattle.qbs.specs.Seen.{seen_by, text_by, view_by};
 ghost use Rattle.qbs.specs.View as specs;
