@@ -1,3 +1,4 @@
 pub mod FirstLoops
 pub mod LoopSites
 pub mod MethodLoops
+pub mod Windows

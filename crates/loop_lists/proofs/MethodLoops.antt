@@ -5,6 +5,7 @@ use Rattle.java_ast.specs.Tree.{PlainMethod}
 use Rattle.loop_text.specs.Statements.Loops.{loops_among, loops_of_methods}
 use Rattle.loop_lists.specs.declared.listing.Listed.{Listed}
 use Rattle.loop_lists.specs.Lists.{loops_there, loops_numbered, Lists}
+use Rattle.loop_lists.proofs.Windows.{item_within, in_own, nothing}
 
 -- ---- Lists
 
@@ -45,40 +46,38 @@ one_more k (suc n) j (m ∷ ms) e =
     ∙ sym (append_assoc (loops_among (k ∷ []) 0 m.body) (loops_of_methods (suc k) (take n ms)) (loops_there j (slice_get ms n)))
 
 module _ (ms : List PlainMethod) (standing number before : ℕ) (behind : before ≤ standing) (is : before ≡ length (loops_of_methods 0 (take number ms))) where
-  -- a method whose loops reach past those that stand
-  pub lists_within : (paths : List (List ℕ)) → paths ≡ loops_numbered number ms → standing - before < length paths → (l : Listed) → l.number ≡ number → l.before ≡ before → l.paths ≡ paths → Lists ms standing l
-  lists_within paths listed within l n b p =
+  -- the next loop is among those of a method where a stretch of them reaches past those that stand
+  pub lists_within : (from upto : ℕ) (paths : List (List ℕ)) → paths ≡ drop from (take upto (loops_numbered number ms)) → before + from ≤ standing → (standing - before) - from < length paths → (l : Listed) → l ≡ record { number = number; before = before; from = from; upto = upto; paths = paths } → Lists ms standing l
+  lists_within from upto paths listed reached within l same =
       let first : List (List ℕ) = loops_of_methods 0 (take number ms) in
       let own : List (List ℕ) = loops_numbered number ms in
       let rest : List (List ℕ) = loops_of_methods (suc number) (drop (suc number) ms) in
-      let many : length paths ≡ length own = ap length listed in
-      let there : slice_get paths (standing - before) ≡ slice_get (loops_of_methods 0 ms) standing =
-      sym (ap (λ (ps : List (List ℕ)). slice_get ps standing) (parts 0 number number ms (omega arith))
+      let sum : from + ((standing - before) - from) ≡ standing - before = omega (arith, reached, behind) in
+      let here : slice_get paths ((standing - before) - from) ≡ slice_get own (standing - before) =
+      ap (λ (ps : List (List ℕ)). slice_get ps ((standing - before) - from)) listed
+      ∙ item_within from upto ((standing - before) - from) (standing - before) own sum (subst (λ (ps : List (List ℕ)). (standing - before) - from < length ps) listed within) in
+      let short : standing - before < length own = in_own from upto ((standing - before) - from) (standing - before) own sum (subst (λ (ps : List (List ℕ)). (standing - before) - from < length ps) listed within) in
+      let there : slice_get paths ((standing - before) - from) ≡ slice_get (loops_of_methods 0 ms) standing =
+      here ∙ sym (ap (λ (ps : List (List ℕ)). slice_get ps standing) (parts 0 number number ms (omega arith))
       ∙ past_front first (own ++ rest) (standing - before) standing (omega (arith, is, behind))
-      ∙ in_front own rest (standing - before) (omega (arith, many, within))
-      ∙ ap (λ (ps : List (List ℕ)). slice_get ps (standing - before)) (sym listed)) in
-      record {
-        behind = subst (λ (k : ℕ). k ≤ standing) (sym b) behind;
-        before = b ∙ is ∙ ap (λ (k : ℕ). length (loops_of_methods 0 (take k ms))) (sym n);
-        paths = p ∙ listed ∙ ap (λ (k : ℕ). loops_numbered k ms) (sym n);
-        next = ap (λ (ps : List (List ℕ)). slice_get ps (standing - l.before)) p ∙ ap (λ (k : ℕ). slice_get paths (standing - k)) b ∙ there;
-      }
+      ∙ in_front own rest (standing - before) short) in
+      subst (Lists ms standing) (sym same) (record { behind = behind; before = is; reached = reached; paths = listed; next = there })
 
   -- the end of the methods
-  pub lists_end : length ms ≤ number → (l : Listed) → l.number ≡ number → l.before ≡ before → l.paths ≡ [] → Lists ms standing l
-  lists_end past l n b p =
-      let none : loops_numbered number ms ≡ [] = ap (loops_there number) (slice_get_past ms number past) in
+  pub lists_end : length ms ≤ number → (paths : List (List ℕ)) → paths ≡ [] → (l : Listed) → l ≡ record { number = number; before = before; from = 0; upto = 0; paths = paths } → Lists ms standing l
+  lists_end past paths none l same =
       let all : length (loops_of_methods 0 ms) ≡ before = sym (is ∙ ap (λ (ns : List PlainMethod). length (loops_of_methods 0 ns)) (all_taken number ms past)) in
-      record {
-        behind = subst (λ (k : ℕ). k ≤ standing) (sym b) behind;
-        before = b ∙ is ∙ ap (λ (k : ℕ). length (loops_of_methods 0 (take k ms))) (sym n);
-        paths = p ∙ sym none ∙ ap (λ (k : ℕ). loops_numbered k ms) (sym n);
-        next = ap (λ (ps : List (List ℕ)). slice_get ps (standing - l.before)) p ∙ sym (slice_get_past (loops_of_methods 0 ms) standing (omega (arith, all, behind)));
-      }
+      subst (Lists ms standing) (sym same)
+      (record {
+        behind = behind;
+        before = is;
+        reached = omega (arith, behind);
+        paths = none ∙ sym (nothing (loops_numbered number ms));
+        next = ap (λ ps. slice_get ps ((standing - before) - 0)) none ∙ sym (slice_get_past (loops_of_methods 0 ms) standing (omega (arith, all, behind)));
+      })
 
   -- the next method
-  pub one_method_more : (paths : List (List ℕ)) → paths ≡ loops_numbered number ms → before + length paths ≡ length (loops_of_methods 0 (take (suc number) ms))
-  one_method_more paths listed =
-      let many : length paths ≡ length (loops_numbered number ms) = ap length listed in
-      let more : length (loops_of_methods 0 (take (suc number) ms)) ≡ length (loops_of_methods 0 (take number ms) ++ loops_numbered number ms) = ap length (one_more 0 number number ms (omega arith)) in
-      omega (arith, is, many, more, length-append (loops_of_methods 0 (take number ms)) (loops_numbered number ms))
+  pub one_method_more : (more : ℕ) → more ≡ length (loops_numbered number ms) → before + more ≡ length (loops_of_methods 0 (take (suc number) ms))
+  one_method_more more many =
+      let all : length (loops_of_methods 0 (take (suc number) ms)) ≡ length (loops_of_methods 0 (take number ms) ++ loops_numbered number ms) = ap length (one_more 0 number number ms (omega arith)) in
+      omega (arith, is, many, all, length-append (loops_of_methods 0 (take number ms)) (loops_numbered number ms))

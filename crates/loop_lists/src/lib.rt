@@ -3,6 +3,7 @@
 
 mod finding;
 mod listing;
+mod window;
 
 pub use finding::find_loop;
 pub use listing::{Listed, listed_from, listed_past, next_in};

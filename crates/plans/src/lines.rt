@@ -15,9 +15,9 @@ use java_mean::{RunFault, TypeFault, TypeRule};
 use java_parser::ParseFault;
 use qbs_base::{Bytes, Name, Span, Status};
 use schema::{DataFault, SchemaFault};
+use std::alloc::{AllocError, Global};
 use text_places::span_in;
 use view_map::MapFault;
-use std::alloc::{AllocError, Global};
 
 // A rule by its number and name, and its place, behind a text.
 fn rule_line(

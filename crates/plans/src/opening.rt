@@ -13,7 +13,8 @@ ghost use Rattle.plans.specs.Opening.{IsSchemaOf, BreaksSchema, schema_refusal, 
 ghost use Rattle.deliveries.specs.Steps.{refused};
 
 use crate::lines::{
-    bundle_refused, lex_refused, map_refused, parse_refused, schema_refused, type_refused, word_refused,
+    bundle_refused, lex_refused, map_refused, parse_refused, schema_refused, type_refused,
+    word_refused,
 };
 use deliveries::fetch::Stop;
 use deliveries::found::{fault_of, value_of};

@@ -22,10 +22,10 @@ use Rattle.words.specs.declared.command.Options.{Options}
 use Rattle.words.specs.Plain.{HasWords}
 use Rattle.words.specs.Reading.{plain}
 use Rattle.words.proofs.Exact.{reads_plain_words}
-use Rattle.deliveries.specs.Limits.{most_schema, most_source, most_bundle, most_tables, most_dump, most_store}
+use Rattle.deliveries.specs.Limits.{most_map, most_schema, most_source, most_bundle, most_tables, most_dump, most_store}
 use Rattle.deliveries.specs.declared.plan.Plan.{Plan}
 use Rattle.plans.specs.Calls.{Call, Called, Calls, CallsNothing, arguments, word_refusal}
-use Rattle.plans.specs.Opening.{BreaksBundle, bundle_refusal, has_bundle, IsSchemaOf, BreaksSchema, schema_refusal, IsProgramOf, HasNoProgram, has_schema, has_program, HasLeast, type_refusal}
+use Rattle.plans.specs.Opening.{BreaksBundle, bundle_refusal, has_bundle, IsSchemaOf, BreaksSchema, schema_refusal, IsMapOf, BreaksMap, map_refusal, has_map, IsProgramOf, HasNoProgram, has_schema, has_program, HasLeast, type_refusal}
 use Rattle.deliveries.specs.Deliver.{Change}
 use Rattle.deliveries.specs.Plan.{Given}
 use Rattle.plans.specs.Results.{names_of}
@@ -41,6 +41,8 @@ use Rattle.qbs.specs.Draw.{Draws, draw}
 use Rattle.qbs.specs.Inline.{IsProgramWithCallsOf, HasNoProgramWithCalls, has_program_with_calls, helper_refusal, has_no_calls_left, types_and_writes, Inlines, inline_of, inline}
 use Rattle.qbs.specs.Narrow.{Narrows, narrow_of, narrow}
 use Rattle.qbs.specs.Unnest.{Unnests, unnest_of, unnest}
+use Rattle.qbs.specs.View.{views, view_of, view}
+use Rattle.view_map.specs.declared.model.ViewMap.{ViewMap}
 use Rattle.qbs.specs.Make.{IsNotDone, method_text, outcome_over, runs, make}
 use Rattle.qbs.specs.Gather.{GathersStore, gather_of, gather}
 use Rattle.qbs.specs.Opened.{reads_all, has_all}
@@ -53,7 +55,7 @@ use Rattle.qbs.specs.Store.{IsStoreRead, IsStoreUnread, reads_store, IsBankOf, H
 use Rattle.qbs.specs.Top.{IsDone}
 use Rattle.qbs.proofs.AlikeRuns.{kept_named, some_named}
 use Rattle.qbs.proofs.Inlining.{calls_one, whole_one, typed_one}
-use Rattle.qbs.proofs.OneFound.{schema_one, program_one, bundle_one, rows_one, call_one, query_one}
+use Rattle.qbs.proofs.OneFound.{schema_one, map_one, program_one, bundle_one, rows_one, call_one, query_one}
 use Rattle.qbs.proofs.OneRead.{read_one, tables_one}
 use Rattle.qbs.proofs.OneStep.{goes}
 use Rattle.qbs.proofs.OneStore.{store_read_one, bank_one}
@@ -316,6 +318,27 @@ inline_listed files calm schema source plan right h =
     let typed = goes {B = Unit {0}} (λ u. IsWellTyped tables (read_by tables) q) (refused (HasLeast tables q) type_refusal) (λ u. Inlines tables text.bytes p q) (typed_one tables q) tt text.is.typed plan whole in
     ap (λ (x : Plan). x.status) typed.written
 
+-- ---- `view`
+
+views_listed : (m : ViewMap) (tables : Schema) (t : List ℕ) (plan : Plan) → views m tables t plan → (plan.status ≡ statuses.Ok) ⊎ (plan.status ≡ statuses.Limit)
+views_listed m tables t plan (inl h) = inr (ap (λ (x : Plan). x.status) h.due)
+views_listed m tables t plan (inr (seen, is, h)) = inl (ap (λ (x : Plan). x.status) h.written)
+
+view_listed : (files : Given) → ((name : List ℕ) → files.failed name → ⊥) → (words schema source : List ℕ) (plan : Plan) →
+    HasSchema files.told schema (λ tables. HasFile files.told words most_map (λ bytes. (m : ViewMap) × IsMapOf tables bytes m) × HasFile files.told source most_source (λ bytes. Unit {0})) →
+    view files words schema source plan → (plan.status ≡ statuses.Ok) ⊎ (plan.status ≡ statuses.Limit)
+view_listed files calm words schema source plan right h =
+    let tables : Schema = right.is.0 in
+    let map = right.is.2.0 in
+    let text = right.is.2.1 in
+    let first = opens files calm words most_map (codes "map") map.bytes
+    (λ w. reads files schema most_schema (codes "schema") (λ s. reads files source most_source (codes "source") (λ t. view_of w s t))) map.has map.within plan h in
+    let read = opens files calm schema most_schema (codes "schema") right.bytes (λ s. reads files source most_source (codes "source") (λ t. view_of map.bytes s t)) right.has right.within plan first in
+    let all = opens files calm source most_source (codes "source") text.bytes (λ t. view_of map.bytes right.bytes t) text.has text.within plan read in
+    let opened = goes_schema right.bytes tables (λ ts. has_map ts map.bytes (λ m. views m ts text.bytes)) right.is.1 plan all in
+    let mapped = goes (IsMapOf tables map.bytes) (refused (BreaksMap tables map.bytes) (map_refusal map.bytes)) (λ m. views m tables text.bytes) (map_one tables map.bytes) map.is.0 map.is.1 plan opened in
+    views_listed map.is.0 tables text.bytes plan mapped
+
 -- ---- the whole
 
 built_ends : (files : Given) → ((name : List ℕ) → files.failed name → ⊥) → (may : May) (c : Command) (plan : Plan) → IsRight files.told c → built files may c plan → IsEnd c plan.status
@@ -330,7 +353,7 @@ built_ends files calm may (commands.Narrow o s t) plan right h = narrow_listed f
 built_ends files calm may (commands.Inline s t) plan right h = inline_listed files calm s t plan right h
 built_ends files calm may (commands.Gather o s t) plan right h = gather_listed files calm o s t plan right h
 built_ends files calm may (commands.Schema o d) plan right h = draw_listed files calm o d plan right h
-built_ends files calm may (commands.View m s t) plan right h = ap (λ (x : Plan). x.status) h
+built_ends files calm may (commands.View m s t) plan right h = view_listed files calm m s t plan right h
 built_ends files calm may (commands.Map es) plan right h = ap (λ (x : Plan). x.status) h
 built_ends files calm may (commands.CheckMap m s) plan right h = ap (λ (x : Plan). x.status) h
 

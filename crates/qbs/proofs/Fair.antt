@@ -20,7 +20,7 @@ use Rattle.small_dbs.specs.declared.small.SmallDb.{SmallDb}
 use Rattle.words.specs.declared.command.Command.{Command}
 use Rattle.words.specs.declared.command.Command.TheVariants as commands
 use Rattle.words.specs.declared.command.Options.{Options}
-use Rattle.deliveries.specs.Limits.{most_schema, most_source, most_bundle, most_dump, most_store}
+use Rattle.deliveries.specs.Limits.{most_map, most_schema, most_source, most_bundle, most_dump, most_store}
 use Rattle.deliveries.specs.declared.plan.Plan.{Plan}
 use Rattle.plans.specs.Calls.{Call}
 use Rattle.plans.specs.Opening.{IsSchemaOf, HasNoProgram}
@@ -44,6 +44,8 @@ use Rattle.qbs.specs.Run.{comes_to, call_of, run_of, run}
 use Rattle.qbs.specs.Sql.{answer_plan, sql_of, sql}
 use Rattle.qbs.specs.Store.{IsStoreName, IsStoreUnread, HasNoBank}
 use Rattle.qbs.specs.Unnest.{unnest_of, unnest}
+use Rattle.qbs.specs.View.{views, view_of, view}
+use Rattle.view_map.specs.declared.model.ViewMap.{ViewMap}
 
 -- a plan of a command that words name, which reads files of these names
 pub record IsFair (files : Given) (Names : List ℕ → Type 0) (plan : Plan) : Type 0 where
@@ -125,6 +127,23 @@ module _ (files : Given) (Names : List ℕ → Type 0) where
   gather_fair o schema source first second plan (inl h) = not_read_fair schema most_schema (codes "schema") plan first h
   gather_fair o schema source first second plan (inr (s, read, inl h)) = not_read_fair source most_source (codes "source") plan second h
   gather_fair o schema source first second plan (inr (s, read, inr (t, has, h))) = gather_of_fair o s t plan h
+
+  -- ---- `view`
+
+  views_fair : (m : ViewMap) (tables : Schema) (t : List ℕ) (plan : Plan) → views m tables t plan → IsFair files Names plan
+  views_fair m tables t plan (inl h) = fair_as plan _ h.due (refusal_fair statuses.Limit _ (λ e. cc) (λ e. cc) (λ e. cc))
+  views_fair m tables t plan (inr (seen, is, h)) = done_fair plan (ap (λ (x : Plan). x.status) h.written)
+
+  view_of_fair : (w s t : List ℕ) (plan : Plan) → view_of w s t plan → IsFair files Names plan
+  view_of_fair w s t plan (inl h) = fair_as plan _ h.2 (refusal_fair statuses.Schema _ (λ e. cc) (λ e. cc) (λ e. cc))
+  view_of_fair w s t plan (inr (tables, is, inl h)) = fair_as plan _ h.2 (refusal_fair statuses.View _ (λ e. cc) (λ e. cc) (λ e. cc))
+  view_of_fair w s t plan (inr (tables, is, inr (m, has, h))) = views_fair m tables t plan h
+
+  view_fair : (words schema source : List ℕ) → Names words → Names schema → Names source → (plan : Plan) → view files words schema source plan → IsFair files Names plan
+  view_fair words schema source first second third plan (inl h) = not_read_fair words most_map (codes "map") plan first h
+  view_fair words schema source first second third plan (inr (w, read, inl h)) = not_read_fair schema most_schema (codes "schema") plan second h
+  view_fair words schema source first second third plan (inr (w, read, inr (s, has, inl h))) = not_read_fair source most_source (codes "source") plan third h
+  view_fair words schema source first second third plan (inr (w, read, inr (s, has, inr (t, is, h)))) = view_of_fair w s t plan h
 
   -- ---- `check`
 
@@ -290,7 +309,7 @@ module _ (files : Given) (may : May) where
   built_fair (commands.Inline s t) plan h = inline_fair files (MayRead files.told (commands.Inline s t)) s t (inl refl) (inr refl) plan h
   built_fair (commands.Gather o s t) plan h = gather_fair files (MayRead files.told (commands.Gather o s t)) o s t (inl refl) (inr refl) plan h
   built_fair (commands.Schema o d) plan h = draw_fair files (MayRead files.told (commands.Schema o d)) o d refl plan h
-  built_fair (commands.View m s t) plan h = unbuilt_fair files (MayRead files.told (commands.View m s t)) plan h
+  built_fair (commands.View m s t) plan h = view_fair files (MayRead files.told (commands.View m s t)) m s t (inl refl) (inr (inl refl)) (inr (inr refl)) plan h
   built_fair (commands.Map es) plan h = unbuilt_fair files (MayRead files.told (commands.Map es)) plan h
   built_fair (commands.CheckMap m s) plan h = unbuilt_fair files (MayRead files.told (commands.CheckMap m s)) plan h
 

@@ -21,7 +21,6 @@ use Rattle.java_parser.specs.declared.fault.ParseFault.{ParseFault}
 use Rattle.java_text.specs.Canonical.{canonical}
 use Rattle.java_types.specs.Texts.{read_by}
 use Rattle.java_unplaced.proofs.Kept.{keep_alike}
-use Rattle.java_unplaced.proofs.Typed.{well_typed_alike}
 use Rattle.java_calls.specs.KeepsCalls.{KeepsMethodWithCalls, AllKept, KeepsCalls}
 use Rattle.java_calls.proofs.Grown.{one_inlined}
 use Rattle.call_reader.specs.WithCalls.{parsed_with_calls}
@@ -48,6 +47,7 @@ use Rattle.deliveries.specs.Plan.{Given, refusal}
 use Rattle.deliveries.specs.Steps.{Ends, refused, IsRead, IsNotRead, reads}
 use Rattle.plans.specs.Lines.{rule_text}
 use Rattle.plans.specs.Opening.{IsSchemaOf, BreaksSchema, schema_refusal, HasTokens, lex_refusal, parse_refusal, HasLeast, type_refusal}
+use Rattle.qbs.specs.Again.{IsReadAgain}
 use Rattle.qbs.specs.Commands.{is_built}
 use Rattle.qbs.specs.Inline.{IsProgramWithCallsOf, HasKeptWithCalls, HasNoProgramWithCalls, has_program_with_calls, place_in, helper_refusal, has_no_calls_left, inlined_plan, Inlines, types_and_writes, inline_of, inline, IsInlining, HasInlining}
 use Rattle.qbs.specs.Pruners.{May}
@@ -166,9 +166,9 @@ whole_kept tables source p q read whole well =
     grammar_keeps tables (read_by tables) p q fits.0 whole.rules whole.inlined well
 
 pub inlines : (tables : Schema) (source : List ℕ) (p q : PlainProgram) (text out : List ℕ) (plan : Plan) → IsProgramWithCallsOf source p → IsWhole p q → IsWellTyped tables (read_by tables) q →
-    text ≡ text_anew source p q → IsTextFor text q out → plan ≡ inlined_plan out → Inlines tables source p q plan
-inlines tables source p q text out plan read whole well is back due =
-    record { keeps = whole_kept tables source p q read whole well; out = out; text = subst (λ (t : List ℕ). IsTextFor t q out) is back; written = due }
+    text ≡ text_anew source p q → IsTextFor text q out → IsReadAgain tables out q → plan ≡ inlined_plan out → Inlines tables source p q plan
+inlines tables source p q text out plan read whole well is back again due =
+    record { keeps = whole_kept tables source p q read whole well; out = out; text = subst (λ (t : List ℕ). IsTextFor t q out) is back; again = again; written = due }
 
 -- ---- what it is worth
 
@@ -198,25 +198,23 @@ inlining_of s t plan (inr (tables, is, inl (inl h))) ok = let e : statuses.Sourc
 inlining_of s t plan (inr (tables, is, inl (inr h))) ok = let e : statuses.Source ≡ statuses.Ok = subst (λ (p : Plan). p.status ≡ statuses.Ok) h.2 ok in absurd cc
 inlining_of s t plan (inr (tables, is, inr (p, read, inl h))) ok = let e : statuses.Types ≡ statuses.Ok = subst (λ (x : Plan). x.status ≡ statuses.Ok) h.2 ok in absurd cc
 inlining_of s t plan (inr (tables, is, inr (p, read, inr (q, whole, inl h)))) ok = let e : statuses.Types ≡ statuses.Ok = subst (λ (x : Plan). x.status ≡ statuses.Ok) h.2 ok in absurd cc
-inlining_of s t plan (inr (tables, is, inr (p, read, inr (q, whole, inr (u, well, h))))) ok =
-    let back : IsReadBack h.out q = h.text.back in (
-      subst (λ (x : Plan). IsInlining s t x.out) (sym h.written)
-          (record {
-            tables = tables;
-            program = p;
-            is_schema = is;
-            is_program = read;
-            inlined = q;
-            is_inlined = whole;
-            written = back.read.program;
-            is_written = record { tokens = back.tokens; lexed = back.lexed; has = back.read.has };
-            alike = back.read.same;
-            well = well_typed_alike tables (read_by tables) q back.read.program (sym back.read.same) well;
-            output = h.text;
-            keeps = through tables p.methods p.methods q.methods back.read.program.methods h.keeps (keep_alike tables q back.read.program (sym back.read.same));
-          }),
-      ap (λ (x : Plan). x.rep) h.written,
-    )
+inlining_of s t plan (inr (tables, is, inr (p, read, inr (q, whole, inr (u, well, h))))) ok = (
+  subst (λ (x : Plan). IsInlining s t x.out) (sym h.written)
+      (record {
+        tables = tables;
+        program = p;
+        is_schema = is;
+        is_program = read;
+        inlined = q;
+        is_inlined = whole;
+        written = h.again.program;
+        is_written = h.again.is_program;
+        alike = h.again.same;
+        output = h.text;
+        keeps = through tables p.methods p.methods q.methods h.again.program.methods h.keeps (keep_alike tables q h.again.program (sym h.again.same));
+      }),
+  ap (λ (x : Plan). x.rep) h.written,
+)
 
 -- the bytes that `inline` read, and what it wrote
 record Wrote (files : Given) (schema source : List ℕ) (plan : Plan) : Type 0 where

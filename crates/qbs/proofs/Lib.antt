@@ -1,3 +1,4 @@
+pub mod Readable
 pub mod AlikeRuns
 pub mod Asked
 pub mod Banked
@@ -29,4 +30,6 @@ pub mod Rewrote
 pub mod Twins
 pub mod TypedRuns
 pub mod Unnesting
+pub mod Viewed
+pub mod Viewing
 pub mod Worded

@@ -10,7 +10,6 @@ use Rattle.qbs_base.specs.Values.{Schema}
 use Rattle.java_ast.specs.Path.{found_in, statement_at}
 use Rattle.java_ast.specs.Tree.{Expression, PlainProgram}
 use Rattle.java_grammar.specs.InGrammar.{IsInGrammar}
-use Rattle.java_grammar.specs.ReadBack.{IsReadBack}
 use Rattle.java_grammar.specs.Written.{IsWritten}
 use Rattle.java_mean.specs.Keeps.{Keeps}
 use Rattle.java_mean.specs.Numbers.{NumbersFit}
@@ -20,7 +19,6 @@ use Rattle.java_mean.proofs.Kept.{keeps_itself, keeps_through}
 use Rattle.java_types.specs.Texts.{read_by}
 use Rattle.java_types.proofs.Found.{found_exactly}
 use Rattle.java_unplaced.proofs.Kept.{keep_alike}
-use Rattle.java_unplaced.proofs.Typed.{well_typed_alike}
 use Rattle.schema_text.proofs.Judged.{is_schema, named}
 use Rattle.spreads.specs.Narrowed.{narrowed_at}
 use Rattle.narrowings.specs.Words.{HasWords}
@@ -46,6 +44,7 @@ use Rattle.deliveries.specs.Limits.{most_schema, most_source}
 use Rattle.deliveries.specs.Plan.{Given}
 use Rattle.deliveries.specs.Steps.{refused, IsRead, IsNotRead, reads}
 use Rattle.plans.specs.Opening.{IsSchemaOf, BreaksSchema, schema_refusal, IsProgramOf, HasNoProgram, has_program}
+use Rattle.qbs.specs.Again.{IsReadAgain}
 use Rattle.qbs.specs.Commands.{is_built}
 use Rattle.qbs.specs.Narrow.{start_found, covered_in, narrowed as narrowed_in, narrowed_plan, Narrows, narrow_of, narrow, IsNarrowing, HasNarrowing}
 use Rattle.qbs.specs.Pruners.{May}
@@ -155,8 +154,8 @@ covered_found tables p verdicts slice (Err e) said lent is = is
 pub narrows : (tables : Schema) (source : List ℕ) (p q : PlainProgram) (covered : List ℕ) (patches : List TextPatch) (walks : List Walk) (text out : List ℕ) (plan : Plan) →
     covered ≡ covered_in tables p → IsSoundFor tables p (all_narrowed tables covered p).program →
     q ≡ (all_narrowed tables covered p).program → walks ≡ (all_narrowed tables covered p).walks → patches ≡ (all_narrowed tables covered p).patches →
-    text ≡ with_texts source 0 patches → IsTextFor text q out → plan ≡ narrowed_plan out (reports.report_text walks) → Narrows tables source p plan
-narrows tables source p q covered patches walks text out plan same sound q_is walks_are patches_are text_is back due =
+    text ≡ with_texts source 0 patches → IsTextFor text q out → IsReadAgain tables out q → plan ≡ narrowed_plan out (reports.report_text walks) → Narrows tables source p plan
+narrows tables source p q covered patches walks text out plan same sound q_is walks_are patches_are text_is back again due =
     let all = all_narrowed tables covered p in
     let here : IsSoundFor tables p (narrowed_in tables p).program = subst (λ (c : List ℕ). IsSoundFor tables p (all_narrowed tables c p).program) same sound in
     let text_there : text ≡ with_texts source 0 (narrowed_in tables p).patches =
@@ -168,6 +167,7 @@ narrows tables source p q covered patches walks text out plan same sound q_is wa
       keeps = here.keeps;
       out = out;
       text = subst (λ (r : PlainProgram). IsTextFor (with_texts source 0 (narrowed_in tables p).patches) r out) q_there (subst (λ (t : List ℕ). IsTextFor t q out) text_there back);
+      again = subst (λ (r : PlainProgram). IsReadAgain tables out r) q_there again;
       written = due ∙ ap (λ (ws : List Walk). narrowed_plan out (reports.report_text ws)) walks_there;
     }
 
@@ -180,12 +180,12 @@ module _ (bytes : List ℕ) (tables : Schema) (source : List ℕ) (p copy q lent
   lent_is_sound = subst (IsSoundFor tables p) (sym (lent_is ∙ narrowed_there)) (source_is_sound bytes tables source p is read fits covered)
 
   pub narrows_lent : (patches patches_lent : List TextPatch) (walks walks_lent : List Walk) (text out rep : List ℕ) → covered ≡ covered_in tables p → walks ≡ (all_narrowed tables slice copy).walks → patches ≡ (all_narrowed tables slice copy).patches →
-      patches_lent ≡ patches → walks_lent ≡ walks → text ≡ with_texts source 0 patches_lent → IsTextFor text lent out → rep ≡ reports.report_text walks_lent → Narrows tables source p (narrowed_plan out rep)
-  narrows_lent patches patches_lent walks walks_lent text out rep same walks_are patches_are patches_lent_are walks_lent_are text_is back rep_is =
+      patches_lent ≡ patches → walks_lent ≡ walks → text ≡ with_texts source 0 patches_lent → IsTextFor text lent out → IsReadAgain tables out lent → rep ≡ reports.report_text walks_lent → Narrows tables source p (narrowed_plan out rep)
+  narrows_lent patches patches_lent walks walks_lent text out rep same walks_are patches_are patches_lent_are walks_lent_are text_is back again rep_is =
       narrows tables source p q covered patches walks text out (narrowed_plan out rep) same (source_is_sound bytes tables source p is read fits covered) narrowed_there
       (walks_are ∙ ap (λ (c : List ℕ). (all_narrowed tables c copy).walks) slice_is ∙ ap (λ (r : PlainProgram). (all_narrowed tables covered r).walks) copy_is)
       (patches_are ∙ ap (λ (c : List ℕ). (all_narrowed tables c copy).patches) slice_is ∙ ap (λ (r : PlainProgram). (all_narrowed tables covered r).patches) copy_is)
-      (text_is ∙ ap (λ (ps : List TextPatch). with_texts source 0 ps) patches_lent_are) (subst (λ (r : PlainProgram). IsTextFor text r out) lent_is back)
+      (text_is ∙ ap (λ (ps : List TextPatch). with_texts source 0 ps) patches_lent_are) (subst (λ (r : PlainProgram). IsTextFor text r out) lent_is back) (subst (λ (r : PlainProgram). IsReadAgain tables out r) lent_is again)
       (ap (λ (r : List ℕ). narrowed_plan out r) (rep_is ∙ ap (λ (ws : List Walk). reports.report_text ws) walks_lent_are))
 
 -- ---- what it is worth
@@ -195,18 +195,16 @@ narrowing_of s t plan (inl h) ok = let e : statuses.Schema ≡ statuses.Ok = sub
 narrowing_of s t plan (inr (tables, is, inl h)) ok = absurd (no_program tables t plan h ok)
 narrowing_of s t plan (inr (tables, is, inr (p, read, h))) ok =
     let q : PlainProgram = (narrowed_in tables p).program in
-    let back : IsReadBack h.out q = h.text.back in
     subst (λ (x : Plan). IsNarrowing s t x.out x.rep) (sym h.written)
     (record {
       tables = tables;
       program = p;
       is_schema = is;
       is_program = read;
-      written = back.read.program;
-      is_written = record { tokens = back.tokens; lexed = back.lexed; has = back.read.has };
-      well = well_typed_alike tables (read_by tables) q back.read.program (sym back.read.same) h.well;
+      written = h.again.program;
+      is_written = h.again.is_program;
       output = h.text;
-      keeps = keeps_through tables p q back.read.program h.keeps (keep_alike tables q back.read.program (sym back.read.same));
+      keeps = keeps_through tables p q h.again.program h.keeps (keep_alike tables q h.again.program (sym h.again.same));
       report = refl;
     })
 

@@ -23,12 +23,14 @@ use Rattle.java_mean.specs.Least.{least as kept_of}
 use Rattle.java_types.specs.Texts.{read_by}
 use Rattle.java_types.proofs.Found.{found_exactly}
 use Rattle.schema.specs.Schemas.{schema_of}
+use Rattle.view_map.specs.declared.model.ViewMap.{ViewMap}
+use Rattle.view_map.specs.Maps.{map_of}
 use Rattle.sql_ast.specs.Texts.{HasQuery}
 use Rattle.sql_ast.specs.Tree.{PlainQuery}
 use Rattle.sql_ast.specs.Valid.{params_in}
 use Rattle.deliveries.specs.declared.plan.Plan.{Plan}
 use Rattle.plans.specs.Calls.{Call, Called, Calls, CallsNothing, arguments, method_named, word_refusal}
-use Rattle.plans.specs.Opening.{BreaksBundle, bundle_refusal, IsSchemaOf, BreaksSchema, schema_refusal, lex_refusal, parse_refusal, type_refusal, IsProgramOf, HasNoProgram}
+use Rattle.plans.specs.Opening.{BreaksBundle, bundle_refusal, IsSchemaOf, BreaksSchema, schema_refusal, IsMapOf, BreaksMap, map_refusal, lex_refusal, parse_refusal, type_refusal, IsProgramOf, HasNoProgram}
 use Rattle.deliveries.specs.Steps.{refused}
 use Rattle.plans.specs.Tables.{loaded, HasRows, LacksRows, data_refusal}
 use Rattle.qbs.specs.Sql.{IsAsked, AsksNothing}
@@ -36,6 +38,9 @@ use Rattle.qbs.proofs.OneStep.{IsOne, ok_same, decided, decided_by, err_of}
 
 pub schema_one : (bytes : List ℕ) → IsOne {B = Schema} (IsSchemaOf bytes) (refused (BreaksSchema bytes) schema_refusal)
 schema_one bytes = decided_by (IsSchemaOf bytes) (BreaksSchema bytes) schema_refusal (schema_of bytes) (λ b e. e) (λ f e. e)
+
+pub map_one : (tables : Schema) (bytes : List ℕ) → IsOne {B = ViewMap} (IsMapOf tables bytes) (refused (BreaksMap tables bytes) (map_refusal bytes))
+map_one tables bytes = decided_by (IsMapOf tables bytes) (BreaksMap tables bytes) (map_refusal bytes) (map_of tables bytes) (λ b e. e) (λ f e. e)
 
 pub rows_one : (tables : Schema) (texts : List (List ℕ)) → IsOne {B = Database} (HasRows tables texts) (refused (LacksRows tables texts) data_refusal)
 rows_one tables texts = decided_by (HasRows tables texts) (LacksRows tables texts) data_refusal (loaded tables texts) (λ b e. e) (λ f e. e)

@@ -43,7 +43,7 @@ use Rattle.qbs.specs.Rewrite.{size_of, budget_of, Rewrites, rewrite_of, rewrite}
 use Rattle.qbs.specs.Run.{IsChosen, chooses, comes_to, comes, call_of, run_of, run, turns_of}
 use Rattle.qbs.specs.Sql.{IsAsked, AsksNothing, answer_plan, answers, sql_of, sql}
 use Rattle.qbs.specs.Store.{IsStoreName, IsStoreRead, IsStoreUnread, reads_store, IsBankOf, HasNoBank, has_store}
-use Rattle.qbs.specs.Top.{MayRead, AreAlike, Alike, HasOnePlan}
+use Rattle.qbs.specs.Top.{MayRead, AreAlike, Alike, is_fixed, HasOnePlan}
 use Rattle.qbs.proofs.OneStep.{IsOne, HasOne, step_one, ends_one}
 use Rattle.qbs.proofs.Gathering.{gather_one}
 use Rattle.qbs.proofs.OneRead.{read_one, tables_one}
@@ -249,25 +249,25 @@ built_one false next h = record { alike = λ p q a b. inl (a ∙ sym b) }
 unbuilt_one : HasOne (ends not_yet)
 unbuilt_one = record { alike = λ p q a b. inl (a ∙ sym b) }
 
-command_one : (files : Given) (may : May) (c : Command) → ((name : List ℕ) → MayRead files.told c name → IsSome (files.told name)) → ((name : List ℕ) → files.failed name → ⊥) → HasOne (built files may c)
-command_one files may (commands.Rewrite o schema source) told calm = record { alike = (rewrite_one files may o schema source (told schema (inl refl)) (told source (inr (inl refl))) (λ name is. told name (inr (inr is))) calm).alike }
-command_one files may (commands.Run o schema source folder method words) told calm =
+command_one : (files : Given) (may : May) (c : Command) → ((name : List ℕ) → MayRead files.told c name → IsSome (files.told name)) → ((name : List ℕ) → files.failed name → ⊥) → is_fixed c ≡ true → HasOne (built files may c)
+command_one files may (commands.Rewrite o schema source) told calm fixed = record { alike = (rewrite_one files may o schema source (told schema (inl refl)) (told source (inr (inl refl))) (λ name is. told name (inr (inr is))) calm).alike }
+command_one files may (commands.Run o schema source folder method words) told calm fixed =
     record {
       alike = (run_one files o schema source folder (record { method = method; words = words }) (told schema (inl refl)) (told source (inr (inl refl))) (λ name file. told name (inr (inr file))) calm).alike;
     }
-command_one files may (commands.Sql schema folder query) told calm = record { alike = (sql_one files schema folder query (told schema (inl refl)) (λ name file. told name (inr file)) calm).alike }
-command_one files may (commands.Prove o schema source) told calm = record { alike = (prove_one files may o schema source (told schema (inl refl)) (told source (inr (inl refl))) (λ name is. told name (inr (inr is))) calm).alike }
-command_one files may (commands.Check o schema source bundle) told calm =
+command_one files may (commands.Sql schema folder query) told calm fixed = record { alike = (sql_one files schema folder query (told schema (inl refl)) (λ name file. told name (inr file)) calm).alike }
+command_one files may (commands.Prove o schema source) told calm fixed = record { alike = (prove_one files may o schema source (told schema (inl refl)) (told source (inr (inl refl))) (λ name is. told name (inr (inr is))) calm).alike }
+command_one files may (commands.Check o schema source bundle) told calm fixed =
     record { alike = (check_one files schema source bundle (told schema (inl refl)) (told source (inr (inl refl))) (told bundle (inr (inr refl))) calm).alike }
-command_one files may (commands.Make n) told calm = record { alike = (make_one n).alike }
-command_one files may (commands.Unnest o s t) told calm = record { alike = (unnest_one files o s t (told s (inl refl)) (told t (inr refl)) calm).alike }
-command_one files may (commands.Narrow o s t) told calm = record { alike = (narrow_one files s t (told s (inl refl)) (told t (inr refl)) calm).alike }
-command_one files may (commands.Inline s t) told calm = record { alike = (inline_one files s t (told s (inl refl)) (told t (inr refl)) calm).alike }
-command_one files may (commands.Gather o s t) told calm = record { alike = (gather_one files o s t (told s (inl refl)) (told t (inr refl)) calm).alike }
-command_one files may (commands.Schema o d) told calm = record { alike = (draw_one files o d (told d refl) calm).alike }
-command_one files may (commands.View m s t) told calm = record { alike = unbuilt_one.alike }
-command_one files may (commands.Map es) told calm = record { alike = unbuilt_one.alike }
-command_one files may (commands.CheckMap m s) told calm = record { alike = unbuilt_one.alike }
+command_one files may (commands.Make n) told calm fixed = record { alike = (make_one n).alike }
+command_one files may (commands.Unnest o s t) told calm fixed = record { alike = (unnest_one files o s t (told s (inl refl)) (told t (inr refl)) calm).alike }
+command_one files may (commands.Narrow o s t) told calm fixed = record { alike = (narrow_one files s t (told s (inl refl)) (told t (inr refl)) calm).alike }
+command_one files may (commands.Inline s t) told calm fixed = record { alike = (inline_one files s t (told s (inl refl)) (told t (inr refl)) calm).alike }
+command_one files may (commands.Gather o s t) told calm fixed = record { alike = (gather_one files o s t (told s (inl refl)) (told t (inr refl)) calm).alike }
+command_one files may (commands.Schema o d) told calm fixed = record { alike = (draw_one files o d (told d refl) calm).alike }
+command_one files may (commands.View m s t) told calm fixed = absurd cc
+command_one files may (commands.Map es) told calm fixed = record { alike = unbuilt_one.alike }
+command_one files may (commands.CheckMap m s) told calm fixed = record { alike = unbuilt_one.alike }
 
 command_same : (o : Option Command) (b c : Command) → o ≡ Some b → o ≡ Some c → b ≡ c
 command_same o b c x y = cc
@@ -280,6 +280,6 @@ words_one words = record {
 }
 
 pub one_plan : (files : Given) (may : May) (words : List (List ℕ)) → HasOnePlan files may words
-one_plan files may words told p q a b =
+one_plan files may words told fixed p q a b =
     (step_one (HasWords words) (AreRefused words) (command files may) (words_one words)
-    (λ c has. record { alike = (built_one (is_built c) (built files may c) (command_one files may c (λ name reads. told.told c name has reads) told.calm)).alike })).alike p q a b
+    (λ c has. record { alike = (built_one (is_built c) (built files may c) (command_one files may c (λ name reads. told.told c name has reads) told.calm (fixed c has))).alike })).alike p q a b

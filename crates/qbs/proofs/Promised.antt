@@ -36,9 +36,7 @@ use Rattle.qbs.specs.Rewrite.{size_of, budget_of, rewrite_of, rewrite}
 use Rattle.qbs.specs.Store.{IsStoreRead, IsStoreUnread, IsBankOf, HasNoBank}
 use Rattle.qbs.specs.Top.{IsDone, CutShort, MayRead, ReadFailed, HasReadFault}
 use Rattle.java_mean.proofs.Kept.{keeps_through}
-use Rattle.java_types.specs.Texts.{read_by}
 use Rattle.java_unplaced.proofs.Kept.{keep_alike}
-use Rattle.java_unplaced.proofs.Typed.{well_typed_alike}
 use Rattle.qbs.proofs.Fair.{IsFair, command_fair}
 
 -- ---- all plans that are due
@@ -136,18 +134,17 @@ rewritten_of may o s t b plan (inr (tables, is, inr (p, read, inr (bank, held, h
       is_program = read;
       tries = all_tried tables (size_of o) (budget_of o) p;
       are_tries = refl;
-      written = h.text.read.program;
-      is_written = record { tokens = h.text.tokens; lexed = h.text.lexed; has = h.text.read.has };
-      well = well_typed_alike tables (read_by tables) (rewritten tables (size_of o) (budget_of o) p) h.text.read.program (sym h.text.read.same) h.rewriting.well;
+      written = h.text.program;
+      is_written = h.text.is_program;
       output = h.output;
-      keeps = keeps_through tables p (rewritten tables (size_of o) (budget_of o) p) h.text.read.program h.rewriting.keeps (keep_alike tables (rewritten tables (size_of o) (budget_of o) p) h.text.read.program (sym h.text.read.same));
+      keeps = keeps_through tables p (rewritten tables (size_of o) (budget_of o) p) h.text.program h.rewriting.keeps (keep_alike tables (rewritten tables (size_of o) (budget_of o) p) h.text.program (sym h.text.same));
       pruned = h.pruned;
       bank = bank;
       is_bank = held;
       counted = h.counted;
       report = refl;
       left = rewritten tables (size_of o) (budget_of o) p;
-      alike = h.text.read.same;
+      alike = h.text.same;
       standing = h.rewriting.standing;
     })
 

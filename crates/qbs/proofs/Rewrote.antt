@@ -6,7 +6,6 @@ use Rattle.qbs_base.specs.Values.{Schema}
 use Rattle.java_ast.specs.Tree.{PlainProgram}
 use Rattle.java_mean.specs.Keeps.{Keeps}
 use Rattle.java_mean.specs.WellTyped.{IsWellTyped}
-use Rattle.java_grammar.specs.ReadBack.{IsReadBack}
 use Rattle.java_types.specs.Texts.{read_by}
 use Rattle.verdicts.specs.declared.verdict.LoopVerdict.{LoopVerdict}
 use Rattle.rewrite_core.specs.Output.{IsSourceOf}
@@ -17,6 +16,7 @@ use Rattle.rewrite_core.specs.Trying.{all_tried, rewritten}
 use Rattle.deliveries.specs.declared.plan.Plan.{Plan}
 use Rattle.plans.specs.Opening.{IsProgramOf}
 use Rattle.verdicts.specs.Reports.{verdict_line, pruned_line}
+use Rattle.qbs.specs.Again.{IsReadAgain}
 use Rattle.qbs.specs.Pruners.{May}
 use Rattle.qbs.specs.Rewrite.{IsRewriting, Rewrites}
 
@@ -39,7 +39,7 @@ pub rewrote : (may : May) (tables : Schema) (size budget : ℕ) (source : List �
     r ≡ rewritten tables size budget p → verdicts ≡ verdicts_of (all_tried tables size budget p) →
     ArePruned may.drops may.keeps size (all_tried tables size budget p) dropped →
     IsWellTyped tables (read_by tables) r → Keeps p r tables → StandAsTried (all_tried tables size budget p) r →
-    out ≡ patched_text source (all_tried tables size budget p) → IsReadBack out r →
+    out ≡ patched_text source (all_tried tables size budget p) → IsReadAgain tables out r →
     plan ≡ plan_with out (flat_map verdict_line verdicts ++ pruned_line dropped) →
     Rewrites may tables size budget source p plan
 rewrote may tables size budget source p r out verdicts dropped plan is said counted well keeps standing output back due =
@@ -47,7 +47,7 @@ rewrote may tables size budget source p r out verdicts dropped plan is said coun
       rewriting = is_rewriting tables size budget p r is well keeps standing;
       out = out;
       output = output;
-      text = subst (λ (q : PlainProgram). IsReadBack out q) is back;
+      text = subst (λ (q : PlainProgram). IsReadAgain tables out q) is back;
       pruned = dropped;
       counted = counted;
       written = due ∙ ap (λ (vs : List LoopVerdict). plan_with out (flat_map verdict_line vs ++ pruned_line dropped)) said;
@@ -59,7 +59,7 @@ pub rewrote_as : (may : May) (tables : Schema) (size size_in budget budget_in : 
     r ≡ rewritten tables size budget p → verdicts ≡ verdicts_of (all_tried tables size budget p) →
     ArePruned may.drops may.keeps size (all_tried tables size budget p) dropped →
     IsWellTyped tables (read_by tables) r → Keeps p r tables → StandAsTried (all_tried tables size budget p) r →
-    out ≡ patched_text source (all_tried tables size budget p) → IsReadBack out r →
+    out ≡ patched_text source (all_tried tables size budget p) → IsReadAgain tables out r →
     plan ≡ plan_with out (flat_map verdict_line verdicts ++ pruned_line dropped) →
     Rewrites may tables size_in budget_in source p plan
 rewrote_as may tables size size_in budget budget_in source p r out verdicts dropped plan same_size same_budget is said counted well keeps standing output back due =

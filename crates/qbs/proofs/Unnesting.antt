@@ -8,13 +8,11 @@ use Rattle.qbs_base.specs.declared.status.Status.{Status}
 use Rattle.qbs_base.specs.declared.status.Status.TheVariants as statuses
 use Rattle.qbs_base.specs.Values.{Schema}
 use Rattle.java_ast.specs.Tree.{PlainProgram}
-use Rattle.java_grammar.specs.ReadBack.{IsReadBack}
 use Rattle.java_mean.specs.Keeps.{Keeps}
 use Rattle.java_mean.specs.WellTyped.{IsWellTyped}
 use Rattle.java_mean.proofs.Kept.{keeps_through}
 use Rattle.java_types.specs.Texts.{read_by}
 use Rattle.java_unplaced.proofs.Kept.{keep_alike}
-use Rattle.java_unplaced.proofs.Typed.{well_typed_alike}
 use Rattle.verdicts.specs.declared.verdict.LoopVerdict.{LoopVerdict}
 use Rattle.verdicts.specs.Reports.{verdict_line, unnested_line}
 use Rattle.rewrite_core.specs.Patches.{patched_text}
@@ -29,6 +27,7 @@ use Rattle.deliveries.specs.Limits.{most_schema, most_source}
 use Rattle.deliveries.specs.Plan.{Given}
 use Rattle.deliveries.specs.Steps.{refused, IsRead, IsNotRead, reads}
 use Rattle.plans.specs.Opening.{IsSchemaOf, BreaksSchema, schema_refusal, IsProgramOf, HasNoProgram, has_program}
+use Rattle.qbs.specs.Again.{IsReadAgain}
 use Rattle.qbs.specs.Commands.{is_built}
 use Rattle.qbs.specs.Pruners.{May}
 use Rattle.qbs.specs.Rewrite.{size_of, budget_of}
@@ -73,7 +72,7 @@ reported ts = ap (λ (n : ℕ). flat_map verdict_line (verdicts_of ts) ++ unnest
 unnests : (tables : Schema) (size budget : ℕ) (source : List ℕ) (p r : PlainProgram) (out : List ℕ) (verdicts : List LoopVerdict) (plan : Plan) →
     r ≡ unnested_in tables size budget p → verdicts ≡ verdicts_of (all_unnested tables size budget p) →
     IsWellTyped tables (read_by tables) r → Keeps p r tables →
-    out ≡ patched_text source (all_unnested tables size budget p) → IsReadBack out r →
+    out ≡ patched_text source (all_unnested tables size budget p) → IsReadAgain tables out r →
     plan ≡ plan_with out (flat_map verdict_line verdicts ++ unnested_line (length verdicts)) →
     Unnests tables size budget source p plan
 unnests tables size budget source p r out verdicts plan is said well keeps output back due =
@@ -82,7 +81,7 @@ unnests tables size budget source p r out verdicts plan is said well keeps outpu
       keeps = subst (λ (q : PlainProgram). Keeps p q tables) is keeps;
       out = out;
       output = output;
-      text = subst (λ (q : PlainProgram). IsReadBack out q) is back;
+      text = subst (λ (q : PlainProgram). IsReadAgain tables out q) is back;
       written = due ∙ ap (λ (vs : List LoopVerdict). plan_with out (flat_map verdict_line vs ++ unnested_line (length vs))) said ∙ ap (λ (lines : List ℕ). plan_with out lines) (reported (all_unnested tables size budget p));
     }
 
@@ -91,7 +90,7 @@ unnests_as : (tables : Schema) (size size_in budget budget_in : ℕ) (source : L
     size ≡ size_in → budget ≡ budget_in →
     r ≡ unnested_in tables size budget p → verdicts ≡ verdicts_of (all_unnested tables size budget p) →
     IsWellTyped tables (read_by tables) r → Keeps p r tables →
-    out ≡ patched_text source (all_unnested tables size budget p) → IsReadBack out r →
+    out ≡ patched_text source (all_unnested tables size budget p) → IsReadAgain tables out r →
     plan ≡ plan_with out (flat_map verdict_line verdicts ++ unnested_line (length verdicts)) →
     Unnests tables size_in budget_in source p plan
 unnests_as tables size size_in budget budget_in source p r out verdicts plan same_size same_budget is said well keeps output back due =
@@ -103,7 +102,7 @@ pub unnests_found : (tables : Schema) (size size_in budget budget_in : ℕ) (sou
     size ≡ size_in → budget ≡ budget_in →
     r ≡ unnested_in tables size budget p → verdicts ≡ verdicts_of (all_unnested tables size budget p) →
     IsWellTyped tables (read_by tables) r → Keeps p r tables →
-    out ≡ patched_text source (all_unnested tables size budget p) → IsReadBack out r →
+    out ≡ patched_text source (all_unnested tables size budget p) → IsReadAgain tables out r →
     IfOk result (λ plan. plan ≡ plan_with out (flat_map verdict_line verdicts ++ unnested_line (length verdicts))) →
     IfOk result (Unnests tables size_in budget_in source p)
 unnests_found tables size size_in budget budget_in source p r out verdicts (Ok plan) same_size same_budget is said well keeps output back due =
@@ -125,11 +124,10 @@ unnested_of o s t plan (inr (tables, is, inr (p, read, h))) ok =
       is_program = read;
       tries = all_unnested tables (size_of o) (budget_of o) p;
       are_tries = refl;
-      written = h.text.read.program;
-      is_written = record { tokens = h.text.tokens; lexed = h.text.lexed; has = h.text.read.has };
-      well = well_typed_alike tables (read_by tables) q h.text.read.program (sym h.text.read.same) h.well;
+      written = h.text.program;
+      is_written = h.text.is_program;
       output = h.output;
-      keeps = keeps_through tables p q h.text.read.program h.keeps (keep_alike tables q h.text.read.program (sym h.text.read.same));
+      keeps = keeps_through tables p q h.text.program h.keeps (keep_alike tables q h.text.program (sym h.text.same));
       report = refl;
     })
 

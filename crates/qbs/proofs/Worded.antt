@@ -119,7 +119,7 @@ none_read l (commands.Narrow o s t) files = reads_none l (s ∷ t ∷ []) files
 none_read l (commands.Inline s t) files = reads_none l (s ∷ t ∷ []) files
 none_read l (commands.Gather o s t) files = reads_none l (s ∷ t ∷ []) files
 none_read l (commands.Schema o d) files = reads_none l (d ∷ []) files
-none_read l (commands.View m s t) files = reads_none l [] files
+none_read l (commands.View m s t) files = reads_none l (m ∷ s ∷ t ∷ []) files
 none_read l (commands.Map es) files = reads_none l [] files
 none_read l (commands.CheckMap m s) files = reads_none l [] files
 
@@ -147,21 +147,22 @@ pub other_due : (files : Given) (may : May) (c : Command) (stop : Stop) →
     ((o : Options) (s t : List ℕ) → c ≡ commands.Narrow o s t → ⊥) →
     ((o : Options) (s t : List ℕ) → c ≡ commands.Unnest o s t → ⊥) →
     ((o : Options) (s t : List ℕ) → c ≡ commands.Gather o s t → ⊥) →
+    ((m s t : List ℕ) → c ≡ commands.View m s t → ⊥) →
     StopsFor Status.NotYet (codes "qbs: not yet") [] stop → OrMemory (Err stop) (built files may c)
-other_due files may (commands.Rewrite o s t) stop rewrite prove check run sql make schema inline narrow unnest gather due = absurd (rewrite o s t refl)
-other_due files may (commands.Prove o s t) stop rewrite prove check run sql make schema inline narrow unnest gather due = absurd (prove o s t refl)
-other_due files may (commands.Check o s t b) stop rewrite prove check run sql make schema inline narrow unnest gather due = absurd (check o s t b refl)
-other_due files may (commands.Run o s t d method words) stop rewrite prove check run sql make schema inline narrow unnest gather due = absurd (run o s t d method words refl)
-other_due files may (commands.Sql s d q) stop rewrite prove check run sql make schema inline narrow unnest gather due = absurd (sql s d q refl)
-other_due files may (commands.Make n) stop rewrite prove check run sql make schema inline narrow unnest gather due = absurd (make n refl)
-other_due files may (commands.Unnest o s t) stop rewrite prove check run sql make schema inline narrow unnest gather due = absurd (unnest o s t refl)
-other_due files may (commands.Narrow o s t) stop rewrite prove check run sql make schema inline narrow unnest gather due = absurd (narrow o s t refl)
-other_due files may (commands.Inline s t) stop rewrite prove check run sql make schema inline narrow unnest gather due = absurd (inline s t refl)
-other_due files may (commands.Gather o s t) stop rewrite prove check run sql make schema inline narrow unnest gather due = absurd (gather o s t refl)
-other_due files may (commands.Schema o d) stop rewrite prove check run sql make schema inline narrow unnest gather due = absurd (schema o d refl)
-other_due files may (commands.View m s t) stop rewrite prove check run sql make schema inline narrow unnest gather due = refused_due stop due
-other_due files may (commands.Map es) stop rewrite prove check run sql make schema inline narrow unnest gather due = refused_due stop due
-other_due files may (commands.CheckMap m s) stop rewrite prove check run sql make schema inline narrow unnest gather due = refused_due stop due
+other_due files may (commands.Rewrite o s t) stop rewrite prove check run sql make schema inline narrow unnest gather view due = absurd (rewrite o s t refl)
+other_due files may (commands.Prove o s t) stop rewrite prove check run sql make schema inline narrow unnest gather view due = absurd (prove o s t refl)
+other_due files may (commands.Check o s t b) stop rewrite prove check run sql make schema inline narrow unnest gather view due = absurd (check o s t b refl)
+other_due files may (commands.Run o s t d method words) stop rewrite prove check run sql make schema inline narrow unnest gather view due = absurd (run o s t d method words refl)
+other_due files may (commands.Sql s d q) stop rewrite prove check run sql make schema inline narrow unnest gather view due = absurd (sql s d q refl)
+other_due files may (commands.Make n) stop rewrite prove check run sql make schema inline narrow unnest gather view due = absurd (make n refl)
+other_due files may (commands.Unnest o s t) stop rewrite prove check run sql make schema inline narrow unnest gather view due = absurd (unnest o s t refl)
+other_due files may (commands.Narrow o s t) stop rewrite prove check run sql make schema inline narrow unnest gather view due = absurd (narrow o s t refl)
+other_due files may (commands.Inline s t) stop rewrite prove check run sql make schema inline narrow unnest gather view due = absurd (inline s t refl)
+other_due files may (commands.Gather o s t) stop rewrite prove check run sql make schema inline narrow unnest gather view due = absurd (gather o s t refl)
+other_due files may (commands.Schema o d) stop rewrite prove check run sql make schema inline narrow unnest gather view due = absurd (schema o d refl)
+other_due files may (commands.View m s t) stop rewrite prove check run sql make schema inline narrow unnest gather view due = absurd (view m s t refl)
+other_due files may (commands.Map es) stop rewrite prove check run sql make schema inline narrow unnest gather view due = refused_due stop due
+other_due files may (commands.CheckMap m s) stop rewrite prove check run sql make schema inline narrow unnest gather view due = refused_due stop due
 
 -- a plan that is due and delivered
 pub done_by : (files : Given) (may : May) (words : List (List ℕ)) (out rep : Change) (status : Status) (result : Result Plan Stop) (plan : Plan) →

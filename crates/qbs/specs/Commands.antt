@@ -18,6 +18,7 @@ use Rattle.qbs.specs.Rewrite.{rewrite}
 use Rattle.qbs.specs.Run.{run}
 use Rattle.qbs.specs.Sql.{sql}
 use Rattle.qbs.specs.Unnest.{unnest}
+use Rattle.qbs.specs.View.{view}
 
 -- no option is set that isn't built yet: a view
 abbrev pub is_plain : Options → Bool
@@ -36,6 +37,7 @@ is_built (commands.Inline schema source) = true
 is_built (commands.Narrow o schema source) = is_plain o
 is_built (commands.Unnest o schema source) = is_plain o
 is_built (commands.Gather o schema source) = is_plain o
+is_built (commands.View words schema source) = true
 is_built _ = false
 
 -- what is due for a command that is built
@@ -51,6 +53,7 @@ built files may (commands.Inline schema source) plan = inline files schema sourc
 built files may (commands.Narrow o schema source) plan = narrow files schema source plan
 built files may (commands.Unnest o schema source) plan = unnest files o schema source plan
 built files may (commands.Gather o schema source) plan = gather files o schema source plan
+built files may (commands.View words schema source) plan = view files words schema source plan
 built files may _ plan = ends not_yet plan
 
 abbrev pub where_built : Bool → Ends → Ends

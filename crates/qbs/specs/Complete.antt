@@ -11,12 +11,13 @@ use Rattle.deriv_check.specs.Grammar.{HasBundle}
 use Rattle.small_dbs.specs.declared.small.SmallDb.{SmallDb}
 use Rattle.proof_store.specs.Grammar.{HasStore}
 use Rattle.sql_ast.specs.Tree.{PlainQuery}
+use Rattle.view_map.specs.declared.model.ViewMap.{ViewMap}
 use Rattle.words.specs.declared.command.Command.{Command}
 use Rattle.words.specs.declared.command.Command.TheVariants as commands
 use Rattle.words.specs.Plain.{HasWords}
 use Rattle.plans.specs.Calls.{Call, Called, Calls}
-use Rattle.plans.specs.Opening.{IsSchemaOf, IsProgramOf}
-use Rattle.deliveries.specs.Limits.{most_schema, most_source, most_bundle, most_tables, most_dump, most_store}
+use Rattle.plans.specs.Opening.{IsSchemaOf, IsMapOf, IsProgramOf}
+use Rattle.deliveries.specs.Limits.{most_map, most_schema, most_source, most_bundle, most_tables, most_dump, most_store}
 use Rattle.deliveries.specs.Plan.{Given}
 use Rattle.plans.specs.Tables.{table_file, HasRows}
 use Rattle.qbs.specs.Commands.{is_built}
@@ -88,12 +89,14 @@ IsRight told (commands.Inline schema source) = HasSchema told schema (λ tables.
 IsRight told (commands.Narrow o schema source) = HasSchema told schema (λ tables. HasSource told source tables (λ p. Unit {0}))
 IsRight told (commands.Unnest o schema source) = HasSchema told schema (λ tables. HasSource told source tables (λ p. Unit {0}))
 IsRight told (commands.Gather o schema source) = HasSchema told schema (λ tables. HasSource told source tables (λ p. Unit {0}))
+IsRight told (commands.View words schema source) =
+    HasSchema told schema (λ tables. HasFile told words most_map (λ bytes. (m : ViewMap) × IsMapOf tables bytes m) × HasFile told source most_source (λ bytes. Unit {0}))
 IsRight told (commands.Schema o dump) = HasFile told dump most_dump (λ bytes. Unit {0})
 IsRight told _ = Unit {0}
 
 -- ---- The statuses
 
--- what a command that is built ends with then: it is done, or an entry isn't accepted, or a run faults or has too few turns, or a total has not 64 bits
+-- what a command that is built ends with then: it is done, or an entry isn't accepted, or a run faults or has too few turns, or a total has not 64 bits, or what is seen is too long
 abbrev pub IsEnd : Command → Status → Type 0
 IsEnd (commands.Rewrite o schema source) status = status ≡ Status.Ok
 IsEnd (commands.Prove o schema source) status = status ≡ Status.Ok
@@ -106,6 +109,7 @@ IsEnd (commands.Inline schema source) status = status ≡ Status.Ok
 IsEnd (commands.Narrow o schema source) status = status ≡ Status.Ok
 IsEnd (commands.Unnest o schema source) status = status ≡ Status.Ok
 IsEnd (commands.Gather o schema source) status = status ≡ Status.Ok
+IsEnd (commands.View words schema source) status = (status ≡ Status.Ok) ⊎ (status ≡ Status.Limit)
 IsEnd _ status = status ≡ Status.NotYet
 
 abbrev pub IsEndWhere : Bool → Command → Status → Type 0

@@ -1,5 +1,5 @@
 -- The headline: what `rewrite` wrote where it ends well, of the very program and the very bytes that were read.
-use Rattle.std.specs.Prelude.{◌≡◌, ◌⊎◌, ℕ, List, ◌++◌, Ok}
+use Rattle.std.specs.Prelude.{◌≡◌, ◌⊎◌, ℕ, List, ◌++◌}
 use Rattle.std.specs.Io.KnownBytes.{Appends}
 use Rattle.std.specs.declared.option.Option.{Option}
 use Rattle.std.specs.declared.option.Option.TheVariants.{None}
@@ -7,12 +7,7 @@ use Rattle.qbs_base.specs.declared.status.Status.{Status}
 use Rattle.qbs_base.specs.Values.{Schema}
 use Rattle.java_ast.specs.Tree.{PlainProgram}
 use Rattle.java_ast.specs.Unplaced.{unplaced_program}
-use Rattle.java_lex.specs.declared.token.Tokens.{Tokens}
-use Rattle.java_lex.specs.Lexing.{lexed}
 use Rattle.java_mean.specs.Keeps.{Keeps}
-use Rattle.java_mean.specs.WellTyped.{IsWellTyped}
-use Rattle.java_grammar.specs.Grammar.{IsProgram}
-use Rattle.java_types.specs.Texts.{read_by}
 use Rattle.small_dbs.specs.declared.small.SmallDb.{SmallDb}
 use Rattle.rewrite_core.specs.Patches.{patched_text}
 use Rattle.rewrite_core.specs.Pruned.{ArePruned}
@@ -32,12 +27,6 @@ use Rattle.qbs.specs.Pruners.{May, with_bank}
 use Rattle.qbs.specs.Rewrite.{size_of, budget_of}
 use Rattle.qbs.specs.Store.{IsStoreRead, IsBankOf}
 
--- the text is one of this program: its tokens have it, how deep they stand left aside
-pub record HasText (text : List ℕ) (p : PlainProgram) : Type 0 where
-  pub tokens : Tokens
-  pub lexed : lexed text ≡ Ok tokens
-  pub has : IsProgram tokens.list p
-
 -- What `rewrite` read, as `schema` and `source`, and as `store` where the words name one, and what it wrote, as `out` and `rep`.
 pub record IsRewritten (may : May) (size budget : ℕ) (schema source : List ℕ) (store : Option (List ℕ)) (out rep : List ℕ) : Type 0 where
   -- the schema's bytes are a schema, and the source's bytes have a well-typed program under it
@@ -48,11 +37,10 @@ pub record IsRewritten (may : May) (size budget : ℕ) (schema source : List ℕ
   -- the loops of the program that were tried, in their order, each on the program as it stood
   pub tries : List Tried
   pub are_tries : tries ≡ all_tried tables size budget program
-  -- text: the bytes written have a program, which is well typed; they are the source with statements in place of the loops that gave way and
-  -- their runs, and all other bytes stay
+  -- text: the bytes written have a well-typed program, of which none is too deep; they are the source with statements in place of the loops that
+  -- gave way and their runs, and all other bytes stay
   pub written : PlainProgram
-  pub is_written : HasText out written
-  pub well : IsWellTyped tables (read_by tables) written
+  pub is_written : IsProgramOf tables out written
   pub output : out ≡ patched_text source tries
   -- meaning
   pub keeps : Keeps program written tables

@@ -29,8 +29,8 @@ use Rattle.deliveries.specs.Limits.{most_schema, most_source}
 use Rattle.deliveries.specs.Plan.{Given, refusal}
 use Rattle.deliveries.specs.Steps.{Ends, IsRead, reads, step, finds, refused}
 use Rattle.plans.specs.Lines.{rule_text}
-use Rattle.plans.specs.Opening.{IsSchemaOf, has_schema, HasTokens, LacksTokens, lex_refusal, parse_refusal, HasLeast, type_refusal}
-use Rattle.qbs.specs.Headline.{HasText}
+use Rattle.plans.specs.Opening.{IsSchemaOf, IsProgramOf, has_schema, HasTokens, LacksTokens, lex_refusal, parse_refusal, HasLeast, type_refusal}
+use Rattle.qbs.specs.Again.{IsReadAgain}
 
 -- ---- The program with calls
 
@@ -75,11 +75,13 @@ has_no_calls_left source p next = finds (IsWhole p) (IsFaultOf p) (helper_refusa
 abbrev pub inlined_plan : List ℕ → Plan
 inlined_plan out = record { status = Status.Ok; out = out; rep = [] }
 
--- The text is read back as the inlined program: it is the source in which the methods with calls are written anew, wherever that is so.
+-- The text is read back as the inlined program, also by what weighs how deep it is: it is the source in which the methods with calls are written
+-- anew, wherever that is so.
 pub record Inlines (tables : Schema) (source : List ℕ) (p q : PlainProgram) (plan : Plan) : Type 0 where
   pub keeps : KeepsCalls p q tables
   pub out : List ℕ
   pub text : IsTextFor (text_anew source p q) q out
+  pub again : IsReadAgain tables out q
   pub written : plan ≡ inlined_plan out
 
 -- the inlined program is well typed, or its least fault is told, at the place that its statement had where it was read
@@ -110,12 +112,11 @@ pub record IsInlining (schema source out : List ℕ) : Type 0 where
   -- the program in which no call is left
   pub inlined : PlainProgram
   pub is_inlined : IsWhole program inlined
-  -- text: the bytes written have a program, which is the inlined one but for places and well typed; they are the source with the methods that
-  -- call others written anew, wherever that is a text of the inlined program
+  -- text: the bytes written have a well-typed program, of which none is too deep, and which is the inlined one but for places; they are the
+  -- source with the methods that call others written anew, wherever that is a text of the inlined program
   pub written : PlainProgram
-  pub is_written : HasText out written
+  pub is_written : IsProgramOf tables out written
   pub alike : unplaced_program written ≡ unplaced_program inlined
-  pub well : IsWellTyped tables (read_by tables) written
   pub output : IsTextFor (text_anew source program inlined) inlined out
   -- meaning
   pub keeps : KeepsCalls program written tables

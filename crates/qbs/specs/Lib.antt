@@ -1,3 +1,4 @@
+pub mod Again
 pub mod Check
 pub mod Code
 pub mod Commands
@@ -15,8 +16,10 @@ pub mod Pruners
 pub mod Reports
 pub mod Rewrite
 pub mod Run
+pub mod Seen
 pub mod Sql
 pub mod Store
 pub mod Top
 pub mod Unnest
+pub mod View
 pub mod Within

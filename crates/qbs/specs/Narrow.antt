@@ -27,7 +27,7 @@ use Rattle.deliveries.specs.Limits.{most_schema, most_source}
 use Rattle.deliveries.specs.Plan.{Given}
 use Rattle.deliveries.specs.Steps.{Ends, IsRead, reads}
 use Rattle.plans.specs.Opening.{IsSchemaOf, IsProgramOf, has_schema, has_program}
-use Rattle.qbs.specs.Headline.{HasText}
+use Rattle.qbs.specs.Again.{IsReadAgain}
 
 -- ---- Loops that a query stands for
 
@@ -52,12 +52,14 @@ narrowed tables p = all_narrowed tables (covered_in tables p) p
 abbrev pub narrowed_plan : List ℕ → List ℕ → Plan
 narrowed_plan out rep = record { status = Status.Ok; out = out; rep = rep }
 
--- The text is read back as the narrowed program: it is the source with queries in place of fetches, wherever that is so.
+-- The text is read back as the narrowed program, also by what weighs how deep it is: it is the source with queries in place of fetches, wherever
+-- that is so.
 pub record Narrows (tables : Schema) (source : List ℕ) (p : PlainProgram) (plan : Plan) : Type 0 where
   pub well : IsWellTyped tables (read_by tables) (narrowed tables p).program
   pub keeps : Keeps p (narrowed tables p).program tables
   pub out : List ℕ
   pub text : IsTextFor (with_texts source 0 (narrowed tables p).patches) (narrowed tables p).program out
+  pub again : IsReadAgain tables out (narrowed tables p).program
   pub written : plan ≡ narrowed_plan out (reports.report_text (narrowed tables p).walks)
 
 -- ---- The command
@@ -79,11 +81,10 @@ pub record IsNarrowing (schema source out rep : List ℕ) : Type 0 where
   pub program : PlainProgram
   pub is_schema : IsSchemaOf schema tables
   pub is_program : IsProgramOf tables source program
-  -- text: the bytes written have a program, which is well typed; they are the source with queries in place of fetches, wherever that is a text
-  -- of the narrowed program
+  -- text: the bytes written have a well-typed program, of which none is too deep; they are the source with queries in place of fetches, wherever
+  -- that is a text of the narrowed program
   pub written : PlainProgram
-  pub is_written : HasText out written
-  pub well : IsWellTyped tables (read_by tables) written
+  pub is_written : IsProgramOf tables out written
   pub output : IsTextFor (with_texts source 0 (narrowed tables program).patches) (narrowed tables program).program out
   -- meaning
   pub keeps : Keeps program written tables

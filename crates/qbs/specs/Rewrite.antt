@@ -7,7 +7,6 @@ use Rattle.qbs_base.specs.Values.{Schema}
 use Rattle.java_ast.specs.Tree.{PlainProgram}
 use Rattle.java_mean.specs.Keeps.{Keeps}
 use Rattle.java_mean.specs.WellTyped.{IsWellTyped}
-use Rattle.java_grammar.specs.ReadBack.{IsReadBack}
 use Rattle.java_types.specs.Texts.{read_by}
 use Rattle.rewrite_core.specs.Patches.{patched_text}
 use Rattle.rewrite_core.specs.Pruned.{ArePruned}
@@ -17,6 +16,7 @@ use Rattle.words.specs.declared.command.Options.{Options}
 use Rattle.deliveries.specs.declared.plan.Plan.{Plan}
 use Rattle.deliveries.specs.Plan.{Given}
 use Rattle.deliveries.specs.Steps.{Ends}
+use Rattle.qbs.specs.Again.{IsReadAgain}
 use Rattle.qbs.specs.Reports.{report_text}
 use Rattle.qbs.specs.Pruners.{May, with_bank}
 use Rattle.qbs.specs.Opened.{reads_all, has_all}
@@ -46,12 +46,12 @@ abbrev pub rewriting_plan : Schema → ℕ → ℕ → PlainProgram → List ℕ
 rewriting_plan tables size budget p out pruned =
     record { status = Status.Ok; out = out; rep = report_text (all_tried tables size budget p) pruned }
 
--- The source is written with statements in place of what gave way, which is read back as the program that is left, and what is said of each loop.
+-- The source is written with statements in place of what gave way, which is read again as the program that is left, and what is said of each loop.
 pub record Rewrites (may : May) (tables : Schema) (size budget : ℕ) (source : List ℕ) (p : PlainProgram) (plan : Plan) : Type 0 where
   pub rewriting : IsRewriting tables size budget p
   pub out : List ℕ
   pub output : out ≡ patched_text source (all_tried tables size budget p)
-  pub text : IsReadBack out (rewritten tables size budget p)
+  pub text : IsReadAgain tables out (rewritten tables size budget p)
   pub pruned : ℕ
   pub counted : ArePruned may.drops may.keeps size (all_tried tables size budget p) pruned
   pub written : plan ≡ rewriting_plan tables size budget p out pruned

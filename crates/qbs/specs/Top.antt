@@ -46,6 +46,7 @@ MayRead told (commands.Inline schema source) name = (name ≡ schema) ⊎ (name 
 MayRead told (commands.Narrow o schema source) name = (name ≡ schema) ⊎ (name ≡ source)
 MayRead told (commands.Unnest o schema source) name = (name ≡ schema) ⊎ (name ≡ source)
 MayRead told (commands.Gather o schema source) name = (name ≡ schema) ⊎ (name ≡ source)
+MayRead told (commands.View map schema source) name = (name ≡ map) ⊎ (name ≡ schema) ⊎ (name ≡ source)
 MayRead told _ name = ⊥
 
 -- they are told, and none of the reads failed
@@ -66,9 +67,17 @@ pub record AreAlike (p q : Plan) : Type 0 where
 abbrev pub Alike : Plan → Plan → Type 0
 Alike p q = (p ≡ q) ⊎ AreAlike p q
 
+-- what is due doesn't hang on how it is found: of what may be seen of a file one view is as good as another
+abbrev pub is_fixed : Command → Bool
+is_fixed (commands.View map schema source) = false
+is_fixed _ = true
+
+abbrev pub AreFixed : List (List ℕ) → Type 0
+AreFixed words = (c : Command) → HasWords words c → is_fixed c ≡ true
+
 -- where all that is read is told, two plans that are due without want of memory are one but for the number of dropped candidates
 abbrev pub HasOnePlan : Given → May → List (List ℕ) → Type 0
-HasOnePlan files may words = AreTold files words → (p q : Plan) → program files may words p → program files may words q → Alike p q
+HasOnePlan files may words = AreTold files words → AreFixed words → (p q : Plan) → program files may words p → program files may words q → Alike p q
 
 -- ---- A store
 
@@ -131,6 +140,7 @@ ReadsBuilt l (commands.Inline schema source) old new = OnlyReads l (schema ∷ s
 ReadsBuilt l (commands.Narrow o schema source) old new = OnlyReads l (schema ∷ source ∷ []) old new
 ReadsBuilt l (commands.Unnest o schema source) old new = OnlyReads l (schema ∷ source ∷ []) old new
 ReadsBuilt l (commands.Gather o schema source) old new = OnlyReads l (schema ∷ source ∷ []) old new
+ReadsBuilt l (commands.View map schema source) old new = OnlyReads l (map ∷ schema ∷ source ∷ []) old new
 ReadsBuilt l _ old new = OnlyReads l [] old new
 
 -- none are read for what isn't built

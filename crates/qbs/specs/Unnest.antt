@@ -4,7 +4,6 @@ use Rattle.std.specs.Io.KnownBytes.{Appends}
 use Rattle.qbs_base.specs.declared.status.Status.{Status}
 use Rattle.qbs_base.specs.Values.{Schema}
 use Rattle.java_ast.specs.Tree.{PlainProgram}
-use Rattle.java_grammar.specs.ReadBack.{IsReadBack}
 use Rattle.java_mean.specs.Keeps.{Keeps}
 use Rattle.java_mean.specs.WellTyped.{IsWellTyped}
 use Rattle.java_types.specs.Texts.{read_by}
@@ -20,7 +19,7 @@ use Rattle.deliveries.specs.Limits.{most_schema, most_source}
 use Rattle.deliveries.specs.Plan.{Given}
 use Rattle.deliveries.specs.Steps.{Ends, IsRead, reads}
 use Rattle.plans.specs.Opening.{IsSchemaOf, IsProgramOf, has_schema, has_program}
-use Rattle.qbs.specs.Headline.{HasText}
+use Rattle.qbs.specs.Again.{IsReadAgain}
 use Rattle.qbs.specs.Rewrite.{size_of, budget_of}
 
 -- ---- What is written
@@ -28,14 +27,14 @@ use Rattle.qbs.specs.Rewrite.{size_of, budget_of}
 abbrev pub unnested_plan : List ℕ → List Tried → Plan
 unnested_plan out tries = record { status = Status.Ok; out = out; rep = unnest_report tries }
 
--- The source is written with statements in place of what gave way, which is read back as the program that is left, and a line for each loop
+-- The source is written with statements in place of what gave way, which is read again as the program that is left, and a line for each loop
 -- that gave way.
 pub record Unnests (tables : Schema) (size budget : ℕ) (source : List ℕ) (p : PlainProgram) (plan : Plan) : Type 0 where
   pub well : IsWellTyped tables (read_by tables) (unnested tables size budget p)
   pub keeps : Keeps p (unnested tables size budget p) tables
   pub out : List ℕ
   pub output : out ≡ patched_text source (all_unnested tables size budget p)
-  pub text : IsReadBack out (unnested tables size budget p)
+  pub text : IsReadAgain tables out (unnested tables size budget p)
   pub written : plan ≡ unnested_plan out (all_unnested tables size budget p)
 
 -- ---- The command
@@ -60,11 +59,10 @@ pub record IsUnnested (size budget : ℕ) (schema source out rep : List ℕ) : T
   -- the loops whose spreads were found a candidate for, in their order, each on the program as it stood
   pub tries : List Tried
   pub are_tries : tries ≡ all_unnested tables size budget program
-  -- text: the bytes written have a program, which is well typed; they are the source with statements in place of these loops and their runs,
-  -- and all other bytes stay
+  -- text: the bytes written have a well-typed program, of which none is too deep; they are the source with statements in place of these loops
+  -- and their runs, and all other bytes stay
   pub written : PlainProgram
-  pub is_written : HasText out written
-  pub well : IsWellTyped tables (read_by tables) written
+  pub is_written : IsProgramOf tables out written
   pub output : out ≡ patched_text source tries
   -- meaning
   pub keeps : Keeps program written tables

@@ -14,10 +14,12 @@ mod opened;
 mod prove;
 mod rewrite;
 mod run;
+mod seen;
 mod sql;
 mod stored;
 mod top;
 mod unnest;
+mod view;
 
 pub use clean::qbs_main_over_clean_ends;
 pub use deliveries::fetch::MOST_SCHEMA;

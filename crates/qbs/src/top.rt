@@ -17,6 +17,7 @@ ghost use Rattle.qbs.specs.Narrow.{HasNarrowing};
 ghost use Rattle.qbs.specs.Pruners.{may};
 ghost use Rattle.qbs.specs.Top.{IsDone, CutShort, HasNeutralStore, HasOnePlan, HasReadFault, ReadsAsNamed, ReadsBuilt, ReadsInOrder, Refuses, IsSame};
 ghost use Rattle.qbs.specs.Unnest.{HasUnnesting};
+ghost use Rattle.qbs.specs.View.{HasViewing};
 ghost use Rattle.qbs.specs.Within.{IsWithin};
 
 use crate::check::plan_check;
@@ -30,6 +31,7 @@ use crate::rewrite::plan_rewrite;
 use crate::run::{Asked, plan_run};
 use crate::sql::plan_sql;
 use crate::unnest::plan_unnest;
+use crate::view::plan_view;
 use deliveries::Plan;
 use deliveries::deliver::{deliver, deliver_plan};
 use deliveries::fetch::{Stop, refused};
@@ -56,7 +58,7 @@ pub fn qbs_main<F: Files, O: Sink, E: Sink>(
         (may (λ p. ⟦<Box<dyn Fn(&KFragment, &Candidate) -> PruneAnswer> as Fn(&KFragment, &Candidate) -> PruneAnswer>⟧.post p.call) pruners.now)
         words.now (change O.told O.faults O.by_write out.old out.new) (change E.told E.faults E.by_write rep.old rep.new) result }
 
-    // Where all that is read is told, the plan that is due is one but for the number of dropped candidates.
+    // Where all that is read is told, the plan that is due is one but for the number of dropped candidates, and for what is seen of a file.
     ensures one_plan { HasOnePlan (given F.told F.faults F.may_fail files.old files.new)
         (may (λ p. ⟦<Box<dyn Fn(&KFragment, &Candidate) -> PruneAnswer> as Fn(&KFragment, &Candidate) -> PruneAnswer>⟧.post p.call) pruners.now)
         words.now }
@@ -92,6 +94,9 @@ pub fn qbs_main<F: Files, O: Sink, E: Sink>(
 
     // Where `gather` ends well, what is written is the store of the small databases that refute candidates of the program read.
     ensures gathered { HasGathering (given F.told F.faults F.may_fail files.old files.new) words.now (change O.told O.faults O.by_write out.old out.new) (change E.told E.faults E.by_write rep.old rep.new) result }
+
+    // Where `view` ends well, what is written is seen of the file read, a well-typed program with a method for each slice, or nothing.
+    ensures viewed { HasViewing (given F.told F.faults F.may_fail files.old files.new) words.now (change O.told O.faults O.by_write out.old out.new) (change E.told E.faults E.by_write rep.old rep.new) result }
 
     // With a store `rewrite` and `prove` write what they write without it, but for the number of dropped candidates.
     ensures neutral { HasNeutralStore (given F.told F.faults F.may_fail files.old files.new)
@@ -181,6 +186,7 @@ fn is_built(command: &Command) -> bool
         Command::Narrow { options, .. } => is_plain(options),
         Command::Unnest { options, .. } => is_plain(options),
         Command::Gather { options, .. } => is_plain(options),
+        Command::View { .. } => true,
         _ => false,
     }
 }
@@ -258,6 +264,11 @@ fn plan_built<F: Files>(
             schema,
             source,
         } => plan_gather(alloc, files, options, schema, source),
+        Command::View {
+            map,
+            schema,
+            source,
+        } => plan_view(alloc, files, map, schema, source),
         Command::Sql {
             schema,
             folder,

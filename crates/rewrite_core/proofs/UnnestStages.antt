@@ -24,7 +24,7 @@ use Rattle.rewrite_core.proofs.UnnestReplaced.{put_back}
 -- s is the stage before, v the one with the spread
 module _ (s v : Stage) (listed : v.listed ≡ s.listed) (standing : v.standing ≡ s.standing) where
   pub same_next : next_of v ≡ next_of s
-  same_next = ap (λ (l : Listed). slice_get l.paths (v.standing - l.before)) listed ∙ ap (λ (n : ℕ). slice_get s.listed.paths (n - s.listed.before)) standing
+  same_next = ap (λ (l : Listed). slice_get l.paths ((v.standing - l.before) - l.from)) listed ∙ ap (λ (n : ℕ). slice_get s.listed.paths ((n - s.listed.before) - s.listed.from)) standing
 
   module _ (lists : IsStage s) (path : List ℕ) (next : next_of v ≡ Some path) where
     next_there : next_of s ≡ Some path

@@ -14,7 +14,7 @@ IsStage s = Lists (plain_program s.typed.program).methods s.standing s.listed
 
 -- the path of the next loop
 abbrev pub next_of : Stage → Option (List ℕ)
-next_of s = slice_get s.listed.paths (s.standing - s.listed.before)
+next_of s = slice_get s.listed.paths ((s.standing - s.listed.before) - s.listed.from)
 
 -- the program in which statements stand in place of those from the number first to the loop to which a path leads
 abbrev pub given_way : Option (List ℕ) → ℕ → Statements → PlainProgram → PlainProgram

@@ -90,7 +90,7 @@ pub fn stand(alloc: Global, stage: Box<Stage>) -> Result<Box<Stage>, NoMemory>
     )?)
 }
 
-/// The stage behind a loop that gives way: the next loop that is tried has the same number. The program is moved, and the loops of the
+/// The stage behind a loop that gives way: the next loop that is tried has the same number. The program is moved, and the next loops of the
 /// loop's method are listed anew.
 pub fn give_way(
     alloc: Global,

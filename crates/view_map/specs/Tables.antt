@@ -7,7 +7,7 @@ use Rattle.std.specs.List.{list_any}
 use Rattle.qbs_base.specs.declared.columns.Column.{Column}
 use Rattle.qbs_base.specs.declared.columns.Table.{Table}
 use Rattle.qbs_base.specs.Columns.{table_number, column_number, columns_at}
-use Rattle.java_words.specs.Words.{is_type_word}
+use Rattle.java_words.specs.Words.{is_among, is_type_word}
 use Rattle.view_items.specs.declared.item.Item.{Item}
 use Rattle.view_map.specs.declared.fault.MapRule.TheVariants as rules
 use Rattle.view_map.specs.declared.fault.MapFault.{MapFault}
@@ -47,9 +47,14 @@ has_class classes name = list_any (λ c. bytes_eq c.class name) classes
 abbrev pub has_table : List RowClass → ℕ → Bool
 has_table classes number = list_any (λ c. c.table == number) classes
 
--- a name of a class that may not be given: it was given before, or is one of the language's
+-- further classes of Java's whose meaning is used
+abbrev pub java_names : List (List ℕ)
+java_names =
+    codes "ArrayList" ∷ codes "LinkedHashSet" ∷ codes "HashSet" ∷ codes "Iterator" ∷ codes "Collections" ∷ codes "Math" ∷ codes "Objects" ∷ []
+
+-- a name of a class that may not be given: it was given before, or is one of the language's or of Java's
 abbrev pub is_taken : List RowClass → List ℕ → Bool
-is_taken classes name = has_class classes name || is_type_word name
+is_taken classes name = has_class classes name || (is_type_word name || is_among name java_names)
 
 -- the number of the table of a head. The class stands before the table's name, and at one place an unknown table comes first.
 abbrev pub table_known : List RowClass → Placed → Placed → ℕ → Result ℕ MapFault

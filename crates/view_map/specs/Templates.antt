@@ -146,9 +146,9 @@ fits_front (p ∷ ps) (q ∷ qs) = fits p q && fits_front ps qs
 abbrev pub fits_all : List Part → List Part → Bool
 fits_all ps qs = (length ps == length qs) && fits_front ps qs
 
--- what fits a template begins as what fits the other, so that one hides the other
+-- What fits a template begins as what fits the other, so that one hides the other. A call without arguments tells nothing of what each is given by.
 abbrev pub is_front : Template → Template → Bool
-is_front t u = fits_all t.front u.front && fits_all t.each u.each && fits_front t.back u.back
+is_front t u = fits_all t.front u.front && fits_front t.back u.back
 
 abbrev pub hide : Template → Template → Bool
 hide t u = is_front t u || is_front u t

@@ -179,7 +179,9 @@ pub record WorkedFaults : Type 0 where
   pub pattern_twice : IsFault (codes "table Line = line { } fetch Line = a(); fetch Line = a();") rules.DoubleName 53
   pub template_twice : IsFault (codes "queryLong = q($sql {, $arg}); queryLong = q($sql {, $arg});") rules.DoubleName 30
   pub language_class : IsFault (codes "table List = line { }") rules.DoubleName 6
+  pub java_class : IsFault (codes "table Objects = line { }") rules.DoubleName 6
   pub front_of_another : IsFault (codes "queryLong = q($sql {, $arg}); queryBoolean = q($sql {, $arg}).get(0);") rules.DoubleName 45
+  pub same_without_arguments : IsFault (codes "queryLong = q($sql {, $arg}); queryBoolean = q($sql {, p($arg)});") rules.DoubleName 45
   pub no_number : IsFault (codes "table Line = line { String id; }") rules.Mismatch 20
   pub long_for_int : IsFault (codes "constant int A.B = 5L;") rules.Mismatch 9
   pub may_be_null : IsFault (codes "table UserAccount = user_account { Long role_id; }") rules.Nullable 40

@@ -10,7 +10,7 @@ use crate::keys::Keys;
 use crate::model::{Member, RowClass};
 use crate::reading::{begins, fault_at, given, java_type, name, pair, sign, unexpected, within};
 use crate::words::fits_column;
-use java_words::is_type_word;
+use java_words::{is_among, is_type_word};
 use qbs_base::{Column, Fail, Items, Name, NoMemory, columns_at};
 use schema::Schema;
 use std::alloc::Global;
@@ -78,11 +78,23 @@ fn has_table(classes: &[RowClass], number: u32) -> bool
     classes.iter().any(|c| c.table == number)
 }
 
+/// Further classes of Java's whose meaning is used.
+const JAVA_NAMES: [&str; 7] = [
+    "ArrayList",
+    "LinkedHashSet",
+    "HashSet",
+    "Iterator",
+    "Collections",
+    "Math",
+    "Objects",
+];
+
 /// Whether a class of this name may not be given.
 fn is_taken(classes: &[RowClass], class: &Placed) -> bool
     ensures { result ≡ specs.is_taken classes.now class.now.name }
 {
-    has_class(classes, class.name.as_slice()) || is_type_word(class.name.as_str())
+    has_class(classes, class.name.as_slice())
+        || (is_type_word(class.name.as_str()) || is_among(class.name.as_str(), &JAVA_NAMES))
 }
 
 fn table_known(

@@ -302,11 +302,11 @@ fn fits_all(parts: &[Part], others: &[Part]) -> bool
     parts.len() == others.len() && fits_front(parts, others)
 }
 
+/// Whether a call without arguments that fits a template begins as one that fits the other.
 fn is_front(template: &Template, other: &Template) -> bool
     ensures { result ≡ specs.is_front template.now other.now }
 {
     fits_all(template.front.as_slice(), other.front.as_slice())
-        && fits_all(template.each.as_slice(), other.each.as_slice())
         && fits_front(template.back.as_slice(), other.back.as_slice())
 }
 

@@ -1,14 +1,14 @@
 // Statements of a file that was written, where a slice stood.
-use crate::file::known_of;
+use crate::file::Class;
 use crate::reader::{Reader, Trust};
 use crate::slices::copy_all;
 use crate::statements::LEVELS;
-use qbs_base::{Bytes, Fail, Items, NoMemory, Table};
+use indexmap::IndexMap;
+use qbs_base::{Bytes, Fail, Items, NoMemory};
 use std::alloc::Global;
-use view_map::ViewMap;
 use view_rules::{Param, Sighted};
 use view_scope::{Standing, is_in_sight_at, is_inside_try, standing_of};
-use view_shapes::{File, Stretch, blocks_of, end_of, has_name, members_of};
+use view_shapes::{Stretch, blocks_of, end_of};
 use view_statements::{Ending, Printed, Read, Slice, Statement, at_top};
 
 fn copy_bytes(alloc: Global, bytes: &[u8]) -> Result<Bytes, NoMemory> {
@@ -46,27 +46,94 @@ fn block_round(blocks: &[Stretch], at: Stretch) -> Option<Stretch> {
     innermost
 }
 
+/// Where each of some variables is declared, the first of its name, as far as it was found.
+#[derive(Drop)]
+struct Places<'b> {
+    numbers: IndexMap<&'b [u8], usize>,
+    places: Vec<Option<usize>>,
+}
+
+impl<'b> Places<'b> {
+    fn of(alloc: Global, variables: &'b [Sighted]) -> Result<Places<'b>, NoMemory> {
+        let mut numbers = IndexMap::new(alloc);
+        let mut places = Vec::new(alloc);
+        for (number, v) in variables.iter().enumerate() {
+            places.push(None)?;
+            match numbers.insert(v.name.as_slice(), number) {
+                Ok(_) => {}
+                Err(_) => return Err(NoMemory),
+            }
+        }
+        Ok(Places { numbers, places })
+    }
+
+    /// The number of the variable of a name whose place wasn't found yet.
+    fn missing(&self, name: &[u8]) -> Option<usize> {
+        let number = self.numbers.get(name).copied()?;
+        match self.places.get(number) {
+            Some(None) => Some(number),
+            _ => None,
+        }
+    }
+
+    fn put(&mut self, number: usize, place: usize) {
+        if let Some(slot) = self.places.get_mut(number) {
+            *slot = Some(place);
+        }
+    }
+}
+
 impl<'a> Reader<'a> {
-    /// Where a variable that is in sight at the next item is declared.
-    fn declared_before(
+    /// Whether an item may stand behind the name of what is declared.
+    fn may_follow_declared(&self, number: usize) -> bool {
+        matches!(self.bytes(number), b"=" | b";" | b"," | b":" | b")")
+    }
+
+    /// Whether the variable whose name stands at a number is in sight at the next item.
+    fn is_declared_at(
         &self,
         source: &view_shapes::Method,
         standing: &[Standing],
         v: &Sighted,
-    ) -> Option<usize> {
-        let items = self.method.items;
-        (source.name..self.at).find(|k| {
-            has_name(items, v.name.as_slice(), *k)
-                && is_in_sight_at(
-                    &self.within(),
-                    self.method.closings,
-                    standing,
-                    source,
-                    self.at,
-                    v.java,
-                    *k,
-                )
-        })
+        number: usize,
+    ) -> bool {
+        is_in_sight_at(
+            &self.within(),
+            self.method.closings,
+            standing,
+            source,
+            self.at,
+            v.java,
+            number,
+        )
+    }
+
+    /// Where the variables that are in sight at the next item are declared.
+    fn places<'b>(
+        &mut self,
+        source: &view_shapes::Method,
+        standing: &[Standing],
+        variables: &'b [Sighted],
+    ) -> Result<Places<'b>, NoMemory> {
+        let mut places = Places::of(self.alloc, variables)?;
+        let size = source.to.saturating_sub(source.name);
+        for k in source.name..self.at {
+            if !self.may_follow_declared(k.saturating_add(1)) {
+                continue;
+            }
+            let Some(number) = places.missing(self.bytes(k)) else {
+                continue;
+            };
+            if !self.pay(size) {
+                return Ok(places);
+            }
+            if let Some(v) = variables.get(number) {
+                if self.is_declared_at(source, standing, v, k) {
+                    places.put(number, k);
+                }
+            }
+        }
+        Ok(places)
     }
 
     /// Puts in sight what was in sight where the slice stood and is in sight here, with what it was handed and what isn't read.
@@ -76,9 +143,11 @@ impl<'a> Reader<'a> {
         standing: &[Standing],
         slice: &Slice,
     ) -> Result<(), NoMemory> {
-        for v in slice.outside.as_slice() {
-            if let Some(number) = self.declared_before(source, standing, v) {
-                self.put_outer(number, v.java, Trust::Sure)?;
+        let variables = slice.outside.as_slice();
+        let places = self.places(source, standing, variables)?;
+        for (v, place) in variables.iter().zip(places.places.as_slice().iter()) {
+            if let Some(number) = place {
+                self.put_outer(*number, v.java, Trust::Sure)?;
             }
         }
         for p in slice.params.as_slice() {
@@ -174,42 +243,63 @@ impl<'a> Reader<'a> {
     }
 }
 
-/// The statements of a file from one item up to another, where a slice of another file stood, read as they stand, with its variables from
-/// outside, its parameters and its prints; and the method round them with what may be read in it. None where they aren't read in full, or
-/// stand in no method that is seen. It fails only by want of memory.
+/// A method in which slices are read again: what may be read in it, its blocks, and the statements that stand in them.
+#[derive(Drop)]
+pub struct Again {
+    pub read: Read,
+    blocks: Items<Stretch>,
+    standing: Items<Standing>,
+}
+
+/// The method of a file in which items stand from one up to another. None where they stand in no method that is seen. Time goes with the number
+/// of members and the items of the method. It fails only by want of memory.
+pub fn method_again(
+    alloc: Global,
+    known: &Class,
+    from: usize,
+    to: usize,
+) -> Result<Option<Again>, NoMemory> {
+    let file = known.file();
+    let member = known
+        .members()
+        .iter()
+        .find(|member| member.from <= from && to <= member.to);
+    let Some(member) = member else {
+        return Ok(None);
+    };
+    let Some(read) = known.read(alloc, *member)? else {
+        return Ok(None);
+    };
+    let body = Stretch {
+        from: read.method.from,
+        to: read.method.to,
+    };
+    let blocks = blocks_of(alloc, file.items, file.closings, body)?;
+    let standing = standing_of(alloc, file.items, file.closings, body)?;
+    Ok(Some(Again {
+        read,
+        blocks,
+        standing,
+    }))
+}
+
+/// The statements of a method from one item up to another, where a slice of another file stood, read as they stand, with its variables from
+/// outside, its parameters and its prints. None where they aren't read in full. It fails only by want of memory.
 pub fn read_again(
     alloc: Global,
-    map: &ViewMap,
-    tables: &[Table],
-    file: &File,
+    known: &Class,
+    again: &Again,
     slice: &Slice,
     from: usize,
     to: usize,
-) -> Result<Option<(Read, Slice)>, NoMemory> {
-    let members = members_of(alloc, file.items, file.closings, file.class.from)?;
-    let known = known_of(alloc, map, tables, file, members.as_slice())?;
-    for member in members.as_slice() {
-        if member.from <= from && to <= member.to {
-            let Some(read) = known.read(alloc, *member)? else {
-                return Ok(None);
-            };
-            let body = Stretch {
-                from: read.method.from,
-                to: read.method.to,
-            };
-            let blocks = blocks_of(alloc, file.items, file.closings, body)?;
-            let standing = standing_of(alloc, file.items, file.closings, body)?;
-            let Some(block) = block_round(blocks.as_slice(), Stretch { from, to }) else {
-                return Ok(None);
-            };
-            let again = {
-                let mut reader = known.reader(alloc, &read, from);
-                reader.gets = !is_inside_try(file.items, file.closings, &read.method, from);
-                reader.put_slice(&read.method, standing.as_slice(), slice)?;
-                reader.read_slice(block, slice, to)?
-            };
-            return Ok(again.map(|slice| (read, slice)));
-        }
-    }
-    Ok(None)
+) -> Result<Option<Slice>, NoMemory> {
+    let file = known.file();
+    let read = &again.read;
+    let Some(block) = block_round(again.blocks.as_slice(), Stretch { from, to }) else {
+        return Ok(None);
+    };
+    let mut reader = known.reader(alloc, read, from);
+    reader.gets = !is_inside_try(file.items, file.closings, &read.method, from);
+    reader.put_slice(&read.method, again.standing.as_slice(), slice)?;
+    reader.read_slice(block, slice, to)
 }

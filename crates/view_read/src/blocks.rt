@@ -108,12 +108,14 @@ impl<'a> Reader<'a> {
         Ok(())
     }
 
-    fn is_looked_for(&self, place: usize, at: Stretch) -> bool {
-        match (self.trusts.get(place), self.sight.get(place)) {
-            (Some(Trust::Unknown | Trust::Tested), Some(v)) => {
-                is_named(self.method.items, v.name.as_slice(), at.from, at.to)
-            }
-            _ => false,
+    fn is_looked_for(&mut self, place: usize, at: Stretch) -> bool {
+        if !matches!(self.trusts.get(place), Some(Trust::Unknown | Trust::Tested)) {
+            return false;
+        }
+        let paid = self.pay(at.to.saturating_sub(at.from));
+        match self.sight.get(place) {
+            Some(v) => !paid || is_named(self.method.items, v.name.as_slice(), at.from, at.to),
+            None => false,
         }
     }
 
@@ -206,6 +208,28 @@ impl<'a> Reader<'a> {
         }
     }
 
+    /// Puts a row in sight that goes through the rows of a fetch, and is declared by `var` in the head of a `for`.
+    fn put_fetched(&mut self, around: &Around, declared: Declared) -> Result<(), NoMemory> {
+        let mark = self.mark();
+        self.at = declared.name.saturating_add(2);
+        let read = match self.fetch() {
+            Ok(read) => read,
+            Err(Fail::Fault(_)) => None,
+            Err(Fail::NoMemory) => return Err(NoMemory),
+        };
+        let is_whole = self.is_next(b")");
+        self.take_back(mark);
+        match read {
+            Some(read) if is_whole => match read.java {
+                JavaType::Rows(class) => {
+                    self.put_outside(around, declared.name, JavaType::Row(class))
+                }
+                _ => Ok(()),
+            },
+            _ => Ok(()),
+        }
+    }
+
     /// Puts in sight what is declared from a number on, where one of these signs stands behind the name and its type is seen.
     fn put_declared(
         &mut self,
@@ -222,6 +246,9 @@ impl<'a> Reader<'a> {
         }
         if declared.inferred && behind == b"=".as_slice() {
             return self.put_inferred(declared);
+        }
+        if declared.inferred && behind == b":".as_slice() {
+            return self.put_fetched(around, declared);
         }
         match type_at(&self.within(), declared.ty) {
             Some(spelled) if spelled.to == declared.name => {
@@ -336,6 +363,12 @@ impl<'a> Reader<'a> {
         at: Stretch,
         out: &mut Vec<Statement>,
     ) -> Result<Option<Unseen>, NoMemory> {
+        if !self.pay_for_try(at.to.saturating_sub(at.from)) {
+            return Ok(Some(Unseen {
+                reason: Reason::Statement,
+                at: at.from,
+            }));
+        }
         let mark = self.mark();
         let count = out.len();
         self.at = at.from;
@@ -491,7 +524,7 @@ impl<'a> Reader<'a> {
                 at: from,
             };
             finding.hidden.push(Hidden { from, to, unseen })?;
-            if self.asks && !refused {
+            if self.asks && !refused && self.pay_for_slice() {
                 let ending = ending_of(group);
                 let slice = self.slice(block, outer, from, to, statements, ending)?;
                 finding.slices.push(slice)?;

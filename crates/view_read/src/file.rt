@@ -1,18 +1,19 @@
 // All of a file: its class, its methods, and the loops that aren't seen.
+use crate::begins::{Begins, is_named};
 use crate::blocks::{Around, Finding, Hidden};
 use crate::reader::{Method as MethodWithin, Reader};
 use crate::reason::{Reason, Unseen};
 use crate::slices::holds_loop;
 use crate::statements::LEVELS;
-use qbs_base::{Bytes, Items, NoMemory, Table};
+use qbs_base::{Bytes, Items, Name, NoMemory, Table};
 use std::alloc::Global;
 use view_items::{Item, closes, closings, is_plain, items, opens, rounds, sign_of};
-use view_map::{Literal, ViewMap};
+use view_map::{Literal, Part, PatternItem, ViewMap};
 use view_rules::ClassConstant;
 use view_scope::{
     constants_of, first_is_free, hides, is_clear, is_free_in, is_no_field, is_pattern_free,
-    is_template_read, is_there, keeps_meaning, method_of, method_prefix_end, standing_of,
-    tested_in,
+    is_template_read, is_there, keeps_meaning, keeps_template, method_of, method_prefix_end,
+    standing_of, tested_in,
 };
 use view_shapes::{
     ClassPlace, File, Method, Stretch, class_of, end_of, is_plain_name, is_word, members_of,
@@ -102,18 +103,45 @@ fn hiding_item(map: &ViewMap, items: &[Item], class: usize) -> Option<usize> {
 
 // ---- Words
 
-/// A file, and what is known of its class, for all methods: which fetch patterns mean there what the map says, which constants of the map no
-/// field hides, the constants of the class, and which names of classes nothing obscures.
+/// The members of a class, and its constants.
+#[derive(Drop)]
+pub struct Parts {
+    pub members: Items<Stretch>,
+    pub constants: Items<ClassConstant>,
+}
+
+/// The members of a file's class, and its constants. It fails only by want of memory.
+pub fn parts_of(alloc: Global, file: &File) -> Result<Parts, NoMemory> {
+    let members = members_of(alloc, file.items, file.closings, file.class.from)?;
+    let constants = constants_of(alloc, file.items, file.closings, members.as_slice())?;
+    Ok(Parts { members, constants })
+}
+
+/// The name of a class that nothing obscures, and the number of its first item.
+#[derive(Clone, Copy)]
+struct Clear<'a> {
+    name: &'a [u8],
+    first: usize,
+}
+
+/// A file, and what is known of its class, for all methods. By the numbers of their first items: the fetch patterns and the templates that mean
+/// there what the map says, the constants of the map that no field hides, the constants of the class, and the classes that nothing obscures.
 #[derive(Drop)]
 pub struct Class<'a> {
     map: &'a ViewMap,
     tables: &'a [Table],
     file: &'a File<'a>,
-    kept: Vec<bool>,
-    no_field: Vec<bool>,
-    constants: Items<ClassConstant>,
-    clear: Vec<&'a [u8]>,
+    parts: &'a Parts,
+    begins: Begins<'a>,
+    fetches: Vec<Option<usize>>,
+    templates: Vec<Option<usize>>,
+    map_constants: Vec<Option<usize>>,
+    constants: Vec<usize>,
+    clear: Vec<Clear<'a>>,
 }
+
+/// How many items may be gone through in a method for its constants.
+const CONSTANT_LOOKS: usize = 33_554_432;
 
 const CLASSES: [&[u8]; 5] = [
     b"Objects",
@@ -123,56 +151,177 @@ const CLASSES: [&[u8]; 5] = [
     b"Iterator",
 ];
 
-fn clear_names<'a>(
-    alloc: Global,
-    map: &'a ViewMap,
-    items: &[Item],
-) -> Result<Vec<&'a [u8]>, NoMemory> {
-    let mut names: Vec<&'a [u8]> = Vec::new(alloc);
-    for name in CLASSES {
-        if is_clear(items, name) {
-            names.push(name)?;
-        }
+fn first_of_pattern(pattern: &[PatternItem]) -> &[u8] {
+    match pattern {
+        [first, ..] => first.bytes.as_slice(),
+        [] => &[],
     }
-    for c in map.classes.as_slice() {
-        if is_clear(items, c.class.as_slice()) {
-            names.push(c.class.as_slice())?;
-        }
-    }
-    Ok(names)
 }
 
+fn first_of_template(front: &[Part]) -> &[u8] {
+    match front {
+        [Part::Item(first), ..] => first.bytes.as_slice(),
+        _ => &[],
+    }
+}
+
+fn first_of_names(names: &[Name]) -> &[u8] {
+    match names {
+        [first, ..] => first.as_slice(),
+        [] => &[],
+    }
+}
+
+impl<'a> Class<'a> {
+    /// Nothing is known yet but the first items of all words.
+    fn begun(
+        alloc: Global,
+        map: &'a ViewMap,
+        tables: &'a [Table],
+        file: &'a File<'a>,
+        parts: &'a Parts,
+    ) -> Result<Class<'a>, NoMemory> {
+        let mut begins = Begins::new(alloc);
+        let mut fetches = Vec::new(alloc);
+        for fetch in map.fetches.as_slice() {
+            fetches.push(Some(begins.put(first_of_pattern(fetch.items.as_slice()))?))?;
+        }
+        let mut templates = Vec::new(alloc);
+        for template in map.templates.as_slice() {
+            templates.push(Some(begins.put(first_of_template(template.front.as_slice()))?))?;
+        }
+        let mut map_constants = Vec::new(alloc);
+        for constant in map.constants.as_slice() {
+            map_constants.push(Some(begins.put(first_of_names(constant.names.as_slice()))?))?;
+        }
+        let mut constants = Vec::new(alloc);
+        for constant in parts.constants.as_slice() {
+            constants.push(begins.put(constant.name.as_slice())?)?;
+        }
+        let mut clear = Vec::new(alloc);
+        for name in CLASSES {
+            let first = begins.put(name)?;
+            clear.push(Clear { name, first })?;
+        }
+        for class in map.classes.as_slice() {
+            let name = class.class.as_slice();
+            let first = begins.put(name)?;
+            clear.push(Clear { name, first })?;
+        }
+        Ok(Class {
+            map,
+            tables,
+            file,
+            parts,
+            begins,
+            fetches,
+            templates,
+            map_constants,
+            constants,
+            clear,
+        })
+    }
+
+    /// Leaves out the words that the file doesn't name, or that don't mean there what the map says.
+    fn keep_meant(&mut self, alloc: Global) -> Result<(), NoMemory> {
+        let named = self.begins.named(alloc, self.file.items)?;
+        self.keep_fetches(named.as_slice());
+        self.keep_templates(named.as_slice());
+        self.keep_constants(named.as_slice());
+        self.keep_clear(alloc, named.as_slice())
+    }
+
+    fn keep_fetches(&mut self, named: &[bool]) {
+        let file = self.file;
+        let members = self.parts.members.as_slice();
+        for (fetch, first) in self
+            .map
+            .fetches
+            .as_slice()
+            .iter()
+            .zip(self.fetches.as_mut_slice().iter_mut())
+        {
+            let kept = is_named(named, *first)
+                && keeps_meaning(
+                    self.map,
+                    file.items,
+                    file.closings,
+                    file.rounds,
+                    file.class,
+                    members,
+                    fetch,
+                );
+            if !kept {
+                *first = None;
+            }
+        }
+    }
+
+    fn keep_templates(&mut self, named: &[bool]) {
+        let file = self.file;
+        let members = self.parts.members.as_slice();
+        for (template, first) in self
+            .map
+            .templates
+            .as_slice()
+            .iter()
+            .zip(self.templates.as_mut_slice().iter_mut())
+        {
+            let kept = is_named(named, *first)
+                && keeps_template(
+                    self.map,
+                    file.items,
+                    file.closings,
+                    file.rounds,
+                    file.class,
+                    members,
+                    template,
+                );
+            if !kept {
+                *first = None;
+            }
+        }
+    }
+
+    fn keep_constants(&mut self, named: &[bool]) {
+        let file = self.file;
+        for (constant, first) in self
+            .map
+            .constants
+            .as_slice()
+            .iter()
+            .zip(self.map_constants.as_mut_slice().iter_mut())
+        {
+            let kept = is_named(named, *first)
+                && is_no_field(file.items, file.closings, file.rounds, constant);
+            if !kept {
+                *first = None;
+            }
+        }
+    }
+
+    fn keep_clear(&mut self, alloc: Global, named: &[bool]) -> Result<(), NoMemory> {
+        let all = std::mem::replace(&mut self.clear, Vec::new(alloc));
+        for class in all {
+            if is_named(named, Some(class.first)) && is_clear(self.file.items, class.name) {
+                self.clear.push(class)?;
+            }
+        }
+        Ok(())
+    }
+}
+
+/// What is known of a file with these parts, for all its methods. It fails only by want of memory.
 pub fn known_of<'a>(
     alloc: Global,
     map: &'a ViewMap,
     tables: &'a [Table],
     file: &'a File<'a>,
-    members: &[Stretch],
+    parts: &'a Parts,
 ) -> Result<Class<'a>, NoMemory> {
-    let mut kept = Vec::new(alloc);
-    for fetch in map.fetches.as_slice() {
-        kept.push(keeps_meaning(
-            file.items,
-            file.closings,
-            file.rounds,
-            file.class,
-            members,
-            fetch,
-        ))?;
-    }
-    let mut no_field = Vec::new(alloc);
-    for constant in map.constants.as_slice() {
-        no_field.push(is_no_field(file.items, constant))?;
-    }
-    Ok(Class {
-        map,
-        tables,
-        file,
-        kept,
-        no_field,
-        constants: constants_of(alloc, file.items, file.closings, members)?,
-        clear: clear_names(alloc, map, file.items)?,
-    })
+    let mut known = Class::begun(alloc, map, tables, file, parts)?;
+    known.keep_meant(alloc)?;
+    Ok(known)
 }
 
 /// Numbers, each of which is one more than the one before.
@@ -190,6 +339,10 @@ impl Numbers {
         }
     }
 
+    fn has_room(&self, most: usize) -> bool {
+        self.list.len() < most
+    }
+
     /// Takes the next number, or leaves it out.
     fn take(&mut self, wanted: bool) -> Result<(), NoMemory> {
         if wanted {
@@ -197,6 +350,16 @@ impl Numbers {
         }
         self.next = self.next.saturating_add(1);
         Ok(())
+    }
+}
+
+/// How many constants of a kind are listed of a method, since each is looked for in all of it.
+fn most_constants(m: &Method) -> usize {
+    let count = m.to.saturating_sub(m.name);
+    if count == 0 {
+        0
+    } else {
+        CONSTANT_LOOKS / count
     }
 }
 
@@ -234,12 +397,23 @@ impl<'a> Class<'a> {
         }
     }
 
-    fn fetches(&self, alloc: Global, m: &Method) -> Result<Items<u32>, NoMemory> {
+    fn named_fetches(
+        &self,
+        alloc: Global,
+        m: &Method,
+        named: &[bool],
+    ) -> Result<Items<u32>, NoMemory> {
         let file = self.file;
         let mut numbers = Numbers::new(alloc);
-        for (fetch, kept) in self.map.fetches.as_slice().iter().zip(self.kept.iter()) {
+        for (fetch, first) in self
+            .map
+            .fetches
+            .as_slice()
+            .iter()
+            .zip(self.fetches.as_slice().iter())
+        {
             numbers.take(
-                *kept
+                is_named(named, *first)
                     && is_pattern_free(
                         self.map,
                         file.items,
@@ -253,67 +427,116 @@ impl<'a> Class<'a> {
         Ok(numbers.list)
     }
 
-    fn templates(&self, alloc: Global, m: &Method) -> Result<Items<u32>, NoMemory> {
+    fn named_templates(
+        &self,
+        alloc: Global,
+        m: &Method,
+        named: &[bool],
+    ) -> Result<Items<u32>, NoMemory> {
         let file = self.file;
         let mut numbers = Numbers::new(alloc);
-        for t in self.map.templates.as_slice() {
-            numbers.take(is_template_read(self.map, file.items, file.closings, file.rounds, m, t))?;
-        }
-        Ok(numbers.list)
-    }
-
-    fn map_constants(&self, alloc: Global, m: &Method) -> Result<Items<u32>, NoMemory> {
-        let file = self.file;
-        let mut numbers = Numbers::new(alloc);
-        for (c, no_field) in self
+        for (template, first) in self
             .map
-            .constants
+            .templates
             .as_slice()
             .iter()
-            .zip(self.no_field.iter())
+            .zip(self.templates.as_slice().iter())
         {
             numbers.take(
-                *no_field
-                    && first_is_free(
+                is_named(named, *first)
+                    && is_template_read(
+                        self.map,
                         file.items,
                         file.closings,
                         file.rounds,
                         m,
-                        c.names.as_slice(),
+                        template,
                     ),
             )?;
         }
         Ok(numbers.list)
     }
 
-    fn own_constants(&self, alloc: Global, m: &Method) -> Result<Items<ClassConstant>, NoMemory> {
+    fn named_map_constants(
+        &self,
+        alloc: Global,
+        m: &Method,
+        named: &[bool],
+    ) -> Result<Items<u32>, NoMemory> {
         let file = self.file;
+        let most = most_constants(m);
+        let mut numbers = Numbers::new(alloc);
+        for (constant, first) in self
+            .map
+            .constants
+            .as_slice()
+            .iter()
+            .zip(self.map_constants.as_slice().iter())
+        {
+            let wanted = is_named(named, *first)
+                && numbers.has_room(most)
+                && first_is_free(
+                    file.items,
+                    file.closings,
+                    file.rounds,
+                    m,
+                    constant.names.as_slice(),
+                );
+            numbers.take(wanted)?;
+        }
+        Ok(numbers.list)
+    }
+
+    fn named_constants(
+        &self,
+        alloc: Global,
+        m: &Method,
+        named: &[bool],
+    ) -> Result<Items<ClassConstant>, NoMemory> {
+        let file = self.file;
+        let most = most_constants(m);
         let mut list = Items::new(alloc);
-        for c in self.constants.as_slice() {
-            if is_free_in(file.items, file.closings, file.rounds, m, c.name.as_slice()) {
-                list.push(copy_constant(alloc, c)?)?;
+        for (constant, first) in self
+            .parts
+            .constants
+            .as_slice()
+            .iter()
+            .zip(self.constants.as_slice().iter())
+        {
+            let name = constant.name.as_slice();
+            if is_named(named, Some(*first))
+                && list.len() < most
+                && is_free_in(file.items, file.closings, file.rounds, m, name)
+            {
+                list.push(copy_constant(alloc, constant)?)?;
             }
         }
         Ok(list)
     }
 
-    fn clear_words(&self, alloc: Global) -> Result<Items<Bytes>, NoMemory> {
+    fn named_clear(&self, alloc: Global, named: &[bool]) -> Result<Items<Bytes>, NoMemory> {
         let mut list = Items::new(alloc);
-        for name in self.clear.as_slice() {
-            list.push(copy_bytes(alloc, name)?)?;
+        for class in self.clear.as_slice() {
+            if is_named(named, Some(class.first)) {
+                list.push(copy_bytes(alloc, class.name)?)?;
+            }
         }
         Ok(list)
     }
 
-    /// What may be read in a method.
+    /// What may be read in a method, of what it names.
     fn words(&self, alloc: Global, m: &Method) -> Result<Words, NoMemory> {
+        let (_, rest) = self.file.items.split_at(m.name.min(self.file.items.len()));
+        let (items, _) = rest.split_at(m.to.saturating_sub(m.name).min(rest.len()));
+        let named = self.begins.named(alloc, items)?;
+        let named = named.as_slice();
         Ok(Words {
             classes: self.classes(alloc)?,
-            fetches: self.fetches(alloc, m)?,
-            templates: self.templates(alloc, m)?,
-            map_constants: self.map_constants(alloc, m)?,
-            constants: self.own_constants(alloc, m)?,
-            clear: self.clear_words(alloc)?,
+            fetches: self.named_fetches(alloc, m, named)?,
+            templates: self.named_templates(alloc, m, named)?,
+            map_constants: self.named_map_constants(alloc, m, named)?,
+            constants: self.named_constants(alloc, m, named)?,
+            clear: self.named_clear(alloc, named)?,
         })
     }
 
@@ -344,6 +567,14 @@ impl<'a> Class<'a> {
         reader.block(&around, body, LEVELS, finding)?;
         let found = std::mem::replace(&mut finding.slices, Vec::new(alloc));
         Ok(Items::from_vec(found))
+    }
+
+    pub fn file(&self) -> &'a File<'a> {
+        self.file
+    }
+
+    pub fn members(&self) -> &'a [Stretch] {
+        self.parts.members.as_slice()
     }
 
     /// A reader of a method, at an item.
@@ -625,9 +856,9 @@ fn find_in_file(
         places: Vec::new(alloc),
         hidden: Vec::new(alloc),
     };
-    let members = members_of(alloc, file.items, file.closings, file.class.from)?;
-    let known = known_of(alloc, map, tables, file, members.as_slice())?;
-    for member in members.as_slice() {
+    let parts = parts_of(alloc, file)?;
+    let known = known_of(alloc, map, tables, file, &parts)?;
+    for member in parts.members.as_slice() {
         known.take_member(alloc, refused, *member, &mut methods, &mut finding)?;
     }
     let loops = loops_of(alloc, file.items, file.closings)?;

@@ -3,6 +3,7 @@
 #![tactic(auto)]
 
 mod again;
+mod begins;
 mod blocks;
 mod deciding;
 mod expressions;
@@ -20,6 +21,6 @@ mod setting;
 mod slices;
 mod statements;
 
-pub use again::read_again;
-pub use file::{Loop, View, find_view};
+pub use again::{Again, method_again, read_again};
+pub use file::{Class, Loop, Parts, View, find_view, known_of, parts_of};
 pub use reason::{Reason, Unseen};

@@ -140,7 +140,7 @@ impl<'a> Reader<'a> {
     }
 
     /// `for (int i = 0; i < xs.size(); i++) { T x = xs.get(i);`, where neither i nor xs is named behind it.
-    fn index_loop(&self) -> Result<Option<Walk>, Fault> {
+    fn index_loop(&mut self) -> Result<Option<Walk>, Fault> {
         let at = self.at;
         let number = at.saturating_add(3);
         let index = self.bytes(number);
@@ -153,7 +153,7 @@ impl<'a> Reader<'a> {
         Ok(self.index_walk(at.saturating_add(9), index))
     }
 
-    fn index_walk(&self, list: usize, index: &[u8]) -> Option<Walk> {
+    fn index_walk(&mut self, list: usize, index: &[u8]) -> Option<Walk> {
         let many = self.own_list(list)?;
         let count = list.saturating_add(6);
         let first = self.counts(count, index, true);
@@ -172,7 +172,7 @@ impl<'a> Reader<'a> {
 
     /// A loop whose body goes on so many items behind its variable, and names neither the list nor what counts or iterates.
     fn walk_of(
-        &self,
+        &mut self,
         list: usize,
         first: bool,
         taken: (usize, JavaType),
@@ -183,6 +183,9 @@ impl<'a> Reader<'a> {
         let (name, java) = taken;
         let from = name.saturating_add(far);
         let close = self.closing(brace);
+        if !self.pay(close.saturating_sub(from).saturating_mul(2)) {
+            return None;
+        }
         let items = self.method.items;
         if is_named(items, other, from, close) || is_named(items, self.bytes(list), from, close) {
             return None;
@@ -198,7 +201,7 @@ impl<'a> Reader<'a> {
     }
 
     /// `for (Iterator<E> it = xs.iterator(); it.hasNext();) { T x = it.next();`, where neither it nor xs is named behind it.
-    fn iterator_loop(&self) -> Option<Walk> {
+    fn iterator_loop(&mut self) -> Option<Walk> {
         let at = self.at;
         if !self.is_clear(b"Iterator") || !self.are(at, &[b"for", b"(", b"Iterator"]) {
             return None;
@@ -212,7 +215,7 @@ impl<'a> Reader<'a> {
         }
     }
 
-    fn iterator_walk(&self, number: usize, element: JavaType) -> Option<Walk> {
+    fn iterator_walk(&mut self, number: usize, element: JavaType) -> Option<Walk> {
         let iterator = self.bytes(number);
         let list = number.saturating_add(2);
         let many = self.own_list(list)?;

@@ -24,8 +24,23 @@ pub struct Method<'a> {
 /// How many variables there may be in sight: of further ones nothing is seen.
 pub const MOST_IN_SIGHT: usize = 256;
 
-/// How many items may be gone through in a method beside those that are read: for guards, prints and fresh names.
+/// How many items may be gone through in a method beside those that are read: for guards, prints and fresh names. Statements inside of one
+/// another are read anew at each level, which takes at most as many once more.
 const LOOKS: usize = 8_388_608;
+
+/// How many items what checks slices may go through, where it goes through the method for each.
+const CHECKS: usize = 67_108_864;
+
+/// Less by a count, where there is so much.
+fn spend(left: &mut usize, count: usize) -> bool {
+    match left.checked_sub(count) {
+        Some(rest) => {
+            *left = rest;
+            true
+        }
+        None => false,
+    }
+}
 
 /// What is known of a variable in sight beside its type.
 #[derive(Clone, Copy, PartialEq, Eq)]
@@ -65,6 +80,10 @@ pub struct Reader<'a> {
     pub operators: usize,
     /// How many items may still be gone through beside those that are read.
     pub looks: usize,
+    /// How many items may still be read anew inside of statements that weren't read.
+    pub tries: usize,
+    /// How many items may still be gone through to check slices.
+    pub checks: usize,
     /// Fresh names of the method: of what goes through a list that is printed, and of what a group sets. None until they are wanted.
     pub each: Option<Bytes>,
     pub found: Option<Bytes>,
@@ -132,6 +151,8 @@ impl<'a> Reader<'a> {
             asks: false,
             operators: 0,
             looks: LOOKS,
+            tries: LOOKS,
+            checks: CHECKS,
             each: None,
             found: None,
         }
@@ -139,13 +160,18 @@ impl<'a> Reader<'a> {
 
     /// Whether so many items may be gone through once more.
     pub fn pay(&mut self, count: usize) -> bool {
-        match self.looks.checked_sub(count) {
-            Some(left) => {
-                self.looks = left;
-                true
-            }
-            None => false,
-        }
+        spend(&mut self.looks, count)
+    }
+
+    /// Whether a statement of so many items may be read.
+    pub fn pay_for_try(&mut self, count: usize) -> bool {
+        spend(&mut self.tries, count)
+    }
+
+    /// Whether there may be one more slice.
+    pub fn pay_for_slice(&mut self) -> bool {
+        let count = self.method.end.saturating_sub(self.method.name);
+        spend(&mut self.checks, count)
     }
 
     // ---- Items

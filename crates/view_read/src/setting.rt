@@ -5,7 +5,7 @@ use crate::reader::{Fault, MOST_IN_SIGHT, Reader, Variable};
 use crate::reason::{Reason, miss};
 use view_map::ScalarKind;
 use view_rules::{
-    ColumnName, Expression, JavaType, is_many, is_number, is_scalar, level_of, may_be_added,
+    ColumnName, Expression, JavaType, is_int, is_many, is_number, level_of, may_be_added,
     may_be_assigned, type_at,
 };
 use view_scope::java_type_end;
@@ -25,6 +25,22 @@ fn is_inferred(java: JavaType) -> bool {
     match java {
         JavaType::Scalar(t) => !t.boxed || t.kind == ScalarKind::Text,
         _ => false,
+    }
+}
+
+/// Whether a variable has the kind of a value, boxed or not.
+fn has_kind_of(java: JavaType, value: JavaType) -> bool {
+    match (java, value) {
+        (JavaType::Scalar(x), JavaType::Scalar(e)) => x.kind == e.kind,
+        _ => false,
+    }
+}
+
+/// Whether a query is narrowed to an `int` only for a variable that is one.
+fn is_narrowed_well(java: JavaType, value: &Expression) -> bool {
+    match value {
+        Expression::Query { cast, .. } => !*cast || is_int(java),
+        _ => true,
     }
 }
 
@@ -180,7 +196,7 @@ impl<'a> Reader<'a> {
         } else {
             self.expression(ROOM)?
         };
-        if may_be_assigned(java, value.java) {
+        if may_be_assigned(java, value.java) && is_narrowed_well(java, &value.tree) {
             Ok(value)
         } else {
             Err(miss(Reason::Expression, at))
@@ -241,7 +257,7 @@ impl<'a> Reader<'a> {
         let end = self.block_end(name);
         let items = self.method.items;
         if place.looped
-            && is_scalar(java)
+            && has_kind_of(java, value.java)
             && self.pay(end.saturating_sub(self.at).saturating_mul(2))
             && !may_be_set(items, self.bytes(name), self.at, end)
             && !may_be_set(items, self.bytes(*at), self.at, end)

@@ -1,5 +1,5 @@
 -- Fetches, and queries by the map's templates.
-use Rattle.std.specs.Prelude.{ℕ, List, [], ◌∷◌, Bool, true, false, ◌&&◌, ◌||◌, not, ◌+◌, ◌-◌, nat_le, Option, Some, None, slice_get, codes, if◌then◌else◌}
+use Rattle.std.specs.Prelude.{ℕ, List, [], ◌∷◌, Bool, true, false, ◌&&◌, ◌||◌, not, ◌+◌, ◌-◌, nat_le, Option, Some, None, is_some, slice_get, codes, if◌then◌else◌}
 use Rattle.view_map.specs.declared.model.FetchPattern.{FetchPattern}
 use Rattle.view_map.specs.declared.model.Part.{Part}
 use Rattle.view_map.specs.declared.model.Part.TheVariants as parts
@@ -16,7 +16,7 @@ use Rattle.view_rules.specs.Lists.{is_list}
 use Rattle.view_rules.specs.Literals.{is_text}
 use Rattle.view_rules.specs.Names.{Seen}
 use Rattle.view_rules.specs.Options.{◌>>=◌, where_so}
-use Rattle.view_rules.specs.Setting.{Within, is_at, past, past_all, next, here, is_number_among}
+use Rattle.view_rules.specs.Setting.{Within, is_at, past, past_all, next, here, is_number_among, is_clear}
 use Rattle.view_rules.specs.Spelled.{element_word, bytes_at}
 
 -- ---- Fetches
@@ -73,11 +73,18 @@ may_be_elements w _ = false
 abbrev pub past_text : Within → ℕ → ℕ → Option ℕ
 past_text w text i = here text i >>= λ h. (if is_text (bytes_at w h) then next w h else None)
 
+-- a class is named before `.class`, where it is a type whatever else has its name, or nothing obscures it in the file
+abbrev pub is_class_name : Within → List ℕ → ℕ → Bool
+is_class_name w word i = is_some (past_all w (codes "." ∷ codes "class" ∷ []) i) || is_clear w word
+
+abbrev pub past_class : Within → List ℕ → ℕ → Option ℕ
+past_class w word i = past w word i >>= λ j. where_so (is_class_name w word j) j
+
 -- a part of a template outside of its arguments
 abbrev pub past_part : Within → ℕ → JavaType → Part → ℕ → Option ℕ
 past_part w text java (parts.Item item) i = past w item.bytes i
 past_part w text java parts.Sql i = past_text w text i
-past_part w text java parts.Type i = if may_be_elements w java then past w (class_of_elements w java) i else None
+past_part w text java parts.Type i = if may_be_elements w java then past_class w (class_of_elements w java) i else None
 past_part w text java parts.Number i = None
 past_part w text java parts.Argument i = None
 

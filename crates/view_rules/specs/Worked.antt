@@ -8,6 +8,7 @@ use Rattle.view_items.specs.declared.item.Item.{Item}
 use Rattle.view_items.specs.declared.item.ItemKind.TheVariants as items
 use Rattle.view_map.specs.declared.model.Constant.{Constant}
 use Rattle.view_map.specs.declared.model.Member.{Member}
+use Rattle.view_map.specs.declared.model.Part.TheVariants as parts
 use Rattle.view_map.specs.declared.model.RowClass.{RowClass}
 use Rattle.view_map.specs.declared.model.ScalarKind.{ScalarKind}
 use Rattle.view_map.specs.declared.model.ScalarKind.TheVariants as kinds
@@ -21,6 +22,7 @@ use Rattle.view_rules.specs.declared.sight.Sighted.{Sighted}
 use Rattle.view_rules.specs.Cells.{expression_cells}
 use Rattle.view_rules.specs.Seen.{expression_of}
 use Rattle.view_rules.specs.Names.{Seen}
+use Rattle.view_rules.specs.Queries.{past_part}
 use Rattle.view_rules.specs.Setting.{Within}
 use Rattle.view_rules.specs.Tree.{PlainExpression}
 use Rattle.view_rules.specs.Tree as plain
@@ -74,8 +76,9 @@ items_from n (word ∷ words) = record { kind = items.Name; bytes = word; from =
 abbrev pub param : List ℕ → Param
 param name = record { variable = name; column = None; name = name }
 
-abbrev pub within : List (List ℕ) → Within
-within words =
+-- of these words, where nothing obscures these names of classes
+abbrev pub within_clear : List (List ℕ) → List (List ℕ) → Within
+within_clear words clear =
     record {
       map = accounts_map;
       tables = accounts ∷ [];
@@ -87,9 +90,12 @@ within words =
       constants = [];
       params = param (codes "roleId") ∷ param (codes "login") ∷ [];
       tested = [];
-      clear = [];
+      clear = clear;
       gets = true;
     }
+
+abbrev pub within : List (List ℕ) → Within
+within words = within_clear words []
 
 abbrev pub scalar : ScalarKind → Bool → JavaType
 scalar kind boxed = types.Scalar (record { kind = kind; boxed = boxed })
@@ -199,3 +205,14 @@ sum = plain.Binary ops.Plus (plain.Variable 0) 1 (plain.Binary ops.Times (plain.
 
 abbrev pub product : PlainExpression
 product = plain.Binary ops.Times (plain.Binary ops.Plus (plain.Variable 0) 1 (plain.Variable 2)) 3 (plain.Variable 4)
+
+-- UserAccount.class, and UserAccount.of
+abbrev pub literal_words : List (List ℕ)
+literal_words = codes "UserAccount" ∷ codes "." ∷ codes "class" ∷ []
+
+abbrev pub named_words : List (List ℕ)
+named_words = codes "UserAccount" ∷ codes "." ∷ codes "of" ∷ []
+
+-- where `$type` of a template ends, for a list of rows
+abbrev pub type_end : List (List ℕ) → List (List ℕ) → Option ℕ
+type_end words clear = past_part (within_clear words clear) 0 (types.Rows 0) parts.Type 0

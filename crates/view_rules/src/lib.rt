@@ -38,6 +38,7 @@ pub use lists::{is_list, is_many, many_at};
 pub use literals::{literal_kind, signed_kind};
 pub use names::{column_name, is_param, may_be_read, member_of, past_member, variable_at};
 pub use pushing::{put_expression, put_wrapped};
+pub use queries::fetch_at;
 pub use sight::{ClassConstant, ColumnName, Param, Sighted, find_sighted};
 pub use spelled::{Spelled, argument_at, kind_word, table_of, type_at};
 pub use steps::{bytes_at, here, is_at, is_clear, is_name_among, next, past, past_all};

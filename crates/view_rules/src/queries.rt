@@ -6,7 +6,7 @@ ghost use Rattle.view_rules.specs.Setting.{within_of, past as past_of};
 use crate::decisions::{boxed_type, is_scalar, unboxed_type};
 use crate::literals::is_text;
 use crate::spelled::element_word;
-use crate::steps::{bytes_at, here, is_at, is_number_among, next, past, past_all};
+use crate::steps::{bytes_at, here, is_at, is_clear, is_number_among, next, past, past_all};
 use crate::{JavaType, Within};
 use view_map::{FetchPattern, Part, PatternItem, QueryKind, ScalarKind, Template};
 
@@ -122,6 +122,24 @@ fn past_text(w: &Within, text: usize, i: usize) -> Option<usize>
     }
 }
 
+/// Whether a class is named before `.class`, or nothing obscures it.
+fn is_class_name(w: &Within, word: &[u8], i: usize) -> bool
+    ensures { result ≡ specs.is_class_name (within_of w.now) word.now i }
+{
+    past_all(w, &[b".", b"class"], i).is_some() || is_clear(w, word)
+}
+
+fn past_class(w: &Within, word: &[u8], i: usize) -> Option<usize>
+    ensures { result ≡ specs.past_class (within_of w.now) word.now i }
+{
+    let j = past(w, word, i)?;
+    if is_class_name(w, word, j) {
+        Some(j)
+    } else {
+        None
+    }
+}
+
 fn past_part(w: &Within, text: usize, java: JavaType, part: &Part, i: usize) -> Option<usize>
     ensures { result ≡ specs.past_part (within_of w.now) text java part.now i }
 {
@@ -130,7 +148,7 @@ fn past_part(w: &Within, text: usize, java: JavaType, part: &Part, i: usize) -> 
         Part::Sql => past_text(w, text, i),
         Part::Type => {
             if may_be_elements(w, java) {
-                past(w, class_of_elements(w, java), i)
+                past_class(w, class_of_elements(w, java), i)
             } else {
                 None
             }

@@ -44,3 +44,10 @@ pub fn operators_bind_as_in_java()
     ensures sum { w.seen w.sum_words w.sum ≡ Some (5, w.scalar kinds.Int false) }
     ensures product { w.seen w.sum_words w.product ≡ None }
 {}
+
+/// The class of a query's rows is named before `.class`, or where nothing obscures its name.
+pub fn a_class_is_named_where_it_is_one()
+    ensures literal { w.type_end w.literal_words [] ≡ Some 1 }
+    ensures obscured { w.type_end w.named_words [] ≡ None }
+    ensures clear { w.type_end w.named_words (codes "UserAccount" ∷ []) ≡ Some 1 }
+{}

@@ -20,8 +20,8 @@ use Rattle.view_map.specs.declared.model.Part.{Part}
 use Rattle.view_shapes.specs.declared.method.Method.{Method}
 use Rattle.view_shapes.specs.declared.method.Parameter.{Parameter}
 use Rattle.view_scope.specs.Methods.{method_prefix_end, parameter_at}
-use Rattle.view_scope.specs.Obscured.{word_at, is_there, is_clear}
-use Rattle.view_scope.specs.Patterns.{bytes_of, is_own_call, is_variable, is_loose_at, is_loose_part, item_of, begins_own, first_at}
+use Rattle.view_scope.specs.Obscured.{word_at, is_there, is_class_name, is_capital, is_typed, is_clear}
+use Rattle.view_scope.specs.Patterns.{bytes_of, is_own_call, is_variable, is_loose_at, may_be_hidden, is_own_part_call, is_part_variable, is_loose_part, may_part_be_hidden, item_of, begins_own, first_at, first_of_parts}
 
 -- ---- Free names
 
@@ -32,10 +32,7 @@ is_no_parameter items name ps = list_all (λ p. not (is_word name items p.name))
 abbrev pub is_free_in : List Item → List ℕ → List ℕ → Method → List ℕ → Bool
 is_free_in items closings rounds m name = is_no_parameter items name m.parameters && is_free items closings rounds name m.from m.to
 
--- it is that of a class of the map
-abbrev pub is_class_name : ViewMap → List ℕ → Bool
-is_class_name map name = list_any (λ c. bytes_eq c.class name) map.classes
-
+-- of a class of the map no more is asked in a method: that nothing obscures it is asked once for a file
 abbrev pub may_be_read : ViewMap → List Item → List ℕ → List ℕ → Method → List ℕ → Bool
 may_be_read map items closings rounds m name = is_class_name map name || is_free_in items closings rounds m name
 
@@ -65,20 +62,6 @@ same_number (Some j) k = j == k
 
 abbrev pub is_in_class : List ℕ → ClassPlace → ℕ → Bool
 is_in_class rounds class k = same_number (slice_get rounds k) (class.from - 1)
-
--- the item may end a type
-abbrev pub primitive_words : List (List ℕ)
-primitive_words =
-    codes "int" ∷ codes "long" ∷ codes "boolean" ∷ codes "char" ∷ codes "byte" ∷ codes "short" ∷ codes "float" ∷ codes "double" ∷ codes "void" ∷ []
-
-abbrev pub ends_type : List Item → ℕ → Bool
-ends_type items k =
-    (is_called items k && not (is_word (codes "yield") items k)) || is_one_of_words primitive_words items k
-    || is_one_of_signs (codes ">" ∷ codes "]" ∷ []) items k
-
--- a type stands before the item
-unfoldable pub is_typed : List Item → ℕ → Bool
-is_typed items k = before (ends_type items) k
 
 abbrev pub is_typed_name : List Item → List ℕ → ClassPlace → List ℕ → ℕ → Bool
 is_typed_name items rounds class name k = is_word name items k && is_in_class rounds class k && is_typed items k
@@ -160,22 +143,28 @@ is_said_here class (Some c) = bytes_eq c class
 
 -- the pattern calls on the object itself a method that the class declares
 abbrev pub calls_own : List Item → List ℕ → ClassPlace → List PatternItem → ℕ → Bool
-calls_own items rounds class is k = is_own_call is k && declares_method_in items rounds class (bytes_of (slice_get is k)) class.from class.to
+calls_own items rounds class is k =
+    is_own_call (word_at items class.name) is k && declares_method_in items rounds class (bytes_of (slice_get is k)) class.from class.to
 
 abbrev pub calls_own_in : List Item → List ℕ → ClassPlace → List PatternItem → ℕ → ℕ → Bool
 calls_own_in items rounds class is from to = list_any (calls_own items rounds class is) (numbers from (to - from))
 
 -- the variable of the object itself that the pattern names there is kept
-abbrev pub is_kept_at : List Item → List ℕ → ClassPlace → List Stretch → List PatternItem → ℕ → Bool
-is_kept_at items closings class members is k = not (is_variable is k) || is_kept items closings class members (bytes_of (slice_get is k))
+abbrev pub is_variable_kept : List Item → List ℕ → ClassPlace → List Stretch → List PatternItem → ℕ → Bool
+is_variable_kept items closings class members is k =
+    not (is_variable (word_at items class.name) is k) || is_kept items closings class members (bytes_of (slice_get is k))
 
-abbrev pub are_kept : List Item → List ℕ → ClassPlace → List Stretch → List PatternItem → ℕ → ℕ → Bool
-are_kept items closings class members is from to = list_all (is_kept_at items closings class members is) (numbers from (to - from))
+-- a name is that of no class of the map, or nothing obscures it
+abbrev pub is_meant : ViewMap → List Item → List ℕ → Bool
+is_meant map items name = not (is_class_name map name) || is_clear items name
 
--- a capital letter, with which by custom a class begins and no field
-abbrev pub is_capital : List ℕ → Bool
-is_capital [] = false
-is_capital (b ∷ bs) = nat_le 65 b && nat_le b 90
+-- so it is, and no variable hides a class of the map
+abbrev pub is_kept_at : ViewMap → List Item → List ℕ → ClassPlace → List Stretch → List PatternItem → ℕ → Bool
+is_kept_at map items closings class members is k =
+    is_variable_kept items closings class members is k && (not (may_be_hidden is k) || is_meant map items (bytes_of (slice_get is k)))
+
+abbrev pub are_kept : ViewMap → List Item → List ℕ → ClassPlace → List Stretch → List PatternItem → ℕ → ℕ → Bool
+are_kept map items closings class members is from to = list_all (is_kept_at map items closings class members is) (numbers from (to - from))
 
 -- the first name is that of a field of the class, or nothing may declare a variable of it
 abbrev pub is_field_or_clear : List Item → List ℕ → ClassPlace → List ℕ → Bool
@@ -184,24 +173,58 @@ is_field_or_clear items rounds class name = (not (is_capital name) && declares_f
 -- no parenthesis that is dotted stands before the first name
 abbrev pub is_first_clear : List Item → List ℕ → ClassPlace → List PatternItem → ℕ → Bool
 is_first_clear items rounds class is k =
-    begins_own is k && (not (is_variable is k) || is_field_or_clear items rounds class (bytes_of (slice_get is k)))
+    begins_own is k
+    && (not (is_variable (word_at items class.name) is k) || is_field_or_clear items rounds class (bytes_of (slice_get is k)))
 
 -- A fetch pattern means in the class what the map says: it calls no method that the class declares, unless the map has it for this class; the
--- fields that it names are set by constructors and setters alone; and where it begins with a class, no field or variable has its name.
-abbrev pub keeps_meaning : List Item → List ℕ → List ℕ → ClassPlace → List Stretch → FetchPattern → Bool
-keeps_meaning items closings rounds class members f =
+-- fields that it names are set by constructors and setters alone; no field or variable has the name of a class of the map that it names
+-- elsewhere than before `.class`; and where it begins with a class, none has its name.
+abbrev pub keeps_meaning : ViewMap → List Item → List ℕ → List ℕ → ClassPlace → List Stretch → FetchPattern → Bool
+keeps_meaning map items closings rounds class members f =
     is_there (word_at items class.name) f.within
     && (is_said_here (word_at items class.name) f.within || not (calls_own_in items rounds class f.items 0 (length f.items)))
-    && are_kept items closings class members f.items 0 (length f.items)
+    && are_kept map items closings class members f.items 0 (length f.items)
     && is_first_clear items rounds class f.items (first_at f.items)
 
 -- it may be read in the method
 abbrev pub is_fetch_read : ViewMap → List Item → List ℕ → List ℕ → ClassPlace → Method → FetchPattern → Bool
 is_fetch_read map items closings rounds class m f =
-    keeps_meaning items closings rounds class (members_of items closings class.from) f && is_pattern_free map items closings rounds m f.items
+    keeps_meaning map items closings rounds class (members_of items closings class.from) f && is_pattern_free map items closings rounds m f.items
 
 -- ---- Templates
 
+-- a template calls on the object itself a method that the class declares
+abbrev pub calls_own_part : List Item → List ℕ → ClassPlace → List Part → ℕ → Bool
+calls_own_part items rounds class ps k =
+    is_own_part_call (word_at items class.name) ps k && declares_method_in items rounds class (bytes_of (item_of ps k)) class.from class.to
+
+-- the variable of the object itself that it names there is kept
+abbrev pub is_part_variable_kept : List Item → List ℕ → ClassPlace → List Stretch → List Part → ℕ → Bool
+is_part_variable_kept items closings class members ps k =
+    not (is_part_variable (word_at items class.name) ps k) || is_kept items closings class members (bytes_of (item_of ps k))
+
+abbrev pub is_part_kept : ViewMap → List Item → List ℕ → List ℕ → ClassPlace → List Stretch → List Part → ℕ → Bool
+is_part_kept map items closings rounds class members ps k =
+    not (calls_own_part items rounds class ps k) && is_part_variable_kept items closings class members ps k
+    && (not (may_part_be_hidden ps k) || is_meant map items (bytes_of (item_of ps k)))
+
+abbrev pub are_parts_kept : ViewMap → List Item → List ℕ → List ℕ → ClassPlace → List Stretch → List Part → ℕ → ℕ → Bool
+are_parts_kept map items closings rounds class members ps from to =
+    list_all (is_part_kept map items closings rounds class members ps) (numbers from (to - from))
+
+abbrev pub is_no_class_or_clear : List Item → List ℕ → Bool
+is_no_class_or_clear items name = not (is_capital name) || is_clear items name
+
+-- A template means in the class what the map says: it calls no method that the class declares; the fields that it names are set by constructors
+-- and setters alone; and no field or variable has the name of a class of the map that it names elsewhere than before `.class`, or of a class
+-- that it begins with.
+abbrev pub keeps_template : ViewMap → List Item → List ℕ → List ℕ → ClassPlace → List Stretch → Template → Bool
+keeps_template map items closings rounds class members t =
+    is_no_class_or_clear items (first_of_parts t.front) && are_parts_kept map items closings rounds class members t.front 0 (length t.front)
+    && are_parts_kept map items closings rounds class members t.each 0 (length t.each)
+    && are_parts_kept map items closings rounds class members t.back 0 (length t.back)
+
+-- its names are free in the method
 abbrev pub is_template_read : ViewMap → List Item → List ℕ → List ℕ → Method → Template → Bool
 is_template_read map items closings rounds m t =
     are_parts_free map items closings rounds m t.front 0 (length t.front) && are_parts_free map items closings rounds m t.each 0 (length t.each)
@@ -216,14 +239,16 @@ is_beside_dot items name k = not (is_word name items k) || before (is_sign (code
 abbrev pub are_beside_dots : List Item → List ℕ → ℕ → ℕ → Bool
 are_beside_dots items name from to = list_all (is_beside_dot items name) (numbers from (to - from))
 
--- the first name of several stands nowhere in the file but beside a dot, so that no field has it
-abbrev pub is_no_field : List Item → List (List ℕ) → Bool
-is_no_field items (n ∷ o ∷ ns) = are_beside_dots items n 0 (length items)
-is_no_field items ns = true
+-- No field has the first name of a constant: of several it stands nowhere in the file but beside a dot, and a lone one nowhere where it may be
+-- declared.
+abbrev pub is_no_field : List Item → List ℕ → List ℕ → List (List ℕ) → Bool
+is_no_field items closings rounds (n ∷ o ∷ ns) = are_beside_dots items n 0 (length items)
+is_no_field items closings rounds (n ∷ []) = is_free items closings rounds n 0 (length items)
+is_no_field items closings rounds [] = true
 
 abbrev pub first_is_free : List Item → List ℕ → List ℕ → Method → List (List ℕ) → Bool
 first_is_free items closings rounds m [] = false
 first_is_free items closings rounds m (n ∷ ns) = is_free_in items closings rounds m n
 
 abbrev pub is_constant_read : List Item → List ℕ → List ℕ → Method → Constant → Bool
-is_constant_read items closings rounds m c = is_no_field items c.names && first_is_free items closings rounds m c.names
+is_constant_read items closings rounds m c = is_no_field items closings rounds c.names && first_is_free items closings rounds m c.names

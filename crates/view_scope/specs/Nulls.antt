@@ -7,22 +7,22 @@ use Rattle.view_items.specs.declared.item.Item.{Item}
 use Rattle.view_items.specs.Brackets.{if_some}
 use Rattle.view_shapes.specs.declared.members.Stretch.{Stretch}
 use Rattle.view_shapes.specs.Found.{is_word, is_sign, is_name, is_one_of_words, is_one_of_signs, before, closing_at}
-use Rattle.view_shapes.specs.Mentions.{numbers, is_named}
+use Rattle.view_shapes.specs.Mentions.{numbers, is_mention}
 use Rattle.view_shapes.specs.Uses.{is_called}
 
 abbrev pub from_to : ℕ → ℕ → Stretch
 from_to from to = record { from = from; to = to }
 
--- what an operand of `==` or `!=` doesn't go over
+-- What an operand of `==` or `!=` doesn't go over. A comma, a question mark and a brace may stand in one: `x.<A, List<?>>conv()`,
+-- `new Conv(x) { }.get()`.
 abbrev pub bounding_signs : List (List ℕ)
 bounding_signs =
-    codes "&&" ∷ codes "||" ∷ codes "==" ∷ codes "!=" ∷ codes "?" ∷ codes ":" ∷ codes "," ∷ codes ";" ∷ codes "=" ∷ codes "->" ∷ codes "{"
-    ∷ codes "}" ∷ []
+    codes "&&" ∷ codes "||" ∷ codes "==" ∷ codes "!=" ∷ codes ":" ∷ codes ";" ∷ codes "=" ∷ codes "->" ∷ codes "}" ∷ []
 
 abbrev pub bounds : List Item → ℕ → Bool
 bounds items k =
     is_one_of_signs bounding_signs items k
-    || is_one_of_words (codes "return" ∷ codes "case" ∷ codes "throw" ∷ codes "else" ∷ codes "yield" ∷ codes "assert" ∷ []) items k
+    || is_one_of_words (codes "return" ∷ codes "case" ∷ codes "throw" ∷ codes "else" ∷ codes "assert" ∷ []) items k
 
 -- two items stand directly in one bracket, or outside of all
 abbrev pub same_numbers : Option ℕ → Option ℕ → Bool
@@ -122,14 +122,45 @@ testing_calls =
     ∷ codes "hasText" ∷ codes "hasLength" ∷ codes "isNullOrEmpty" ∷ codes "requireNonNullElse" ∷ codes "requireNonNullElseGet"
     ∷ codes "defaultString" ∷ codes "defaultIfNull" ∷ codes "firstNonNull" ∷ []
 
--- the call tests its first argument, which is one item: `toString` where another one follows
-abbrev pub is_testing_call : List Item → ℕ → Bool
-is_testing_call items k =
-    (is_one_of_words testing_calls items k && is_one_of_signs (codes "," ∷ codes ")" ∷ []) items (k + 3))
-    || (is_word (codes "toString") items k && is_sign (codes ",") items (k + 3))
+-- the item ends the first argument of the call whose parenthesis is opening at a number
+abbrev pub ends_argument : List Item → List ℕ → ℕ → ℕ → Bool
+ends_argument items rounds opening k = is_around rounds opening k && is_one_of_signs (codes "," ∷ codes ")" ∷ []) items k
 
-abbrev pub tested_first : List Item → ℕ → Option Stretch
-tested_first items k = if is_sign (codes "(") items (k + 1) && is_testing_call items k then Some (from_to (k + 2) (k + 3)) else None
+-- the number behind the argument that goes on at a number
+unfoldable pub argument_to : ℕ → List Item → List ℕ → ℕ → ℕ → ℕ
+argument_to zero items rounds opening k = k
+argument_to (suc steps) items rounds opening k = if ends_argument items rounds opening k then k else argument_to steps items rounds opening (k + 1)
+
+-- what stands from one number up to another, behind a cast or in parentheses that begin it, of which this is the closing one
+abbrev pub bare_behind : (ℕ → ℕ → Stretch) → ℕ → ℕ → Option ℕ → Stretch
+bare_behind further from to None = from_to from to
+bare_behind further from to (Some c) = if (c + 1) == to then further (from + 1) c else further (c + 1) to
+
+-- without any casts and parentheses
+unfoldable pub bare : ℕ → List Item → List ℕ → ℕ → ℕ → Stretch
+bare zero items closings from to = from_to from to
+bare (suc steps) items closings from to =
+    if is_sign (codes "(") items from then bare_behind (λ f t. bare steps items closings f t) from to (closing_at items closings from) else from_to from to
+
+abbrev pub one_item : Stretch → Option Stretch
+one_item s = if (s.from + 1) == s.to then Some s else None
+
+-- calls of these names do, and of `toString` where another argument follows
+abbrev pub may_test : List Item → ℕ → Bool
+may_test items k = is_one_of_words testing_calls items k || is_word (codes "toString") items k
+
+abbrev pub is_testing_call : List Item → ℕ → ℕ → Bool
+is_testing_call items k to = not (is_word (codes "toString") items k) || is_sign (codes ",") items to
+
+-- the call tests its first argument, which is one item, behind casts or in parentheses
+abbrev pub tested_up_to : List Item → List ℕ → ℕ → ℕ → Option Stretch
+tested_up_to items closings k to = if is_testing_call items k to then one_item (bare (length items) items closings (k + 2) to) else None
+
+abbrev pub tested_first : List Item → List ℕ → List ℕ → ℕ → Option Stretch
+tested_first items closings rounds k =
+    if is_sign (codes "(") items (k + 1) && may_test items k
+    then tested_up_to items closings k (argument_to (length items) items rounds (k + 1) (k + 2))
+    else None
 
 -- what stands before `instanceof`: one item, or what is in parentheses
 abbrev pub tested_class : List Item → List ℕ → ℕ → Option Stretch
@@ -140,23 +171,40 @@ abbrev pub listed : Option Stretch → List Stretch
 listed None = []
 listed (Some s) = s ∷ []
 
+-- what a `switch` asks, in whose braces a `case` is `null`
+abbrev pub asked_before : List Item → List ℕ → ℕ → Option Stretch
+asked_before items rounds brace =
+    if before (is_sign (codes ")") items) brace then Some (from_to (ended_from items rounds (brace - 1)) brace) else None
+
+abbrev pub asked : List Item → List ℕ → Stretch → Option Stretch
+asked items rounds s = if before (is_word (codes "case") items) s.from then if_some (slice_get rounds s.from) (asked_before items rounds) else None
+
 -- what is tested by the `null` in a stretch
 abbrev pub tested_by_null : List Item → List ℕ → Stretch → List Stretch
-tested_by_null items rounds s = listed (compared_before items rounds s) ++ (listed (compared_behind items rounds s) ++ listed (set_to_null items rounds s))
+tested_by_null items rounds s =
+    listed (compared_before items rounds s)
+    ++ (listed (compared_behind items rounds s) ++ (listed (set_to_null items rounds s) ++ listed (asked items rounds s)))
 
 -- what is tested by the item at a number
 abbrev pub tested_at : List Item → List ℕ → List ℕ → ℕ → List Stretch
 tested_at items closings rounds k =
     if is_null items k then tested_by_null items rounds (null_at items k)
-    else (if is_name items k then listed (tested_first items k) ++ listed (tested_class items rounds k) else listed (tested_arguments items closings rounds k))
+    else (if is_name items k then listed (tested_first items closings rounds k) ++ listed (tested_class items rounds k) else listed (tested_arguments items closings rounds k))
 
 -- where a method's body tests variables for null
 abbrev pub tested_in : List Item → List ℕ → List ℕ → ℕ → ℕ → List Stretch
 tested_in items closings rounds from to = flat_map (tested_at items closings rounds) (numbers from (to - from))
 
--- a variable is named in one of these stretches
+-- A variable is named there, and no dot stands behind it: behind one what it gives is compared, and not itself, since where it is null that throws.
+abbrev pub is_compared : List Item → List ℕ → ℕ → Bool
+is_compared items name k = is_mention items name k && not (is_sign (codes ".") items (k + 1))
+
+abbrev pub is_compared_in : List Item → List ℕ → ℕ → ℕ → Bool
+is_compared_in items name from to = list_any (is_compared items name) (numbers from (to - from))
+
+-- so it is in one of these stretches
 abbrev pub is_named_in : List Item → List ℕ → Stretch → Bool
-is_named_in items name s = is_named items name s.from s.to
+is_named_in items name s = is_compared_in items name s.from s.to
 
 abbrev pub is_tested_by : List Item → List Stretch → List ℕ → Bool
 is_tested_by items tested name = list_any (is_named_in items name) tested

@@ -1,11 +1,12 @@
 -- Names that must mean in the file what Java or the map means by them.
-use Rattle.std.specs.Prelude.{ℕ, zero, suc, ◌+◌, ◌-◌, Bool, true, false, ◌||◌, ◌&&◌, ◌==◌, not, List, [], ◌∷◌, length, codes, slice_get, if◌then◌else◌}
+use Rattle.std.specs.Prelude.{ℕ, zero, suc, ◌+◌, ◌-◌, Bool, true, false, ◌||◌, ◌&&◌, ◌==◌, not, nat_le, List, [], ◌∷◌, length, codes, slice_get, if◌then◌else◌}
 use Rattle.std.specs.List.{list_any}
 use Rattle.std.specs.Str.{bytes_eq}
 use Rattle.std.specs.declared.option.Option.{Option}
 use Rattle.std.specs.declared.option.Option.TheVariants.{Some, None}
 use Rattle.view_items.specs.declared.item.Item.{Item}
-use Rattle.view_shapes.specs.Found.{is_word, is_sign, is_name, is_one_of_words, is_one_of_signs}
+use Rattle.view_shapes.specs.Found.{is_word, is_sign, is_name, is_one_of_words, is_one_of_signs, before}
+use Rattle.view_shapes.specs.Uses.{is_called}
 use Rattle.view_shapes.specs.Mentions.{numbers}
 use Rattle.view_map.specs.declared.model.ViewMap.{ViewMap}
 use Rattle.view_map.specs.declared.model.RowClass.{RowClass}
@@ -54,6 +55,15 @@ is_own_name is k name = is_own_at is k && bytes_eq (bytes_of (slice_get is k)) n
 
 abbrev pub begins_fetch : List ℕ → FetchPattern → Bool
 begins_fetch name f = is_own_name f.items (first_at f.items) name
+
+-- it is that of a class of the map
+abbrev pub is_class_name : ViewMap → List ℕ → Bool
+is_class_name map name = list_any (λ c. bytes_eq c.class name) map.classes
+
+-- a capital letter, with which by custom a class begins and no field
+abbrev pub is_capital : List ℕ → Bool
+is_capital [] = false
+is_capital (b ∷ bs) = nat_le 65 b && nat_le b 90
 
 -- ---- Types of the file
 
@@ -109,20 +119,41 @@ unfoldable pub last_of_names : ℕ → List Item → ℕ → ℕ
 last_of_names zero items k = k
 last_of_names (suc steps) items k = if goes_on items k then last_of_names steps items (k + 2) else k
 
+-- the import may be one of a field
+abbrev pub is_static : List Item → ℕ → Bool
+is_static items k = is_word (codes "static") items (k + 1)
+
 -- where the names of an import begin
 abbrev pub import_from : List Item → ℕ → ℕ
-import_from items k = if is_word (codes "static") items (k + 1) then k + 2 else k + 1
+import_from items k = if is_static items k then k + 2 else k + 1
 
--- the last of imported names is that of a class of Java, or what a fetch pattern begins with, from elsewhere than `java.util` and `java.lang`
-unfoldable pub hides_last : ViewMap → List Item → ℕ → ℕ → Bool
-hides_last m items from last =
-    is_name items last && (is_java_class (word_at items last) || list_any (begins_fetch (word_at items last)) m.fetches) && not (is_java_name items from last)
+-- a constant of several names begins with this one: a constant of one name may be imported
+abbrev pub begins_longer : List ℕ → Constant → Bool
+begins_longer name c = nat_le 2 (length c.names) && begins_constant name c
 
-abbrev pub hides_from : ViewMap → List Item → ℕ → Bool
-hides_from m items from = hides_last m items from (last_of_names (length items) items from)
+abbrev pub begins_by_class : List ℕ → Template → Bool
+begins_by_class name t = is_capital name && begins_template name t
+
+-- a field of this name hides a class of the map, or a class that constants and templates begin with
+abbrev pub hides_as_field : ViewMap → List ℕ → Bool
+hides_as_field m name =
+    is_class_name m name || list_any (begins_longer name) m.constants || list_any (begins_by_class name) m.templates
+
+-- an imported name, that of a field or not, hides a class of Java, what a fetch pattern begins with, or what a field may hide
+abbrev pub hides_imported : ViewMap → List ℕ → Bool → Bool
+hides_imported m name field =
+    is_java_class name || list_any (begins_fetch name) m.fetches || (field && hides_as_field m name)
+
+-- the last of imported names does, from elsewhere than `java.util` and `java.lang`
+unfoldable pub hides_last : ViewMap → List Item → Bool → ℕ → ℕ → Bool
+hides_last m items field from last =
+    is_name items last && hides_imported m (word_at items last) field && not (is_java_name items from last)
+
+abbrev pub hides_from : ViewMap → List Item → Bool → ℕ → Bool
+hides_from m items field from = hides_last m items field from (last_of_names (length items) items from)
 
 abbrev pub hides_by_import : ViewMap → List Item → ℕ → Bool
-hides_by_import m items k = is_word (codes "import") items k && hides_from m items (import_from items k)
+hides_by_import m items k = is_word (codes "import") items k && hides_from m items (is_static items k) (import_from items k)
 
 -- ---- All of them
 
@@ -139,9 +170,35 @@ means_the_same m items class = not (hides_in m items class 0 (length items))
 
 -- ---- Variables of the file
 
--- a variable or a field may have the name of a class that is named by itself: it stands directly before one of these, imports aside
-abbrev pub declaring_signs : List (List ℕ)
-declaring_signs = codes "=" ∷ codes ";" ∷ codes "," ∷ codes ")" ∷ codes ":" ∷ codes "->" ∷ []
+-- the item may end a type
+abbrev pub primitive_words : List (List ℕ)
+primitive_words =
+    codes "int" ∷ codes "long" ∷ codes "boolean" ∷ codes "char" ∷ codes "byte" ∷ codes "short" ∷ codes "float" ∷ codes "double" ∷ codes "void" ∷ []
+
+abbrev pub ends_type : List Item → ℕ → Bool
+ends_type items k =
+    (is_called items k && not (is_word (codes "yield") items k)) || is_one_of_words primitive_words items k
+    || is_one_of_signs (codes ">" ∷ codes "]" ∷ []) items k
+
+-- a type stands before the item
+unfoldable pub is_typed : List Item → ℕ → Bool
+is_typed items k = before (ends_type items) k
+
+-- What may stand behind a class that is named and never behind the name of a variable where that is declared, be it a field, a local variable, a
+-- parameter, or one of a pattern: these signs, and names other than those that go on behind a pattern.
+abbrev pub signs_behind_class : List (List ℕ)
+signs_behind_class =
+    codes "." ∷ codes "::" ∷ codes "(" ∷ codes "<" ∷ codes ">" ∷ codes "[" ∷ codes "{" ∷ codes "..." ∷ codes "*" ∷ []
+
+abbrev pub is_behind_class : List Item → ℕ → Bool
+is_behind_class items k = is_one_of_signs signs_behind_class items k || is_name items k
+
+abbrev pub goes_on_behind_pattern : List Item → ℕ → Bool
+goes_on_behind_pattern items k = is_one_of_words (codes "when" ∷ codes "instanceof" ∷ []) items k
+
+-- brackets stand behind an array's name too: a type stands before that, or the comma behind another variable
+abbrev pub is_array_name : List Item → ℕ → Bool
+is_array_name items k = is_sign (codes "[") items (k + 1) && (is_typed items k || before (is_sign (codes ",") items) k)
 
 -- an item of an import: a name, a dot or `*`
 abbrev pub may_be_imported : List Item → ℕ → Bool
@@ -154,8 +211,14 @@ is_in_import (suc steps) items k =
     if is_word (codes "import") items k then true
     else (if not (may_be_imported items k) || (k == 0) then false else is_in_import steps items (k - 1))
 
+-- a variable or a field of the name may be declared there, imports aside
+abbrev pub declares_variable : List Item → ℕ → Bool
+declares_variable items k =
+    goes_on_behind_pattern items (k + 1) || is_array_name items k
+    || (not (is_behind_class items (k + 1)) && not (is_in_import (length items) items k))
+
 abbrev pub may_declare : List Item → List ℕ → ℕ → Bool
-may_declare items name k = is_word name items k && is_one_of_signs declaring_signs items (k + 1) && not (is_in_import (length items) items k)
+may_declare items name k = is_word name items k && declares_variable items k
 
 abbrev pub may_be_declared_in : List Item → List ℕ → ℕ → ℕ → Bool
 may_be_declared_in items name from to = list_any (may_declare items name) (numbers from (to - from))

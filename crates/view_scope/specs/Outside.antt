@@ -9,7 +9,9 @@ use Rattle.view_shapes.specs.Found.{is_word, is_sign, is_one_of_signs, closing_a
 use Rattle.view_shapes.specs.Mentions.{numbers}
 use Rattle.view_rules.specs.declared.java_type.JavaType.{JavaType}
 use Rattle.view_rules.specs.declared.spelled.Spelled.{Spelled}
-use Rattle.view_rules.specs.Decisions.{same_type}
+use Rattle.view_rules.specs.Decisions.{same_type, is_element}
+use Rattle.view_rules.specs.Names.{Seen}
+use Rattle.view_rules.specs.Queries.{fetch_at}
 use Rattle.view_rules.specs.Setting.{Within}
 use Rattle.view_rules.specs.Spelled.{type_at}
 use Rattle.view_shapes.specs.declared.method.Method.{Method}
@@ -61,10 +63,38 @@ is_behind_head items closings place (Some c) = is_in_body items closings place c
 abbrev pub is_in_headed : List Item → List ℕ → ℕ → ℕ → Bool
 is_in_headed items closings place opening = is_behind_head items closings place (closing_at items closings opening)
 
--- the head of a `for` round the place declares it
+-- what is seen up to a parenthesis is a list of what has this type
+abbrev pub is_list_of : JavaType → ℕ → Option Seen → Bool
+is_list_of java close None = false
+is_list_of java close (Some s) = (s.0 == close) && is_element s.1 java
+
+abbrev pub is_fetched_by : Within → JavaType → ℕ → ℕ → ℕ → Bool
+is_fetched_by w java from close n = is_list_of java close (fetch_at w n from from)
+
+abbrev pub is_fetched_among : Within → JavaType → ℕ → ℕ → List ℕ → Bool
+is_fetched_among w java from close ns = list_any (is_fetched_by w java from close) ns
+
+-- `var`, the name, and behind the colon a fetch pattern, whole, up to the parenthesis that closes the head
+abbrev pub is_fetched_up_to : Within → JavaType → ℕ → Option ℕ → Bool
+is_fetched_up_to w java from None = false
+is_fetched_up_to w java from (Some c) = is_fetched_among w java from c w.fetches
+
+abbrev pub walks_fetch : Within → List ℕ → JavaType → ℕ → ℕ → Option ℕ → Bool
+walks_fetch w closings java at opening None = false
+walks_fetch w closings java at opening (Some t) =
+    is_word (codes "var") w.items t && ((t + 1) == at) && is_sign (codes ":") w.items (t + 2)
+    && is_fetched_up_to w java (t + 3) (closing_at w.items closings opening)
+
+-- the head of a `for`, whose parenthesis is opening at a number, declares it
+abbrev pub declares_in_head : Within → List ℕ → JavaType → ℕ → ℕ → Bool
+declares_in_head w closings java at opening =
+    declares_at w closings true java at (opening + 1)
+    || walks_fetch w closings java at opening (variable_prefix_end w.items closings (opening + 1))
+
+-- so does the head of one round the place
 abbrev pub is_headed_by : Within → List ℕ → ℕ → JavaType → ℕ → ℕ → Bool
 is_headed_by w closings place java at k =
-    is_word (codes "for") w.items k && is_sign (codes "(") w.items (k + 1) && declares_at w closings true java at (k + 2)
+    is_word (codes "for") w.items k && is_sign (codes "(") w.items (k + 1) && declares_in_head w closings java at (k + 1)
     && is_in_headed w.items closings place (k + 1)
 
 abbrev pub is_in_head : Within → List ℕ → ℕ → JavaType → ℕ → ℕ → Bool

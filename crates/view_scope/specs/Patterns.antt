@@ -44,6 +44,13 @@ is_loose before i behind = is_plain i && not (is_mark (codes ".") before) && not
 abbrev pub is_own : Option PatternItem → Option PatternItem → Bool
 is_own second first = not (is_mark (codes ".") first) || is_this second
 
+-- behind `super`, or behind the name of the class, stands what is the object's own too
+abbrev pub is_owner : List ℕ → Option PatternItem → Bool
+is_owner class i = is_spelled class i || is_spelled (codes "super") i
+
+abbrev pub is_owned : List ℕ → Option PatternItem → Option PatternItem → Bool
+is_owned class second first = is_own second first || is_owner class second
+
 -- the item so far before a number
 abbrev pub item_before : List PatternItem → ℕ → ℕ → Option PatternItem
 item_before is far k = if nat_le far k then slice_get is (k - far) else None
@@ -54,16 +61,28 @@ begins_own is k = is_own (item_before is 2 k) (item_before is 1 k)
 abbrev pub is_own_at : List PatternItem → ℕ → Bool
 is_own_at is k = is_plain (slice_get is k) && begins_own is k
 
+-- a name of what is the object's own, or of its class
+abbrev pub is_owned_at : List ℕ → List PatternItem → ℕ → Bool
+is_owned_at class is k = is_plain (slice_get is k) && is_owned class (item_before is 2 k) (item_before is 1 k)
+
 -- a method of the object itself is called there
-abbrev pub is_own_call : List PatternItem → ℕ → Bool
-is_own_call is k = is_own_at is k && is_mark (codes "(") (slice_get is (k + 1))
+abbrev pub is_own_call : List ℕ → List PatternItem → ℕ → Bool
+is_own_call class is k = is_owned_at class is k && is_mark (codes "(") (slice_get is (k + 1))
 
 -- a variable of the object itself, or a class, is named there
-abbrev pub is_variable : List PatternItem → ℕ → Bool
-is_variable is k = is_own_at is k && not (is_mark (codes "(") (slice_get is (k + 1)))
+abbrev pub is_variable : List ℕ → List PatternItem → ℕ → Bool
+is_variable class is k = is_owned_at class is k && not (is_mark (codes "(") (slice_get is (k + 1)))
 
 abbrev pub is_loose_at : List PatternItem → ℕ → Bool
 is_loose_at is k = is_loose (item_before is 1 k) (slice_get is k) (slice_get is (k + 1))
+
+-- `.class` goes on: what stands before is a type, whatever else has its name
+abbrev pub is_literal : Option PatternItem → Option PatternItem → Bool
+is_literal first second = is_mark (codes ".") first && is_spelled (codes "class") second
+
+-- a name that a variable may take away from a class: neither behind a dot nor before a parenthesis nor before `.class`
+abbrev pub may_be_hidden : List PatternItem → ℕ → Bool
+may_be_hidden is k = is_loose_at is k && not (is_literal (slice_get is (k + 1)) (slice_get is (k + 2)))
 
 -- how many parentheses are open behind an item
 abbrev pub open_behind : ℕ → Option PatternItem → ℕ
@@ -103,6 +122,22 @@ part_before ps k = if k == 0 then None else item_of ps (k - 1)
 
 abbrev pub is_loose_part : List Part → ℕ → Bool
 is_loose_part ps k = is_loose (part_before ps k) (item_of ps k) (item_of ps (k + 1))
+
+-- in the same way of a template's parts
+abbrev pub part_far_before : List Part → ℕ → ℕ → Option PatternItem
+part_far_before ps far k = if nat_le far k then item_of ps (k - far) else None
+
+abbrev pub is_owned_part : List ℕ → List Part → ℕ → Bool
+is_owned_part class ps k = is_plain (item_of ps k) && is_owned class (part_far_before ps 2 k) (part_far_before ps 1 k)
+
+abbrev pub is_own_part_call : List ℕ → List Part → ℕ → Bool
+is_own_part_call class ps k = is_owned_part class ps k && is_mark (codes "(") (item_of ps (k + 1))
+
+abbrev pub is_part_variable : List ℕ → List Part → ℕ → Bool
+is_part_variable class ps k = is_owned_part class ps k && not (is_mark (codes "(") (item_of ps (k + 1)))
+
+abbrev pub may_part_be_hidden : List Part → ℕ → Bool
+may_part_be_hidden ps k = is_loose_part ps k && not (is_literal (item_of ps (k + 1)) (item_of ps (k + 2)))
 
 -- the first name of a template, in the same way
 abbrev pub front_of_parts : List Part → ℕ

@@ -15,16 +15,18 @@ use Rattle.view_map.specs.declared.model.PatternItem.{PatternItem}
 use Rattle.view_map.specs.declared.model.RowClass.{RowClass}
 use Rattle.view_map.specs.declared.model.ScalarKind.TheVariants as kinds
 use Rattle.view_map.specs.declared.model.ViewMap.{ViewMap}
+use Rattle.view_map.specs.declared.model.QueryKind.TheVariants as queries
 use Rattle.view_map.specs.Patterns.{pattern_items}
+use Rattle.view_map.specs.Templates.{template_of}
 use Rattle.view_rules.specs.declared.java_type.JavaType.TheVariants as types
 use Rattle.view_rules.specs.Setting.{Within}
 use Rattle.view_shapes.specs.declared.method.Method.{Method}
-use Rattle.view_scope.specs.Allowed.{is_free_in, is_kept, keeps_meaning}
+use Rattle.view_scope.specs.Allowed.{is_free_in, is_no_field, is_kept, keeps_meaning, keeps_template}
 use Rattle.view_scope.specs.Constants.{constants_of}
 use Rattle.view_scope.specs.Guards.{is_guarded}
 use Rattle.view_scope.specs.Methods.{method_of}
 use Rattle.view_scope.specs.Nulls.{is_tested}
-use Rattle.view_scope.specs.Obscured.{word_at, means_the_same}
+use Rattle.view_scope.specs.Obscured.{word_at, means_the_same, is_clear}
 use Rattle.view_scope.specs.Outside.{is_in_sight_at, body_of}
 use Rattle.view_scope.specs.Patterns.{bytes_of, first_at}
 
@@ -118,6 +120,14 @@ pub record WorkedGuards : Type 0 where
   pub where_set : Tests (of_body (codes "while ((r = it.next()) == null) g();")) 0 (codes "r") true
   pub beside_another : Tests (of_body (codes "if (r == null && x.y > 3) g();")) 0 (codes "x") false
   pub member : Tests (of_body (codes "if (isEmpty(r.name())) g(r);")) 0 (codes "r") false
+  pub in_parentheses : Tests (of_body (codes "if (Objects.isNull((r))) g();")) 0 (codes "r") true
+  pub behind_a_cast : Tests (of_body (codes "g(ofNullable((Object) (r)));")) 0 (codes "r") true
+  pub another_argument : Tests (of_body (codes "g(defaultString(x, r));")) 0 (codes "r") false
+  pub text_or_null : Tests (of_body (codes "g(Objects.toString((r), x));")) 0 (codes "r") true
+  pub text : Tests (of_body (codes "g(Objects.toString(r));")) 0 (codes "r") false
+  pub behind_type_arguments : Tests (of_body (codes "if ((r).<A, List<?>>conv() == null) g();")) 0 (codes "r") true
+  pub by_what_it_gives : Tests (of_body (codes "if (r.name() == null) g();")) 0 (codes "r") false
+  pub by_case : Tests (of_body (codes "switch (r) { case null -> g(); }")) 0 (codes "r") true
   pub by_or : Guards (of_body (codes "if (r == null || x > 3) return; go();")) 0 (codes "go") true
   pub by_and : Guards (of_body (codes "if (r == null && x > 3) return; go();")) 0 (codes "go") false
   pub inside : Guards (of_body (codes "if (x > 3 && null != r) { go(); }")) 0 (codes "go") true
@@ -135,14 +145,25 @@ user_class = record { class = codes "User"; within = None; table = 0; by_value =
 abbrev pub user_map : ViewMap
 user_map = record { classes = user_class ∷ []; fetches = []; constants = []; templates = []; texts_binary = false }
 
+-- with the pattern `users.all()` for its rows
+abbrev pub fetching_map : ViewMap
+fetching_map =
+    record {
+      classes = user_class ∷ [];
+      fetches = record { table = 0; within = None; items = pattern_items (items_of (codes "users.all()")) } ∷ [];
+      constants = [];
+      templates = [];
+      texts_binary = false;
+    }
+
 abbrev pub user_setting : List Item → Within
 user_setting items =
     record {
-      map = user_map;
+      map = fetching_map;
       tables = [];
       items = items;
       classes = 0 ∷ [];
-      fetches = [];
+      fetches = 0 ∷ [];
       templates = [];
       map_constants = [];
       constants = [];
@@ -185,12 +206,18 @@ pub record WorkedSight : Type 0 where
   pub behind_for : Sees (codes "class A { void f() { for (User u : xs) { g(); } go(); } }") false
   pub of_block : Sees (codes "class A { void f() { final User u = g(); if (b) { go(); } } }") true
   pub of_inner_block : Sees (codes "class A { void f() { if (b) { User u = g(); } go(); } }") false
+  pub of_fetch : Sees (codes "class A { void f() { for (final var u : users.all()) { go(); } } }") true
+  pub of_list : Sees (codes "class A { void f() { for (var u : us) { go(); } } }") false
+  pub of_more_than_fetch : Sees (codes "class A { void f() { for (var u : users.all().some()) { go(); } } }") false
   pub plain : MeansTheSame user_map (codes "import java.util.List; class A { static class Row { } }") true
   pub nested : MeansTheSame user_map (codes "class A { static class User { } }") false
   pub of_java : MeansTheSame user_map (codes "class A { enum Math { B } }") false
   pub imported : MeansTheSame user_map (codes "import java.awt.List; class A { }") false
   pub itself : MeansTheSame constant_map (codes "class A { }") true
   pub nested_first : MeansTheSame constant_map (codes "class B { class A { } }") false
+  pub imported_class : MeansTheSame user_map (codes "import app.User; class A { }") true
+  pub imported_field : MeansTheSame user_map (codes "import static app.Base.User; class A { }") false
+  pub imported_first : MeansTheSame constant_map (codes "import static app.Base.A; class B { }") false
 
 -- ---- What patterns begin with
 
@@ -214,7 +241,7 @@ fetch_of pattern within = record { table = 0; within = within; items = pattern_i
 -- a pattern, said of all classes or of one, means in a class what the map says
 abbrev pub meant : Bytes → Option Bytes → List Item → List ℕ → List ℕ → ClassPlace → Option Bool
 meant pattern within items closings rounds class =
-    Some (keeps_meaning items closings rounds class (members_of items closings class.from) (fetch_of pattern within))
+    Some (keeps_meaning user_map items closings rounds class (members_of items closings class.from) (fetch_of pattern within))
 
 abbrev pub Means : Bytes → Option Bytes → Bytes → Bool → Type 0
 Means pattern within source b = in_class source (meant pattern within) ≡ Some b
@@ -228,6 +255,57 @@ pub record WorkedFetches : Type 0 where
   pub of_a_class : Means (codes "Users.all()") None (codes "class A { }") true
   pub of_a_hidden_class : Means (codes "Users.all()") None (codes "class A { void f(Repo Users) { } }") false
   pub of_parentheses : Means (codes "(users).all()") None (codes "class A { Repo users; }") false
+  pub of_own_class : Means (codes "A.users.all()") None (codes "class A { static Repo users; }") true
+  pub of_own_class_where_set : Means (codes "A.users.all()") None (codes "class A { static Repo users; void f() { users = g(); } }") false
+  pub of_own_class_by_method : Means (codes "A.all()") None (codes "class A { static List<U> all() { } }") false
+  pub with_a_literal : Means (codes "users.all(User.class)") None (codes "class A { Repo users; void f(int User) { } }") true
+  pub with_a_class : Means (codes "users.all(User.kind())") None (codes "class A { Repo users; List<User> f(User u) { } }") true
+  pub with_a_hidden_class : Means (codes "users.all(User.kind())") None (codes "class A { Repo users; Kinds User; }") false
+
+-- ---- Templates
+
+abbrev pub template_kept : Bytes → List Item → List ℕ → List ℕ → ClassPlace → Option Bool
+template_kept template items closings rounds class =
+    Some (keeps_template user_map items closings rounds class (members_of items closings class.from) (template_of queries.Long (items_of template)))
+
+abbrev pub KeepsTemplate : Bytes → Bytes → Bool → Type 0
+KeepsTemplate template source b = in_class source (template_kept template) ≡ Some b
+
+pub record WorkedTemplates : Type 0 where
+  pub of_a_method : KeepsTemplate (codes "count($sql {, $arg})") (codes "class A { }") true
+  pub of_own_method : KeepsTemplate (codes "count($sql {, $arg})") (codes "class A { long count(String s) { } }") false
+  pub of_a_field : KeepsTemplate (codes "base.count($sql {, $arg})") (codes "class A { Base base; long count(String s) { } }") true
+  pub of_a_set_field : KeepsTemplate (codes "base.count($sql {, $arg})") (codes "class A { Base base; void f() { base = g(); } }") false
+  pub of_a_class : KeepsTemplate (codes "Base.count($sql {, $arg})") (codes "class A { Base base; }") true
+  pub of_a_hidden_class : KeepsTemplate (codes "Base.count($sql {, $arg})") (codes "class A { Odd Base; }") false
+  pub with_a_hidden_class : KeepsTemplate (codes "base.count($sql {, User.of($arg)})") (codes "class A { Base base; Odd User; }") false
+
+-- ---- Names of variables
+
+abbrev pub Clears : Bytes → Bytes → Bool → Type 0
+Clears name source b = is_clear (items_of source) name ≡ b
+
+-- no field has the first of the names of a constant
+abbrev pub unhidden : List Bytes → List Item → List ℕ → List ℕ → ClassPlace → Option Bool
+unhidden names items closings rounds class = Some (is_no_field items closings rounds names)
+
+abbrev pub Unhidden : List Bytes → Bytes → Bool → Type 0
+Unhidden names source b = in_class source (unhidden names) ≡ Some b
+
+pub record WorkedNames : Type 0 where
+  pub imported : Clears (codes "Objects") (codes "import java.util.Objects; class A { boolean f() { return b > Objects.hash(a); } }") true
+  pub types : Clears (codes "User") (codes "List<User> us = new User[3]; f(User.class, User::getId); for (User u : us) { }") true
+  pub before_and : Clears (codes "Objects") (codes "if (o instanceof Odd Objects && b) g();") false
+  pub before_question : Clears (codes "Objects") (codes "n = o instanceof Odd Objects ? 1 : 2;") false
+  pub before_when : Clears (codes "Objects") (codes "switch (o) { case Odd Objects when b -> g(); }") false
+  pub in_record : Clears (codes "Objects") (codes "if (o instanceof Point(int Objects, int y)) g();") false
+  pub caught : Clears (codes "Objects") (codes "try { g(); } catch (Odd Objects) { }") false
+  pub of_lambda : Clears (codes "Objects") (codes "g(Objects -> 1);") false
+  pub of_array : Clears (codes "Objects") (codes "int n, Objects[] = g();") false
+  pub lone_constant : Unhidden (codes "MAX" ∷ []) (codes "import static app.Codes.MAX; class A { boolean f(int n) { return n > MAX; } }") true
+  pub hidden_lone_constant : Unhidden (codes "MAX" ∷ []) (codes "class A { static int MAX = g(); boolean f(int n) { return n > MAX; } }") false
+  pub constant : Unhidden (codes "B" ∷ codes "MAX" ∷ []) (codes "class A { boolean f(int n) { return n > B.MAX; } }") true
+  pub hidden_constant : Unhidden (codes "B" ∷ codes "MAX" ∷ []) (codes "class A { Odd B; boolean f(int n) { return n > B.MAX; } }") false
 
 pub record Worked : Type 0 where
   pub members : WorkedMembers
@@ -235,3 +313,5 @@ pub record Worked : Type 0 where
   pub sight : WorkedSight
   pub fronts : WorkedFronts
   pub fetches : WorkedFetches
+  pub templates : WorkedTemplates
+  pub names : WorkedNames

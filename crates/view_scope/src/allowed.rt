@@ -3,17 +3,18 @@ ghost use Rattle.std.specs.Prelude.{◌≡◌, ◌<◌, ◌≤◌, ◌+◌, ◌^
 ghost use Rattle.view_scope.specs.Allowed as specs;
 ghost use Rattle.view_shapes.specs.Members.{members_of};
 
-use crate::method::{Parameter, method_prefix_end, parameter_at};
-use crate::obscured::{is_clear, is_there, word_at};
+use crate::method::{method_prefix_end, parameter_at};
+use crate::obscured::{is_capital, is_class_name, is_clear, is_there, is_typed, word_at};
 use crate::patterns::{
-    begins_own, first_at, is_loose_at, is_loose_part, is_own_call, is_variable, part_bytes,
+    begins_own, first_at, first_of_parts, is_loose_at, is_loose_part, is_own_call,
+    is_own_part_call, is_part_variable, is_variable, may_be_hidden, may_part_be_hidden, part_bytes,
     pattern_bytes,
 };
 use qbs_base::Name;
 use view_items::Item;
 use view_map::{Constant, FetchPattern, Part, PatternItem, Template, ViewMap};
 use view_shapes::{
-    ClassPlace, Method, Stretch, has_name, is_called, is_free, is_name, is_one_of_signs,
+    ClassPlace, Method, Parameter, Stretch, has_name, is_called, is_free, is_name, is_one_of_signs,
     is_one_of_words, is_set_at, is_sign, is_word,
 };
 
@@ -39,16 +40,7 @@ pub fn is_free_in(
         && is_free(items, closings, rounds, name, method.from, method.to)
 }
 
-fn is_class_name(map: &ViewMap, name: &[u8]) -> bool
-    ensures { result ≡ specs.is_class_name map.now name.now }
-{
-    map.classes
-        .as_slice()
-        .iter()
-        .any(|c| c.class.as_slice() == name)
-}
-
-/// Whether a name of a pattern may be read in a method: it is that of a class of the map, or free.
+/// Whether a name of a pattern may be read in a method: it is free, or that of a class of the map, of which more is asked once for a file.
 fn may_be_read(
     map: &ViewMap,
     items: &[Item],
@@ -186,27 +178,6 @@ fn is_in_class(rounds: &[usize], class: ClassPlace, number: usize) -> bool
         None => false,
         Some(round) => *round == class.from.saturating_sub(1),
     }
-}
-
-const PRIMITIVE_WORDS: [&str; 9] = [
-    "int", "long", "boolean", "char", "byte", "short", "float", "double", "void",
-];
-
-/// Whether the item may end a type.
-fn ends_type(items: &[Item], number: usize) -> bool
-    ensures { result ≡ specs.ends_type items.now number }
-{
-    (is_called(items, number) && !is_word("yield", items, number))
-        || is_one_of_words(&PRIMITIVE_WORDS, items, number)
-        || is_one_of_signs(&[">", "]"], items, number)
-}
-
-/// Whether a type stands before the item.
-#[tactic(auto, unfolding(crate::specs::Allowed::is_typed))]
-fn is_typed(items: &[Item], number: usize) -> bool
-    ensures { result ≡ specs.is_typed items.now number }
-{
-    number > 0 && ends_type(items, number - 1)
 }
 
 /// Whether the name stands directly in the braces of the class behind a type.
@@ -438,7 +409,7 @@ fn calls_own(
     requires { number < length pattern.now }
     ensures { result ≡ specs.calls_own items.now rounds.now class pattern.now number }
 {
-    is_own_call(pattern, number)
+    is_own_call(word_at(items, class.name), pattern, number)
         && declares_method_in(
             items,
             rounds,
@@ -470,7 +441,8 @@ fn calls_own_in(
     false
 }
 
-fn is_kept_at(
+/// Whether the variable of the object itself that a pattern names there is kept.
+fn is_variable_kept(
     items: &[Item],
     closings: &[usize],
     class: ClassPlace,
@@ -479,9 +451,9 @@ fn is_kept_at(
     number: usize,
 ) -> bool
     requires { number < length pattern.now }
-    ensures { result ≡ specs.is_kept_at items.now closings.now class members.now pattern.now number }
+    ensures { result ≡ specs.is_variable_kept items.now closings.now class members.now pattern.now number }
 {
-    !is_variable(pattern, number)
+    !is_variable(word_at(items, class.name), pattern, number)
         || is_kept(
             items,
             closings,
@@ -491,8 +463,32 @@ fn is_kept_at(
         )
 }
 
+/// Whether a name is that of no class of the map, or nothing obscures it.
+fn is_meant(map: &ViewMap, items: &[Item], name: &[u8]) -> bool
+    ensures { result ≡ specs.is_meant map.now items.now name.now }
+{
+    !is_class_name(map, name) || is_clear(items, name)
+}
+
+fn is_kept_at(
+    map: &ViewMap,
+    items: &[Item],
+    closings: &[usize],
+    class: ClassPlace,
+    members: &[Stretch],
+    pattern: &[PatternItem],
+    number: usize,
+) -> bool
+    requires { number < length pattern.now }
+    ensures { result ≡ specs.is_kept_at map.now items.now closings.now class members.now pattern.now number }
+{
+    is_variable_kept(items, closings, class, members, pattern, number)
+        && (!may_be_hidden(pattern, number) || is_meant(map, items, pattern_bytes(pattern, number)))
+}
+
 #[tactic(auto, using(view_shapes::proofs::Numbers::all_but, view_shapes::proofs::Numbers::all_next, view_shapes::proofs::Numbers::all_end))]
 fn are_kept(
+    map: &ViewMap,
     items: &[Item],
     closings: &[usize],
     class: ClassPlace,
@@ -502,23 +498,14 @@ fn are_kept(
     to: usize,
 ) -> bool
     requires { to ≤ length pattern.now }
-    ensures { result ≡ specs.are_kept items.now closings.now class members.now pattern.now from to }
+    ensures { result ≡ specs.are_kept map.now items.now closings.now class members.now pattern.now from to }
 {
     for number in from..to {
-        if !is_kept_at(items, closings, class, members, pattern, number) {
+        if !is_kept_at(map, items, closings, class, members, pattern, number) {
             return false;
         }
     }
     true
-}
-
-fn is_capital(name: &[u8]) -> bool
-    ensures { result ≡ specs.is_capital name.now }
-{
-    match name {
-        [] => false,
-        [first, ..] => 65 <= *first && *first <= 90,
-    }
 }
 
 /// Whether a name is that of a field of the class, or nothing may declare a variable of it.
@@ -539,14 +526,16 @@ fn is_first_clear(
     ensures { result ≡ specs.is_first_clear items.now rounds.now class pattern.now number }
 {
     begins_own(pattern, number)
-        && (!is_variable(pattern, number)
+        && (!is_variable(word_at(items, class.name), pattern, number)
             || is_field_or_clear(items, rounds, class, pattern_bytes(pattern, number)))
 }
 
 /// Whether a fetch pattern means in the class what the map says: it calls no method that the class declares, unless the map has it for this
-/// class; the fields that it names are set by constructors and setters alone; and where it begins with a class, no field or variable has its
-/// name. `members` are those of the class. It hangs on no method, so it is asked once for a file. Time goes with the items of the file.
+/// class; the fields that it names are set by constructors and setters alone; no field or variable has the name of a class of the map that it
+/// names elsewhere than before `.class`; and where it begins with a class, none has its name. `members` are those of the class. It hangs on no
+/// method, so it is asked once for a file. Time goes with the items of the file.
 pub fn keeps_meaning(
+    map: &ViewMap,
     items: &[Item],
     closings: &[usize],
     rounds: &[usize],
@@ -554,14 +543,23 @@ pub fn keeps_meaning(
     members: &[Stretch],
     fetch: &FetchPattern,
 ) -> bool
-    ensures { result ≡ specs.keeps_meaning items.now closings.now rounds.now class members.now fetch.now }
+    ensures { result ≡ specs.keeps_meaning map.now items.now closings.now rounds.now class members.now fetch.now }
 {
     let name = word_at(items, class.name);
     let pattern = fetch.items.as_slice();
     is_there(name, &fetch.within)
         && (is_said_here(name, &fetch.within)
             || !calls_own_in(items, rounds, class, pattern, 0, pattern.len()))
-        && are_kept(items, closings, class, members, pattern, 0, pattern.len())
+        && are_kept(
+            map,
+            items,
+            closings,
+            class,
+            members,
+            pattern,
+            0,
+            pattern.len(),
+        )
         && is_first_clear(items, rounds, class, pattern, first_at(pattern))
 }
 
@@ -576,7 +574,7 @@ pub fn is_fetch_read(
     fetch: &FetchPattern,
     kept: bool,
 ) -> bool
-    requires { kept ≡ specs.keeps_meaning items.now closings.now rounds.now class (members_of items.now closings.now class.from) fetch.now }
+    requires { kept ≡ specs.keeps_meaning map.now items.now closings.now rounds.now class (members_of items.now closings.now class.from) fetch.now }
     ensures { result ≡ specs.is_fetch_read map.now items.now closings.now rounds.now class method.now fetch.now }
 {
     kept && is_pattern_free(map, items, closings, rounds, method, fetch.items.as_slice())
@@ -584,7 +582,125 @@ pub fn is_fetch_read(
 
 // ---- Templates
 
-/// Whether a template may be read in a method: its names are free there, or those of classes of the map.
+/// Whether a template calls on the object itself a method that the class declares.
+fn calls_own_part(
+    items: &[Item],
+    rounds: &[usize],
+    class: ClassPlace,
+    parts: &[Part],
+    number: usize,
+) -> bool
+    requires { number < length parts.now }
+    ensures { result ≡ specs.calls_own_part items.now rounds.now class parts.now number }
+{
+    is_own_part_call(word_at(items, class.name), parts, number)
+        && declares_method_in(
+            items,
+            rounds,
+            class,
+            part_bytes(parts, number),
+            class.from,
+            class.to,
+        )
+}
+
+/// Whether the variable of the object itself that a template names there is kept.
+fn is_part_variable_kept(
+    items: &[Item],
+    closings: &[usize],
+    class: ClassPlace,
+    members: &[Stretch],
+    parts: &[Part],
+    number: usize,
+) -> bool
+    requires { number < length parts.now }
+    ensures { result ≡ specs.is_part_variable_kept items.now closings.now class members.now parts.now number }
+{
+    !is_part_variable(word_at(items, class.name), parts, number)
+        || is_kept(items, closings, class, members, part_bytes(parts, number))
+}
+
+fn is_part_kept(
+    map: &ViewMap,
+    items: &[Item],
+    closings: &[usize],
+    rounds: &[usize],
+    class: ClassPlace,
+    members: &[Stretch],
+    parts: &[Part],
+    number: usize,
+) -> bool
+    requires { number < length parts.now }
+    ensures { result ≡ specs.is_part_kept map.now items.now closings.now rounds.now class members.now parts.now number }
+{
+    !calls_own_part(items, rounds, class, parts, number)
+        && is_part_variable_kept(items, closings, class, members, parts, number)
+        && (!may_part_be_hidden(parts, number) || is_meant(map, items, part_bytes(parts, number)))
+}
+
+#[tactic(auto, using(view_shapes::proofs::Numbers::all_but, view_shapes::proofs::Numbers::all_next, view_shapes::proofs::Numbers::all_end))]
+fn are_parts_kept(
+    map: &ViewMap,
+    items: &[Item],
+    closings: &[usize],
+    rounds: &[usize],
+    class: ClassPlace,
+    members: &[Stretch],
+    parts: &[Part],
+    from: usize,
+    to: usize,
+) -> bool
+    requires { to ≤ length parts.now }
+    ensures { result ≡ specs.are_parts_kept map.now items.now closings.now rounds.now class members.now parts.now from to }
+{
+    for number in from..to {
+        if !is_part_kept(map, items, closings, rounds, class, members, parts, number) {
+            return false;
+        }
+    }
+    true
+}
+
+fn is_no_class_or_clear(items: &[Item], name: &[u8]) -> bool
+    ensures { result ≡ specs.is_no_class_or_clear items.now name.now }
+{
+    !is_capital(name) || is_clear(items, name)
+}
+
+/// Whether a template means in the class what the map says: it calls no method that the class declares; the fields that it names are set by
+/// constructors and setters alone; and no field or variable has the name of a class of the map that it names elsewhere than before `.class`,
+/// or of a class that it begins with. `members` are those of the class. It hangs on no method, so it is asked once for a file. Time goes with
+/// the items of the file.
+pub fn keeps_template(
+    map: &ViewMap,
+    items: &[Item],
+    closings: &[usize],
+    rounds: &[usize],
+    class: ClassPlace,
+    members: &[Stretch],
+    template: &Template,
+) -> bool
+    ensures { result ≡ specs.keeps_template map.now items.now closings.now rounds.now class members.now template.now }
+{
+    let front = template.front.as_slice();
+    let each = template.each.as_slice();
+    let back = template.back.as_slice();
+    let front_len = front.len();
+    let each_len = each.len();
+    let back_len = back.len();
+    is_no_class_or_clear(items, first_of_parts(front))
+        && are_parts_kept(
+            map, items, closings, rounds, class, members, front, 0, front_len,
+        )
+        && are_parts_kept(
+            map, items, closings, rounds, class, members, each, 0, each_len,
+        )
+        && are_parts_kept(
+            map, items, closings, rounds, class, members, back, 0, back_len,
+        )
+}
+
+/// Whether the names of a template are free in a method, or those of classes of the map. It may be read there where `keeps_template` holds too.
 pub fn is_template_read(
     map: &ViewMap,
     items: &[Item],
@@ -626,21 +742,27 @@ fn are_beside_dots(items: &[Item], name: &[u8], from: usize, to: usize) -> bool
     true
 }
 
-fn is_no_field_of(items: &[Item], names: &[Name]) -> bool
-    ensures { result ≡ specs.is_no_field items.now names.now }
+fn is_no_field_of(items: &[Item], closings: &[usize], rounds: &[usize], names: &[Name]) -> bool
+    ensures { result ≡ specs.is_no_field items.now closings.now rounds.now names.now }
 {
     match names {
         [first, _, ..] => are_beside_dots(items, first.as_slice(), 0, items.len()),
-        _ => true,
+        [first] => is_free(items, closings, rounds, first.as_slice(), 0, items.len()),
+        [] => true,
     }
 }
 
-/// Whether the first of several names of a constant of the map stands nowhere in the file but beside a dot, so that no field has it. It hangs
-/// on no method, so it is asked once for a file. Time goes with the items of the file.
-pub fn is_no_field(items: &[Item], constant: &Constant) -> bool
-    ensures { result ≡ specs.is_no_field items.now constant.now.names }
+/// Whether no field has the first name of a constant of the map: of several it stands nowhere in the file but beside a dot, and a lone one
+/// nowhere where it may be declared. It hangs on no method, so it is asked once for a file. Time goes with the items of the file.
+pub fn is_no_field(
+    items: &[Item],
+    closings: &[usize],
+    rounds: &[usize],
+    constant: &Constant,
+) -> bool
+    ensures { result ≡ specs.is_no_field items.now closings.now rounds.now constant.now.names }
 {
-    is_no_field_of(items, constant.names.as_slice())
+    is_no_field_of(items, closings, rounds, constant.names.as_slice())
 }
 
 /// Whether the first of the names of a constant of the map is free in a method. Time goes with the items of the body.
@@ -668,7 +790,7 @@ pub fn is_constant_read(
     constant: &Constant,
     no_field: bool,
 ) -> bool
-    requires { no_field ≡ specs.is_no_field items.now constant.now.names }
+    requires { no_field ≡ specs.is_no_field items.now closings.now rounds.now constant.now.names }
     ensures { result ≡ specs.is_constant_read items.now closings.now rounds.now method.now constant.now }
 {
     no_field && first_is_free(items, closings, rounds, method, constant.names.as_slice())

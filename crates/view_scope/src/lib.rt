@@ -16,7 +16,7 @@ mod types;
 
 pub use allowed::{
     first_is_free, is_constant_read, is_fetch_read, is_free_in, is_no_field, is_pattern_free,
-    is_template_read, keeps_meaning,
+    is_template_read, keeps_meaning, keeps_template,
 };
 pub use constants::{ConstantPlace, constants_of};
 pub use guards::is_guarded;

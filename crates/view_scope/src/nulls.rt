@@ -6,7 +6,7 @@ use qbs_base::{Items, NoMemory};
 use std::alloc::Global;
 use view_items::Item;
 use view_shapes::{
-    Stretch, closing_at, is_called, is_name, is_named, is_one_of_signs, is_one_of_words, is_sign,
+    Stretch, closing_at, is_called, is_mention, is_name, is_one_of_signs, is_one_of_words, is_sign,
     is_word,
 };
 
@@ -15,13 +15,11 @@ fn bounds(items: &[Item], number: usize) -> bool
     ensures { result ≡ specs.bounds items.now number }
 {
     is_one_of_signs(
-        &[
-            "&&", "||", "==", "!=", "?", ":", ",", ";", "=", "->", "{", "}",
-        ],
+        &["&&", "||", "==", "!=", ":", ";", "=", "->", "}"],
         items,
         number,
     ) || is_one_of_words(
-        &["return", "case", "throw", "else", "yield", "assert"],
+        &["return", "case", "throw", "else", "assert"],
         items,
         number,
     )
@@ -263,25 +261,104 @@ const TESTING_CALLS: [&str; 15] = [
     "firstNonNull",
 ];
 
-/// Whether a call tests its first argument, which is one item.
-fn is_testing_call(items: &[Item], number: usize) -> bool
-    requires { number < length items.now }
-    ensures { result ≡ specs.is_testing_call items.now number }
+fn ends_argument(items: &[Item], rounds: &[usize], opening: usize, number: usize) -> bool
+    ensures { result ≡ specs.ends_argument items.now rounds.now opening number }
 {
-    (is_one_of_words(&TESTING_CALLS, items, number)
-        && is_one_of_signs(&[",", ")"], items, number + 3))
-        || (is_word("toString", items, number) && is_sign(",", items, number + 3))
+    is_around(rounds, opening, number) && is_one_of_signs(&[",", ")"], items, number)
 }
 
-fn tested_first(items: &[Item], number: usize) -> Option<Stretch>
-    requires { number < length items.now }
-    ensures { result ≡ specs.tested_first items.now number }
+/// The number behind the argument that goes on at a number, in the parenthesis that is opening at one.
+#[tactic(auto, using(crate::proofs::Operands::argument_to_over, crate::proofs::Operands::argument_to_next, crate::proofs::Operands::argument_to_end))]
+fn argument_to(items: &[Item], rounds: &[usize], opening: usize, first: usize) -> usize
+    requires { first ≤ length items.now }
+    ensures { result ≡ specs.argument_to (length items.now) items.now rounds.now opening first }
 {
-    if is_sign("(", items, number + 1) && is_testing_call(items, number) {
-        Some(Stretch {
-            from: number + 2,
-            to: number + 3,
-        })
+    let mut number = first;
+    let mut left = items.len();
+    while left > 0 {
+        left -= 1;
+        if ends_argument(items, rounds, opening, number) {
+            return number;
+        }
+        number += 1;
+    }
+    number
+}
+
+/// What stands from one number up to another without casts before it and parentheses round it.
+#[tactic(auto, using(crate::proofs::Operands::bare_other, crate::proofs::Operands::bare_stuck, crate::proofs::Operands::bare_inside, crate::proofs::Operands::bare_behind_cast, crate::proofs::Operands::bare_end))]
+fn bare(items: &[Item], closings: &[usize], first: usize, end: usize) -> Stretch
+    requires { first ≤ length items.now }
+    ensures value { result ≡ specs.bare (length items.now) items.now closings.now first end }
+    ensures within { result.from ≤ length items.now }
+{
+    let mut from = first;
+    let mut to = end;
+    let mut left = items.len();
+    while left > 0 {
+        left -= 1;
+        if !is_sign("(", items, from) {
+            return Stretch { from, to };
+        }
+        match closing_at(items, closings, from) {
+            None => return Stretch { from, to },
+            Some(close) => {
+                if close + 1 == to {
+                    from += 1;
+                    to = close;
+                } else {
+                    from = close + 1;
+                }
+            }
+        }
+    }
+    Stretch { from, to }
+}
+
+fn one_item(s: Stretch) -> Option<Stretch>
+    requires { s.from < 2 ^ 63 }
+    ensures { result ≡ specs.one_item s }
+{
+    if s.from + 1 == s.to { Some(s) } else { None }
+}
+
+/// Whether a call of this name may test its first argument.
+fn may_test(items: &[Item], number: usize) -> bool
+    ensures { result ≡ specs.may_test items.now number }
+{
+    is_one_of_words(&TESTING_CALLS, items, number) || is_word("toString", items, number)
+}
+
+fn is_testing_call(items: &[Item], number: usize, to: usize) -> bool
+    ensures { result ≡ specs.is_testing_call items.now number to }
+{
+    !is_word("toString", items, number) || is_sign(",", items, to)
+}
+
+fn tested_up_to(items: &[Item], closings: &[usize], number: usize, to: usize) -> Option<Stretch>
+    requires { number + 2 ≤ length items.now }
+    ensures { result ≡ specs.tested_up_to items.now closings.now number to }
+{
+    if is_testing_call(items, number, to) {
+        one_item(bare(items, closings, number + 2, to))
+    } else {
+        None
+    }
+}
+
+/// The first argument of a call that tests it, which is one item, behind casts or in parentheses.
+fn tested_first(
+    items: &[Item],
+    closings: &[usize],
+    rounds: &[usize],
+    number: usize,
+) -> Option<Stretch>
+    requires { number < length items.now }
+    ensures { result ≡ specs.tested_first items.now closings.now rounds.now number }
+{
+    if is_sign("(", items, number + 1) && may_test(items, number) {
+        let to = argument_to(items, rounds, number + 1, number + 2);
+        tested_up_to(items, closings, number, to)
     } else {
         None
     }
@@ -298,6 +375,30 @@ fn tested_class(items: &[Item], rounds: &[usize], number: usize) -> Option<Stret
     } else {
         None
     }
+}
+
+/// What a `switch` asks, whose braces are opening at a number.
+fn asked_before(items: &[Item], rounds: &[usize], brace: usize) -> Option<Stretch>
+    ensures { result ≡ specs.asked_before items.now rounds.now brace }
+{
+    if brace > 0 && is_sign(")", items, brace - 1) {
+        Some(Stretch {
+            from: ended_from(items, rounds, brace - 1),
+            to: brace,
+        })
+    } else {
+        None
+    }
+}
+
+/// What a `switch` asks of which a `case` is `null`.
+fn asked(items: &[Item], rounds: &[usize], s: Stretch) -> Option<Stretch>
+    ensures { result ≡ specs.asked items.now rounds.now s }
+{
+    if !(s.from > 0 && is_word("case", items, s.from - 1)) {
+        return None;
+    }
+    asked_before(items, rounds, *rounds.get(s.from)?)
 }
 
 fn add_some(list: &mut Items<Stretch>, stretch: Option<Stretch>) -> Result<(), NoMemory>
@@ -319,7 +420,8 @@ fn add_by_null(
 {
     add_some(list, compared_before(items, rounds, s))?;
     add_some(list, compared_behind(items, rounds, s))?;
-    add_some(list, set_to_null(items, rounds, s))
+    add_some(list, set_to_null(items, rounds, s))?;
+    add_some(list, asked(items, rounds, s))
 }
 
 /// Adds what is tested by the item with this number.
@@ -335,7 +437,7 @@ fn add_tested(
     if is_null(items, number) {
         add_by_null(list, items, rounds, null_at(items, number))
     } else if is_name(items, number) {
-        add_some(list, tested_first(items, number))?;
+        add_some(list, tested_first(items, closings, rounds, number))?;
         add_some(list, tested_class(items, rounds, number))
     } else {
         add_some(list, tested_arguments(items, closings, rounds, number))
@@ -361,10 +463,29 @@ pub fn tested_in(
     Ok(list)
 }
 
+/// Whether the variable is named there, and not what it gives.
+fn is_compared(items: &[Item], name: &[u8], number: usize) -> bool
+    ensures { result ≡ specs.is_compared items.now name.now number }
+{
+    is_mention(items, name, number) && !is_sign(".", items, number + 1)
+}
+
+#[tactic(auto, using(view_shapes::proofs::Numbers::any_here, view_shapes::proofs::Numbers::any_next, view_shapes::proofs::Numbers::any_end))]
+fn is_compared_in(items: &[Item], name: &[u8], from: usize, to: usize) -> bool
+    ensures { result ≡ specs.is_compared_in items.now name.now from to }
+{
+    for number in from..to {
+        if is_compared(items, name, number) {
+            return true;
+        }
+    }
+    false
+}
+
 fn is_named_in(items: &[Item], name: &[u8], s: Stretch) -> bool
     ensures { result ≡ specs.is_named_in items.now name.now s }
 {
-    is_named(items, name, s.from, s.to)
+    is_compared_in(items, name, s.from, s.to)
 }
 
 /// Whether a variable is tested for null, where these are the stretches in which variables are. Time goes with their items.

@@ -8,7 +8,9 @@ use crate::patterns::{first_at, first_of_parts, is_own_at, pattern_bytes};
 use qbs_base::Name;
 use view_items::Item;
 use view_map::{Constant, FetchPattern, PatternItem, RowClass, Template, ViewMap};
-use view_shapes::{has_name, is_name, is_one_of_signs, is_one_of_words, is_sign, is_word};
+use view_shapes::{
+    has_name, is_called, is_name, is_one_of_signs, is_one_of_words, is_sign, is_word,
+};
 
 const JAVA_CLASSES: [&str; 14] = [
     "List",
@@ -100,6 +102,51 @@ fn begins_fetch(name: &[u8], fetch: &FetchPattern) -> bool
         first_at(fetch.items.as_slice()),
         name,
     )
+}
+
+/// Whether a constant of several names begins with this one.
+fn begins_longer(name: &[u8], constant: &Constant) -> bool
+    ensures { result ≡ specs.begins_longer name.now constant.now }
+{
+    constant.names.as_slice().len() >= 2 && begins_constant(name, constant)
+}
+
+fn begins_some_longer(name: &[u8], constants: &[Constant]) -> bool
+    ensures { result ≡ list_any (specs.begins_longer name.now) constants.now }
+{
+    constants.iter().any(|c| begins_longer(name, c))
+}
+
+/// Whether a name begins with a capital letter, with which by custom a class begins and no field.
+pub fn is_capital(name: &[u8]) -> bool
+    ensures { result ≡ specs.is_capital name.now }
+{
+    match name {
+        [] => false,
+        [first, ..] => 65 <= *first && *first <= 90,
+    }
+}
+
+fn begins_by_class(name: &[u8], template: &Template) -> bool
+    ensures { result ≡ specs.begins_by_class name.now template.now }
+{
+    is_capital(name) && begins_template(name, template)
+}
+
+fn begins_some_by_class(name: &[u8], templates: &[Template]) -> bool
+    ensures { result ≡ list_any (specs.begins_by_class name.now) templates.now }
+{
+    templates.iter().any(|t| begins_by_class(name, t))
+}
+
+/// Whether a name is that of a class of the map.
+pub fn is_class_name(map: &ViewMap, name: &[u8]) -> bool
+    ensures { result ≡ specs.is_class_name map.now name.now }
+{
+    map.classes
+        .as_slice()
+        .iter()
+        .any(|c| c.class.as_slice() == name)
 }
 
 fn begins_some_constant(name: &[u8], constants: &[Constant]) -> bool
@@ -276,43 +323,74 @@ fn last_of_names(items: &[Item], first: usize) -> usize
     number
 }
 
+/// Whether an import may be one of a field.
+fn is_static(items: &[Item], number: usize) -> bool
+    requires { number < 2 ^ 61 }
+    ensures { result ≡ specs.is_static items.now number }
+{
+    is_word("static", items, number + 1)
+}
+
 /// Where the names of an import begin.
 fn import_from(items: &[Item], number: usize) -> usize
     requires { number < 2 ^ 61 }
     ensures value { result ≡ specs.import_from items.now number }
     ensures within { result ≤ number + 2 }
 {
-    if is_word("static", items, number + 1) {
+    if is_static(items, number) {
         number + 2
     } else {
         number + 1
     }
 }
 
+/// Whether a field of this name hides a class of the map, or a class that constants and templates begin with.
+fn hides_as_field(map: &ViewMap, name: &[u8]) -> bool
+    ensures { result ≡ specs.hides_as_field map.now name.now }
+{
+    is_class_name(map, name)
+        || begins_some_longer(name, map.constants.as_slice())
+        || begins_some_by_class(name, map.templates.as_slice())
+}
+
+/// Whether an imported name, that of a field or not, hides what Java or the map means by it.
+fn hides_imported(map: &ViewMap, name: &[u8], field: bool) -> bool
+    ensures { result ≡ specs.hides_imported map.now name.now field }
+{
+    is_java_class(name)
+        || begins_some_fetch(name, map.fetches.as_slice())
+        || (field && hides_as_field(map, name))
+}
+
 /// Whether imported names hide what a name means, of which these are the first and the last.
 #[tactic(auto, unfolding(crate::specs::Obscured::hides_last))]
-fn hides_last(map: &ViewMap, items: &[Item], from: usize, last: usize) -> bool
+fn hides_last(map: &ViewMap, items: &[Item], field: bool, from: usize, last: usize) -> bool
     requires { from < 2 ^ 62 }
-    ensures { result ≡ specs.hides_last map.now items.now from last }
+    ensures { result ≡ specs.hides_last map.now items.now field from last }
 {
-    let name = word_at(items, last);
     is_name(items, last)
-        && (is_java_class(name) || begins_some_fetch(name, map.fetches.as_slice()))
+        && hides_imported(map, word_at(items, last), field)
         && !is_java_name(items, from, last)
 }
 
-fn hides_from(map: &ViewMap, items: &[Item], from: usize) -> bool
+fn hides_from(map: &ViewMap, items: &[Item], field: bool, from: usize) -> bool
     requires { from < 2 ^ 62 }
-    ensures { result ≡ specs.hides_from map.now items.now from }
+    ensures { result ≡ specs.hides_from map.now items.now field from }
 {
-    hides_last(map, items, from, last_of_names(items, from))
+    hides_last(map, items, field, from, last_of_names(items, from))
 }
 
 fn hides_by_import(map: &ViewMap, items: &[Item], number: usize) -> bool
     requires { number < 2 ^ 61 }
     ensures { result ≡ specs.hides_by_import map.now items.now number }
 {
-    is_word("import", items, number) && hides_from(map, items, import_from(items, number))
+    is_word("import", items, number)
+        && hides_from(
+            map,
+            items,
+            is_static(items, number),
+            import_from(items, number),
+        )
 }
 
 // ---- All of them
@@ -338,9 +416,10 @@ fn hides_in(map: &ViewMap, items: &[Item], class: &[u8], from: usize, to: usize)
 }
 
 /// Whether the names of Java and of the map mean in the file what Java and the map mean by them: no type of the file has the name of a class
-/// of Java or of the map, or what a constant, a template or a fetch pattern begins with; and no class of Java's names, nor what a fetch pattern
-/// begins with, is imported from elsewhere than `java.util` and `java.lang`. A class of the map may be nested, once, in the class for which the
-/// map has it. Time goes with the items of the file, and with the map for each type and import.
+/// of Java or of the map, or what a constant, a template or a fetch pattern begins with; no class of Java's names, nor what a fetch pattern
+/// begins with, is imported from elsewhere than `java.util` and `java.lang`; and no static import has the name of a class of the map, or what a
+/// constant of several names begins with, or a template with a class. A class of the map may be nested, once, in the class for which the map
+/// has it. Time goes with the items of the file, and with the map for each type and import.
 pub fn means_the_same(map: &ViewMap, items: &[Item], class: &[u8]) -> bool
     ensures { result ≡ specs.means_the_same map.now items.now class.now }
 {
@@ -378,13 +457,69 @@ fn is_in_import(items: &[Item], last: usize) -> bool
     false
 }
 
+const PRIMITIVE_WORDS: [&str; 9] = [
+    "int", "long", "boolean", "char", "byte", "short", "float", "double", "void",
+];
+
+/// Whether the item may end a type.
+fn ends_type(items: &[Item], number: usize) -> bool
+    ensures { result ≡ specs.ends_type items.now number }
+{
+    (is_called(items, number) && !is_word("yield", items, number))
+        || is_one_of_words(&PRIMITIVE_WORDS, items, number)
+        || is_one_of_signs(&[">", "]"], items, number)
+}
+
+/// Whether a type stands before the item.
+#[tactic(auto, unfolding(crate::specs::Obscured::is_typed))]
+pub fn is_typed(items: &[Item], number: usize) -> bool
+    ensures { result ≡ specs.is_typed items.now number }
+{
+    number > 0 && ends_type(items, number - 1)
+}
+
+/// Whether the item may stand behind a class that is named.
+fn is_behind_class(items: &[Item], number: usize) -> bool
+    ensures { result ≡ specs.is_behind_class items.now number }
+{
+    is_one_of_signs(
+        &[".", "::", "(", "<", ">", "[", "{", "...", "*"],
+        items,
+        number,
+    ) || is_name(items, number)
+}
+
+/// Whether the item may go on behind the variable of a pattern, and not behind a class.
+fn goes_on_behind_pattern(items: &[Item], number: usize) -> bool
+    ensures { result ≡ specs.goes_on_behind_pattern items.now number }
+{
+    is_one_of_words(&["when", "instanceof"], items, number)
+}
+
+/// Whether brackets stand behind the name that may be an array's.
+fn is_array_name(items: &[Item], number: usize) -> bool
+    requires { number < length items.now }
+    ensures { result ≡ specs.is_array_name items.now number }
+{
+    is_sign("[", items, number + 1)
+        && (is_typed(items, number) || (number > 0 && is_sign(",", items, number - 1)))
+}
+
+/// Whether the name at a number may be one that is declared there.
+fn declares_variable(items: &[Item], number: usize) -> bool
+    requires { number < length items.now }
+    ensures { result ≡ specs.declares_variable items.now number }
+{
+    goes_on_behind_pattern(items, number + 1)
+        || is_array_name(items, number)
+        || (!is_behind_class(items, number + 1) && !is_in_import(items, number))
+}
+
 /// Whether a variable or a field may have the name that stands at a number.
 fn may_declare(items: &[Item], name: &[u8], number: usize) -> bool
     ensures { result ≡ specs.may_declare items.now name.now number }
 {
-    has_name(items, name, number)
-        && is_one_of_signs(&["=", ";", ",", ")", ":", "->"], items, number + 1)
-        && !is_in_import(items, number)
+    has_name(items, name, number) && declares_variable(items, number)
 }
 
 #[tactic(auto, using(view_shapes::proofs::Numbers::any_here, view_shapes::proofs::Numbers::any_next, view_shapes::proofs::Numbers::any_end))]
@@ -399,8 +534,8 @@ fn may_be_declared_in(items: &[Item], name: &[u8], from: usize, to: usize) -> bo
     false
 }
 
-/// Whether a class may be named by itself: it stands nowhere in the file where a variable of its name may be declared, directly before one
-/// of `=` `;` `,` `)` `:` `->`, imports aside. Time goes with the items of the file.
+/// Whether a class may be named by itself: it stands nowhere in the file where a variable of its name may be declared. Imports aside, it stands
+/// directly before `.` `::` `(` `<` `>` `[` `{` `...` `*` or a name alone. Time goes with the items of the file.
 pub fn is_clear(items: &[Item], name: &[u8]) -> bool
     ensures { result ≡ specs.is_clear items.now name.now }
 {

@@ -6,7 +6,7 @@ ghost use Rattle.view_scope.specs.Outside as specs;
 use crate::Standing;
 use crate::guards::{is_before_end_of, is_in_body, stands_before};
 use view_items::Item;
-use view_rules::{JavaType, Spelled, Within, same_type, type_at};
+use view_rules::{JavaType, Spelled, Within, fetch_at, is_element, same_type, type_at};
 use view_shapes::{
     Method, Parameter, closing_at, is_one_of_signs, is_sign, is_word, variable_prefix_end,
 };
@@ -94,6 +94,84 @@ fn is_in_headed(items: &[Item], closings: &[usize], place: usize, opening: usize
     }
 }
 
+/// Whether what is seen up to a parenthesis is a list of what has this type.
+fn is_list_of(java: JavaType, close: usize, seen: Option<(usize, JavaType)>) -> bool
+    ensures { result ≡ specs.is_list_of java close seen }
+{
+    match seen {
+        None => false,
+        Some((end, rows)) => end == close && is_element(rows, java),
+    }
+}
+
+fn is_fetched_by(w: &Within, java: JavaType, from: usize, close: usize, number: u32) -> bool
+    ensures { result ≡ specs.is_fetched_by (within_of w.now) java from close number }
+{
+    is_list_of(java, close, fetch_at(w, number, from, from))
+}
+
+fn is_fetched_among(w: &Within, java: JavaType, from: usize, close: usize, numbers: &[u32]) -> bool
+    ensures { result ≡ specs.is_fetched_among (within_of w.now) java from close numbers.now }
+{
+    numbers
+        .iter()
+        .any(|n| is_fetched_by(w, java, from, close, *n))
+}
+
+/// Whether a fetch pattern that may be read stands from a number up to the closing parenthesis.
+fn is_fetched_up_to(w: &Within, java: JavaType, from: usize, close: Option<usize>) -> bool
+    ensures { result ≡ specs.is_fetched_up_to (within_of w.now) java from close }
+{
+    match close {
+        None => false,
+        Some(close) => is_fetched_among(w, java, from, close, w.fetches),
+    }
+}
+
+/// Whether `var`, the name and a fetch pattern stand in the head whose parenthesis is opening at a number.
+fn walks_fetch(
+    w: &Within,
+    closings: &[usize],
+    java: JavaType,
+    at: usize,
+    opening: usize,
+    first: Option<usize>,
+) -> bool
+    ensures { result ≡ specs.walks_fetch (within_of w.now) closings.now java at opening first }
+{
+    match first {
+        None => false,
+        Some(first) => {
+            is_word("var", w.items, first)
+                && first + 1 == at
+                && is_sign(":", w.items, first + 2)
+                && is_fetched_up_to(w, java, first + 3, closing_at(w.items, closings, opening))
+        }
+    }
+}
+
+/// Whether the head of a `for`, whose parenthesis is opening at a number, declares the variable.
+fn declares_in_head(
+    w: &Within,
+    closings: &[usize],
+    java: JavaType,
+    at: usize,
+    opening: usize,
+) -> bool
+    requires { opening < length w.now.items.now }
+    ensures { result ≡ specs.declares_in_head (within_of w.now) closings.now java at opening }
+{
+    declares_at(w, closings, true, java, at, opening + 1)
+        || walks_fetch(
+            w,
+            closings,
+            java,
+            at,
+            opening,
+            variable_prefix_end(w.items, closings, opening + 1),
+        )
+}
+
 /// Whether the head of the `for` at a number declares the variable, and the place is in its statement.
 fn is_headed_by(
     w: &Within,
@@ -107,7 +185,7 @@ fn is_headed_by(
 {
     is_word("for", w.items, number)
         && is_sign("(", w.items, number + 1)
-        && declares_at(w, closings, true, java, at, number + 2)
+        && declares_in_head(w, closings, java, at, number + 1)
         && is_in_headed(w.items, closings, place, number + 1)
 }
 
@@ -150,8 +228,8 @@ fn is_declared_before(
 }
 
 /// Whether the variable whose name stands at a number is in sight at a place of a method's body, with this type: it is a parameter, or a
-/// statement before the place in the same block, or in one round it, declares it, or the head of a `for` round the place; of several variables
-/// of one statement the first one. `standing` are the statements of the method's body. Time goes with the items of the body and how deep
+/// statement before the place in the same block, or in one round it, declares it, or the head of a `for` round the place, that by `var` too
+/// where it walks a fetch; of several variables of one statement the first one. `standing` are the statements of the method's body. Time goes with the items of the body and how deep
 /// they stand.
 pub fn is_in_sight_at(
     w: &Within,

@@ -91,6 +91,19 @@ fn is_own(second: Option<&PatternItem>, first: Option<&PatternItem>) -> bool
     !is_mark(b".", first) || is_this(second)
 }
 
+/// Whether it is `super` or the name of the class, behind which what is the object's own stands too.
+fn is_owner(class: &[u8], item: Option<&PatternItem>) -> bool
+    ensures { result ≡ specs.is_owner class.now (option_copied item.entry) }
+{
+    is_spelled(class, item) || is_spelled(b"super", item)
+}
+
+fn is_owned(class: &[u8], second: Option<&PatternItem>, first: Option<&PatternItem>) -> bool
+    ensures { result ≡ specs.is_owned class.now (option_copied second.entry) (option_copied first.entry) }
+{
+    is_own(second, first) || is_owner(class, second)
+}
+
 /// The item that stands so far before a number.
 fn item_before(items: &[PatternItem], far: usize, number: usize) -> Option<&PatternItem>
     ensures { option_copied result ≡ specs.item_before items.now far number }
@@ -117,18 +130,31 @@ pub fn is_own_at(items: &[PatternItem], number: usize) -> bool
     is_plain(items.get(number)) && begins_own(items, number)
 }
 
-/// Whether a method of the object itself is called there.
-pub fn is_own_call(items: &[PatternItem], number: usize) -> bool
-    ensures { result ≡ specs.is_own_call items.now number }
+/// Whether a name of what is the object's own, or of its class, stands there.
+fn is_owned_at(class: &[u8], items: &[PatternItem], number: usize) -> bool
+    ensures value { result ≡ specs.is_owned_at class.now items.now number }
+    ensures within { IsTrue result → number < length items.now }
 {
-    is_own_at(items, number) && is_mark(b"(", items.get(number + 1))
+    is_plain(items.get(number))
+        && is_owned(
+            class,
+            item_before(items, 2, number),
+            item_before(items, 1, number),
+        )
+}
+
+/// Whether a method of the object itself is called there.
+pub fn is_own_call(class: &[u8], items: &[PatternItem], number: usize) -> bool
+    ensures { result ≡ specs.is_own_call class.now items.now number }
+{
+    is_owned_at(class, items, number) && is_mark(b"(", items.get(number + 1))
 }
 
 /// Whether a variable of the object itself, or a class, is named there.
-pub fn is_variable(items: &[PatternItem], number: usize) -> bool
-    ensures { result ≡ specs.is_variable items.now number }
+pub fn is_variable(class: &[u8], items: &[PatternItem], number: usize) -> bool
+    ensures { result ≡ specs.is_variable class.now items.now number }
 {
-    is_own_at(items, number) && !is_mark(b"(", items.get(number + 1))
+    is_owned_at(class, items, number) && !is_mark(b"(", items.get(number + 1))
 }
 
 /// Whether a name stands there neither behind a dot nor before a parenthesis.
@@ -141,6 +167,21 @@ pub fn is_loose_at(items: &[PatternItem], number: usize) -> bool
         items.get(number),
         items.get(number + 1),
     )
+}
+
+/// Whether `.class` goes on.
+fn is_literal(first: Option<&PatternItem>, second: Option<&PatternItem>) -> bool
+    ensures { result ≡ specs.is_literal (option_copied first.entry) (option_copied second.entry) }
+{
+    is_mark(b".", first) && is_spelled(b"class", second)
+}
+
+/// Whether a variable may take the name away from a class: it stands neither behind a dot nor before a parenthesis nor before `.class`.
+pub fn may_be_hidden(items: &[PatternItem], number: usize) -> bool
+    requires { number < length items.now }
+    ensures { result ≡ specs.may_be_hidden items.now number }
+{
+    is_loose_at(items, number) && !is_literal(items.get(number + 1), items.get(number + 2))
 }
 
 /// How many parentheses are open behind an item.
@@ -249,6 +290,53 @@ pub fn is_loose_part(parts: &[Part], number: usize) -> bool
         item_of(parts, number),
         item_of(parts, number + 1),
     )
+}
+
+/// The item that stands so far before a number.
+fn part_far_before(parts: &[Part], far: usize, number: usize) -> Option<&PatternItem>
+    ensures { option_copied result ≡ specs.part_far_before parts.now far number }
+{
+    if far <= number {
+        item_of(parts, number - far)
+    } else {
+        None
+    }
+}
+
+fn is_owned_part(class: &[u8], parts: &[Part], number: usize) -> bool
+    ensures { result ≡ specs.is_owned_part class.now parts.now number }
+{
+    is_plain(item_of(parts, number))
+        && is_owned(
+            class,
+            part_far_before(parts, 2, number),
+            part_far_before(parts, 1, number),
+        )
+}
+
+/// Whether a template calls a method of the object itself there.
+pub fn is_own_part_call(class: &[u8], parts: &[Part], number: usize) -> bool
+    requires { number < length parts.now }
+    ensures { result ≡ specs.is_own_part_call class.now parts.now number }
+{
+    is_owned_part(class, parts, number) && is_mark(b"(", item_of(parts, number + 1))
+}
+
+/// Whether a template names a variable of the object itself, or a class, there.
+pub fn is_part_variable(class: &[u8], parts: &[Part], number: usize) -> bool
+    requires { number < length parts.now }
+    ensures { result ≡ specs.is_part_variable class.now parts.now number }
+{
+    is_owned_part(class, parts, number) && !is_mark(b"(", item_of(parts, number + 1))
+}
+
+/// Whether a variable may take the name of a template there away from a class.
+pub fn may_part_be_hidden(parts: &[Part], number: usize) -> bool
+    requires { number < length parts.now }
+    ensures { result ≡ specs.may_part_be_hidden parts.now number }
+{
+    is_loose_part(parts, number)
+        && !is_literal(item_of(parts, number + 1), item_of(parts, number + 2))
 }
 
 fn part_ends_front(parts: &[Part], depth: usize, number: usize) -> bool

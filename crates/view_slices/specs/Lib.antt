@@ -1,3 +1,4 @@
+pub mod Kept
 pub mod Reading
 pub mod Shown
 pub mod Slices

@@ -37,6 +37,7 @@ use Rattle.view_shapes.specs.declared.file.File as code
 use Rattle.view_statements.specs.declared.slice.Printed.{Printed}
 use Rattle.view_statements.specs.declared.slice.Words.{Words}
 use Rattle.view_statements.specs.declared.frame.Place.{Place}
+pub use Rattle.view_statements.specs.Slices.{PlainSlice, PlainGroup, PlainEnding, Open, Grouped, Returned}
 use Rattle.view_statements.specs.Places.{Frame, at_top, own, is_no_word, is_seen_name}
 use Rattle.view_statements.specs.Statements.{Passed, with_sight, statement_of, statements_of, truth_word}
 use Rattle.view_statements.specs.Steps.{is_handed}
@@ -54,32 +55,6 @@ pub record File : Type 0 where
 
 abbrev pub file_of : code.File → File
 file_of f = record { items = f.items.now; closings = f.closings.now; rounds = f.rounds.now; class = f.class }
-
-pub record PlainGroup : Type 0 where
-  pub variable : List ℕ
-  pub value : Bool
-  pub walk : PlainStatement
-
--- what stands behind the statements: nothing, a group, or the `return` of a variable
-pub data PlainEnding : Type 0 where
-  Open : PlainEnding
-  Grouped : PlainGroup → PlainEnding
-  Returned : List ℕ → PlainEnding
-
-pub record PlainSlice : Type 0 where
-  pub from : ℕ
-  pub to : ℕ
-  pub block : Stretch
-  pub outside : List Sighted
-  pub declared : List ℕ
-  pub params : List Param
-  pub kinds : List ScalarKind
-  pub tested : List (List ℕ)
-  pub gets : Bool
-  pub prints : List Printed
-  pub each : List ℕ
-  pub statements : PlainStatements
-  pub ending : PlainEnding
 
 -- what is fixed while the slice is looked at
 abbrev pub within : ViewMap → List Table → File → Words → PlainSlice → Within

@@ -14,6 +14,7 @@ use Rattle.view_map.specs.declared.model.ViewMap.{ViewMap}
 use Rattle.view_shapes.specs.declared.members.ClassPlace.{ClassPlace}
 use Rattle.view_shapes.specs.declared.members.Stretch.{Stretch}
 use Rattle.view_shapes.specs.Members.{class_of}
+use Rattle.view_shapes.specs.Mentions.{is_named}
 use Rattle.view_shapes.specs.Prefixes.{is_plain_name}
 use Rattle.view_rules.specs.declared.sight.Param.{Param}
 use Rattle.view_rules.specs.declared.sight.Sighted.{Sighted}
@@ -32,14 +33,11 @@ use Rattle.view_scope.specs.Standing.{standing_of}
 use Rattle.view_statements.specs.declared.slice.Printed.{Printed}
 use Rattle.view_statements.specs.declared.slice.Read.{Read}
 use Rattle.view_statements.specs.declared.slice.Words.{Words}
+use Rattle.view_slices.specs.Kept.{keeps_statements}
 use Rattle.view_slices.specs.Shown.{method_cells}
+pub use Rattle.view_statements.specs.Slices.{PlainSliced}
 use Rattle.view_slices.specs.Slices.{File, PlainSlice, within, is_slice_by, is_print_of, returned}
 use Rattle.view_slices.specs.Words.{class_name, members, are_words}
-
--- a method, what may be read in it, and its slices
-pub record PlainSliced : Type 0 where
-  pub read : Read
-  pub slices : List PlainSlice
 
 pub record View : Type 0 where
   pub file : File
@@ -93,8 +91,16 @@ abbrev pub are_apart : ℕ → List PlainSlice → Bool
 are_apart from [] = true
 are_apart from (s ∷ ss) = nat_le from s.from && are_apart s.to ss
 
+-- The slice names each of its parameters: what it doesn't name may be null, and nothing may read it in its place.
+abbrev pub is_param_named : List Item → PlainSlice → Param → Bool
+is_param_named items s p = is_named items p.variable s.from s.to
+
+abbrev pub are_params_named : List Item → PlainSlice → Bool
+are_params_named items s = list_all (is_param_named items s) s.params
+
 abbrev pub is_one : ViewMap → List Table → File → Read → List Standing → List Stretch → PlainSlice → Bool
-is_one m tables file read standing tested s = is_slice_by m tables file read.words read.method standing tested s
+is_one m tables file read standing tested s =
+    are_params_named file.items s && is_slice_by m tables file read.words read.method standing tested s
 
 -- with the statements of the method's blocks, and where its body tests variables for null
 abbrev pub are_slices_by : ViewMap → List Table → File → Read → List Standing → List Stretch → List PlainSlice → Bool
@@ -212,8 +218,13 @@ is_sighted_in outside v = has_type v (in_sight outside v.name)
 abbrev pub are_sighted_in : List Sighted → List Sighted → Bool
 are_sighted_in outside vs = list_all (is_sighted_in outside) vs
 
--- A slice of another file is one again: it is handed the same, prints the same and returns the same, and the variables in sight before it were so before.
-abbrev pub is_again : PlainSlice → PlainSlice → Bool
-is_again s t =
+-- it is handed the same, prints the same and returns the same, and the variables in sight before it were so before
+abbrev pub has_same_ends : PlainSlice → PlainSlice → Bool
+has_same_ends s t =
     same_params s.params t.params && (same_kinds s.kinds t.kinds && (same_prints s.prints t.prints && (bytes_eq s.each t.each
     && (same_name (returned s.ending) (returned t.ending) && are_sighted_in s.outside t.outside))))
+
+-- A slice of another file, with these items, is one again: what comes in and goes out is the same, and it is made of statements of the first one and
+-- of ones that ask.
+abbrev pub is_again : List Item → PlainSlice → List Item → PlainSlice → Bool
+is_again items s written t = has_same_ends s t && keeps_statements items s written t

@@ -13,7 +13,7 @@ use Rattle.view_shapes.specs.Members.{members_of}
 use Rattle.view_rules.specs.declared.sight.ClassConstant.{ClassConstant}
 use Rattle.view_rules.specs.Decisions.{same_kind}
 use Rattle.view_shapes.specs.declared.method.Method.{Method}
-use Rattle.view_scope.specs.Allowed.{keeps_meaning, is_no_field, is_fetch_read, is_template_read, is_constant_read, is_free_in}
+use Rattle.view_scope.specs.Allowed.{keeps_meaning, keeps_template, is_no_field, is_fetch_read, is_template_read, is_constant_read, is_free_in}
 use Rattle.view_scope.specs.Constants.{constants_among}
 use Rattle.view_scope.specs.Obscured.{is_there, is_clear, word_at}
 use Rattle.view_statements.specs.declared.slice.Words.{Words}
@@ -28,13 +28,16 @@ class_name file = word_at file.items file.class.name
 abbrev pub members : File → List Stretch
 members file = members_of file.items file.closings file.class.from
 
--- a fetch pattern means in the class what the map says
-abbrev pub is_kept : File → FetchPattern → Bool
-is_kept file f = keeps_meaning file.items file.closings file.rounds file.class (members file) f
+-- a fetch pattern means in the class what the map says, and so does a template
+abbrev pub is_kept : ViewMap → File → FetchPattern → Bool
+is_kept m file f = keeps_meaning m file.items file.closings file.rounds file.class (members file) f
+
+abbrev pub is_template_kept : ViewMap → File → Template → Bool
+is_template_kept m file t = keeps_template m file.items file.closings file.rounds file.class (members file) t
 
 -- no field hides a constant of the map
 abbrev pub is_unhidden : File → Constant → Bool
-is_unhidden file c = is_no_field file.items c.names
+is_unhidden file c = is_no_field file.items file.closings file.rounds c.names
 
 abbrev pub class_constants : File → List ClassConstant
 class_constants file = constants_among file.items file.closings (members file)
@@ -60,7 +63,8 @@ clear_names m file = clear_among file.items java_names ++ clear_among file.items
 abbrev pub known_in : ViewMap → File → Known
 known_in m file =
     record {
-      kept = map (is_kept file) m.fetches;
+      kept = map (is_kept m file) m.fetches;
+      templates = map (is_template_kept m file) m.templates;
       free = map (is_unhidden file) m.constants;
       constants = class_constants file;
       clear = clear_names m file;
@@ -78,7 +82,7 @@ is_fetch_there m file method (Some f) = is_fetch_read m file.items file.closings
 
 abbrev pub is_template_there : ViewMap → File → Method → Option Template → Bool
 is_template_there m file method None = false
-is_template_there m file method (Some t) = is_template_read m file.items file.closings file.rounds method t
+is_template_there m file method (Some t) = is_template_kept m file t && is_template_read m file.items file.closings file.rounds method t
 
 abbrev pub is_constant_there : File → Method → Option Constant → Bool
 is_constant_there file method None = false

@@ -267,7 +267,167 @@ unreturned = asking_slice 18 query_slice.statements Open
 pub record WorkedGroups : Type 0 where
   pub before : is_seen asking grouped ≡ true
   pub behind : is_seen asked queried ≡ true
-  pub again : is_again group_slice query_slice ≡ true
-  pub without_return : is_again group_slice unreturned ≡ false
+  pub again : is_again (items_of asking) group_slice (items_of asked) query_slice ≡ true
+  pub without_return : is_again (items_of asking) group_slice (items_of asked) unreturned ≡ false
   pub tokens_before : tokens asking grouped ≡ words_of (codes "class D { void s1() { boolean found = false; for (user_account u : db.fetch(user_account.class)) { if (u.enabled) { found = true; } } System.out.println(found); } }")
   pub tokens_behind : tokens asked queried ≡ words_of (codes "class D { void s1() { boolean found = db.queryBoolean(\"q\"); System.out.println(found); } }")
+
+-- ---- Parameters that a slice doesn't name
+
+abbrev pub unnaming : List ℕ
+unnaming = codes "class D { void f(int n, Long id) { while (g(n)) { n = 0; for (UserAccount u : users.findAll()) { n++; } } } }"
+
+abbrev unnaming_slice : List Sighted → List ℕ → List Param → List ScalarKind → PlainSlice
+unnaming_slice outside declared params scalars =
+    record {
+      from = 21;
+      to = 41;
+      block = record { from = 21; to = 41 };
+      outside = outside;
+      declared = declared;
+      params = params;
+      kinds = scalars;
+      tested = [];
+      gets = true;
+      prints = print (codes "n") (scalar kinds.Int false) ∷ [];
+      each = codes "each";
+      statements = Then (plain.Assignment 21 (exprs.Literal 23) 24) (one (each_account 25 28 35 (one (plain.Stepped 37 counts.Up 37 38 39)) 40));
+      ending = Open;
+    }
+
+abbrev unnaming_method : Method
+unnaming_method = method (record { ty = 6; name = 7 } ∷ record { ty = 9; name = 10 } ∷ []) false 13 42
+
+abbrev pub handed_all : PlainSliced
+handed_all =
+    sliced unnaming_method
+    (unnaming_slice (outer (codes "n") (scalar kinds.Int false) ∷ outer (codes "id") (scalar kinds.Long true) ∷ []) (7 ∷ 10 ∷ [])
+    (param (codes "n") None (codes "n") ∷ param (codes "id") None (codes "id") ∷ []) (kinds.Int ∷ kinds.Long ∷ []))
+
+abbrev pub handed_named : PlainSliced
+handed_named =
+    sliced unnaming_method
+    (unnaming_slice (outer (codes "n") (scalar kinds.Int false) ∷ outer (codes "id") (scalar kinds.Long true) ∷ []) (7 ∷ 10 ∷ [])
+    (param (codes "n") None (codes "n") ∷ []) (kinds.Int ∷ []))
+
+-- what a slice doesn't name is no parameter, since it may be null
+pub record WorkedParameters : Type 0 where
+  pub named : is_seen unnaming handed_named ≡ true
+  pub unnamed : is_seen unnaming handed_all ≡ false
+
+-- ---- Statements whose widths aren't seen
+
+abbrev counted : List ℕ → JavaType → ScalarKind → ℕ → ℕ → List Printed → PlainStatements → PlainSlice
+counted name java kind to end prints statements =
+    record {
+      from = 10;
+      to = to;
+      block = record { from = 10; to = end };
+      outside = outer name java ∷ [];
+      declared = 7 ∷ [];
+      params = param name None name ∷ [];
+      kinds = kind ∷ [];
+      tested = [];
+      gets = true;
+      prints = prints;
+      each = codes "each";
+      statements = statements;
+      ending = Open;
+    }
+
+abbrev counted_in : ℕ → PlainSlice → PlainSliced
+counted_in end s = sliced (method (record { ty = 6; name = 7 } ∷ []) false 10 end) s
+
+abbrev pub multiplied : List ℕ → List ℕ
+multiplied literal = codes "class D { void f(long n) { for (UserAccount u : users.findAll()) { n = u.getAge() * " ++ (literal ++ codes "; } g(n); } }")
+
+abbrev pub multiplied_slice : PlainSlice
+multiplied_slice =
+    counted (codes "n") (scalar kinds.Long false) kinds.Long 33 38 (print (codes "n") (scalar kinds.Long false) ∷ [])
+    (one (each_account 10 13 20 (one (plain.Assignment 22 (exprs.Binary signs.Times (column_at 24 2) 29 (exprs.Literal 30)) 31)) 32))
+
+abbrev pub named : List ℕ → List ℕ
+named word = codes "class D { void f(long n) { for (UserAccount u : users.findAll()) { " ++ (word ++ codes " v = u.getAge(); n = v * v; } g(n); } }")
+
+abbrev pub named_slice : ScalarKind → PlainSlice
+named_slice kind =
+    counted (codes "n") (scalar kinds.Long false) kinds.Long 38 43 (print (codes "n") (scalar kinds.Long false) ∷ [])
+    (one (each_account 10 13 20
+    (Then (plain.Named 22 23 (scalar kind false) (column_at 25 2) 30)
+    (one (plain.Assignment 31 (exprs.Binary signs.Times (exprs.NamedColumn 33 13 0 2) 34 (exprs.NamedColumn 35 13 0 2)) 36))) 37))
+
+-- a literal or a name of a column of another width is seen as the same, or nearly so, but it is none of the source's statements
+pub record WorkedWidths : Type 0 where
+  pub itself : is_again (items_of (multiplied (codes "9L"))) multiplied_slice (items_of (multiplied (codes "9L"))) multiplied_slice ≡ true
+  pub seen_with_other : is_seen (multiplied (codes "9")) (counted_in 38 multiplied_slice) ≡ true
+  pub other_literal : is_again (items_of (multiplied (codes "9L"))) multiplied_slice (items_of (multiplied (codes "9"))) multiplied_slice ≡ false
+  pub named_itself : is_again (items_of (named (codes "long"))) (named_slice kinds.Long) (items_of (named (codes "long"))) (named_slice kinds.Long) ≡ true
+  pub seen_with_name : is_seen (named (codes "int")) (counted_in 43 (named_slice kinds.Int)) ≡ true
+  pub same_tokens : tokens (named (codes "int")) (counted_in 43 (named_slice kinds.Int)) ≡ tokens (named (codes "long")) (counted_in 43 (named_slice kinds.Long))
+  pub other_name : is_again (items_of (named (codes "long"))) (named_slice kinds.Long) (items_of (named (codes "int"))) (named_slice kinds.Int) ≡ false
+
+-- ---- Constants of Java
+
+abbrev pub constant : List ℕ
+constant = codes "class D { void f(int k) { final int n = 98; for (UserAccount u : users.findAll()) { k++; } g(k, n); } }"
+
+abbrev pub changing : List ℕ
+changing = codes "class D { void f(int k) { int n = 98; for (UserAccount u : users.findAll()) { k++; } g(k, n); } }"
+
+-- where the declaration begins at 10, and its name is behind so many items
+abbrev constant_slice : ℕ → PlainSlice
+constant_slice front =
+    counted (codes "k") (scalar kinds.Int false) kinds.Int (front + 20) (front + 27)
+    (print (codes "n") (scalar kinds.Int false) ∷ print (codes "k") (scalar kinds.Int false) ∷ [])
+    (Then (plain.Declaration 10 front (scalar kinds.Int false) (exprs.Literal (front + 2)) (front + 3))
+    (one (each_account (front + 4) (front + 7) (front + 14) (one (plain.Stepped (front + 16) counts.Up (front + 16) (front + 17) (front + 18))) (front + 19))))
+
+-- a `final` variable stays one where it is named behind the slice, since Java may take it for a constant
+pub record WorkedConstants : Type 0 where
+  pub seen : is_seen constant (counted_in 39 (constant_slice 12)) ≡ true
+  pub seen_without : is_seen changing (counted_in 38 (constant_slice 11)) ≡ true
+  pub same_tokens : tokens constant (counted_in 39 (constant_slice 12)) ≡ tokens changing (counted_in 38 (constant_slice 11))
+  pub itself : is_again (items_of constant) (constant_slice 12) (items_of constant) (constant_slice 12) ≡ true
+  pub without : is_again (items_of constant) (constant_slice 12) (items_of changing) (constant_slice 11) ≡ false
+
+-- ---- A loop inside of a loop gives way
+
+abbrev pub nested : List ℕ
+nested =
+    codes "class D { void f(int n) { for (UserAccount u : users.findAll()) { boolean b = false; for (UserAccount v : users.findAll()) { if (v.getAge() > u.getAge()) { b = true; } } if (b) { n++; } } g(n); } }"
+
+abbrev pub nested_query : List ℕ
+nested_query =
+    codes "class D { void f(int n) { for (UserAccount u : users.findAll()) { boolean b = db.queryBoolean(\"q\", u.getAge()); if (b) { n++; } } g(n); } }"
+
+abbrev counting_slice_to : ℕ → ℕ → PlainStatement → PlainSlice
+counting_slice_to to end st =
+    counted (codes "n") (scalar kinds.Int false) kinds.Int to end (print (codes "n") (scalar kinds.Int false) ∷ []) (one st)
+
+-- `if (b) { n++; }`
+abbrev if_found : ℕ → PlainStatement
+if_found at = plain.If at (exprs.Variable (at + 2)) (at + 3) true (one (plain.Stepped (at + 5) counts.Up (at + 5) (at + 6) (at + 7))) (at + 8)
+
+abbrev pub nested_slice : PlainSlice
+nested_slice =
+    counting_slice_to 70 75
+    (each_account 10 13 20
+    (Then (plain.Declaration 22 23 (scalar kinds.Boolean false) (exprs.Literal 25) 26)
+    (Then (each_account 27 30 37
+    (one (plain.If 39 (exprs.Binary signs.Greater (column_at 41 2) 46 (column_at 47 2)) 52 true (one (plain.Assignment 54 (exprs.Literal 56) 57)) 58)) 59)
+    (one (if_found 60)))) 69)
+
+abbrev pub nested_query_slice : PlainSlice
+nested_query_slice =
+    counting_slice_to 48 53
+    (each_account 10 13 20
+    (Then (plain.Declaration 22 23 (scalar kinds.Boolean false)
+    (exprs.Query 25 false 0 29 (scalar kinds.Long false) (exprs.Next (column_at 31 2) exprs.End)) 37)
+    (one (if_found 38))) 47)
+
+-- a statement that asks stands in place of others in the body of one that is kept
+pub record WorkedNested : Type 0 where
+  pub before : is_seen nested (counted_in 75 nested_slice) ≡ true
+  pub behind : is_seen nested_query (counted_in 53 nested_query_slice) ≡ true
+  pub again : is_again (items_of nested) nested_slice (items_of nested_query) nested_query_slice ≡ true
+  pub without_query : is_again (items_of nested_query) nested_query_slice (items_of nested) nested_slice ≡ false

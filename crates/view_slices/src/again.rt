@@ -3,7 +3,9 @@ ghost use Rattle.std.specs.Prelude.{◌≡◌, option_copied};
 ghost use Rattle.view_slices.specs.Reading.{slice as plain};
 ghost use Rattle.view_slices.specs.Views as specs;
 
+use crate::kept::keeps_statements;
 use crate::prints::{is_print_of, returned};
+use view_items::Item;
 use view_map::ScalarKind;
 use view_rules::{Param, Sighted, find_sighted, same_kind, same_type};
 use view_statements::{Printed, Slice};
@@ -101,10 +103,8 @@ fn are_sighted_in(outside: &[Sighted], others: &[Sighted]) -> bool
     others.iter().all(|v| is_sighted_in(outside, v))
 }
 
-/// Whether a slice of another file is one again: it is handed the same, prints the same and returns the same, and the variables in sight before it
-/// were so before.
-pub fn is_again(slice: &Slice, again: &Slice) -> bool
-    ensures { result ≡ specs.is_again (plain slice.now) (plain again.now) }
+fn has_same_ends(slice: &Slice, again: &Slice) -> bool
+    ensures { result ≡ specs.has_same_ends (plain slice.now) (plain again.now) }
 {
     same_params(slice.params.as_slice(), again.params.as_slice())
         && (same_kinds(slice.kinds.as_slice(), again.kinds.as_slice())
@@ -112,4 +112,13 @@ pub fn is_again(slice: &Slice, again: &Slice) -> bool
                 && (slice.each.as_slice() == again.each.as_slice()
                     && (same_name(returned(&slice.ending), returned(&again.ending))
                         && are_sighted_in(slice.outside.as_slice(), again.outside.as_slice())))))
+}
+
+/// Whether a slice of another file, with the items `written`, is one again: it is handed the same, prints the same and returns the same, the
+/// variables in sight before it were so before, and it is made of statements of the first one, item for item, and of ones that ask. Time goes
+/// with the items of both.
+pub fn is_again(items: &[Item], slice: &Slice, written: &[Item], again: &Slice) -> bool
+    ensures { result ≡ specs.is_again items.now (plain slice.now) written.now (plain again.now) }
+{
+    has_same_ends(slice, again) && keeps_statements(items, slice, written, again)
 }

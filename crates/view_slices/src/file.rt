@@ -25,7 +25,8 @@ pub fn looked_at(file: &Opened) -> File<'_>
     }
 }
 
-fn word_at(items: &[Item], number: usize) -> &[u8]
+/// The bytes of the item with a number.
+pub fn word_at(items: &[Item], number: usize) -> &[u8]
     ensures { result.now ≡ word_in items.now number }
 {
     match items.get(number) {

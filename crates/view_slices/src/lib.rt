@@ -3,6 +3,7 @@
 
 mod again;
 mod file;
+mod kept;
 mod params;
 mod placed;
 mod prints;

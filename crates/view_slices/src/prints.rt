@@ -128,7 +128,8 @@ fn is_read_later(w: &Within, method: &Method, slice: &Slice, v: &Sighted) -> boo
     }
 }
 
-fn is_printed(prints: &[Printed], name: &[u8], java: JavaType) -> bool
+/// Whether a variable of a name and a type is among those that are printed.
+pub fn is_printed(prints: &[Printed], name: &[u8], java: JavaType) -> bool
     ensures { result ≡ specs.is_printed prints.now name.now java }
 {
     prints.iter().any(|p| is_print_of(name, java, p))

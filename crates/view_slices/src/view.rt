@@ -9,16 +9,17 @@ ghost use Rattle.view_slices.specs.Words.{known_in as all_known};
 
 use crate::file::class_name;
 use crate::shown::put_method;
+use crate::slices::{is_slice, within};
 use crate::words::{Known, are_words, known_in};
 use itoa::Buffer;
 use qbs_base::{Bytes, NoMemory, Table};
 use std::alloc::Global;
-use view_items::Cells;
+use view_items::{Cells, Item};
 use view_map::ViewMap;
-use view_rules::{Within, push_all_made};
+use view_rules::{Param, Within, push_all_made};
 use view_scope::{Standing, method_of, standing_of, tested_in};
-use view_shapes::{File, Method, Parameter, Stretch, members_of};
-use view_statements::{Read, Slice, Sliced, Words, is_slice, within};
+use view_shapes::{File, Method, Parameter, Stretch, is_named, members_of};
+use view_statements::{Read, Slice, Sliced, Words};
 
 // ---- Methods
 
@@ -78,6 +79,50 @@ fn are_apart(slices: &[Slice]) -> bool
     true
 }
 
+fn is_param_named(items: &[Item], s: &Slice, p: &Param) -> bool
+    ensures { result ≡ specs.is_param_named items.now (plain s.now) p.now }
+{
+    is_named(items, p.variable.as_slice(), s.from, s.to)
+}
+
+fn are_params_named(items: &[Item], s: &Slice) -> bool
+    ensures { result ≡ specs.are_params_named items.now (plain s.now) }
+{
+    s.params
+        .as_slice()
+        .iter()
+        .all(|p| is_param_named(items, s, p))
+}
+
+fn is_one_of(
+    alloc: Global,
+    map: &ViewMap,
+    tables: &[Table],
+    file: &File,
+    read: &Read,
+    standing: &[Standing],
+    tested: &[Stretch],
+    s: &Slice,
+) -> Result<bool, NoMemory>
+    ensures { IfOk result (λ b. b ≡ specs.is_one map.now tables.now (file_of file.now) read.now standing.now tested.now (plain s.now)) }
+{
+    if are_params_named(file.items, s) {
+        is_slice(
+            alloc,
+            map,
+            tables,
+            file,
+            &read.words,
+            &read.method,
+            standing,
+            tested,
+            s,
+        )
+    } else {
+        Ok(false)
+    }
+}
+
 /// Whether one is a slice; else its first item is pushed.
 fn is_one(
     alloc: Global,
@@ -92,17 +137,7 @@ fn is_one(
 ) -> Result<bool, NoMemory>
     ensures { IfOk result (λ b. b ≡ specs.is_one map.now tables.now (file_of file.now) read.now standing.now tested.now (plain s.now)) }
 {
-    let is = is_slice(
-        alloc,
-        map,
-        tables,
-        file,
-        &read.words,
-        &read.method,
-        standing,
-        tested,
-        s,
-    )?;
+    let is = is_one_of(alloc, map, tables, file, read, standing, tested, s)?;
     if !is {
         refused.push(s.from)?;
     }

@@ -11,16 +11,17 @@ use view_map::{Constant, FetchPattern, RowClass, Template, ViewMap};
 use view_rules::{ClassConstant, same_kind};
 use view_scope::{
     constants_of, is_clear, is_constant_read, is_fetch_read, is_free_in, is_no_field,
-    is_template_read, is_there, keeps_meaning,
+    is_template_read, is_there, keeps_meaning, keeps_template,
 };
 use view_shapes::{File, Method, Stretch};
 use view_statements::{Words, copied};
 
-/// What is asked once for a file: which fetch patterns mean in its class what the map says, which constants of the map no field hides, the
-/// constants of the class, and the names of classes that nothing obscures.
+/// What is asked once for a file: which fetch patterns and which templates mean in its class what the map says, which constants of the map no
+/// field hides, the constants of the class, and the names of classes that nothing obscures.
 #[derive(Drop)]
 pub struct Known {
     pub kept: Items<bool>,
+    pub templates: Items<bool>,
     pub free: Items<bool>,
     pub constants: Items<ClassConstant>,
     pub clear: Items<Bytes>,
@@ -30,16 +31,18 @@ pub struct Known {
 
 fn all_kept(
     alloc: Global,
+    m: &ViewMap,
     file: &File,
     members: &[Stretch],
     fetches: &[FetchPattern],
 ) -> Result<Items<bool>, NoMemory>
     requires { members.now ≡ specs.members (file_of file.now) }
-    ensures { IfOk result (λ list. list ≡ map (specs.is_kept (file_of file.now)) fetches.now) }
+    ensures { IfOk result (λ list. list ≡ map (specs.is_kept m.now (file_of file.now)) fetches.now) }
 {
     let mut list = Items::new(alloc);
     for fetch in fetches {
         list.push(keeps_meaning(
+            m,
             file.items,
             file.closings,
             file.rounds,
@@ -51,12 +54,37 @@ fn all_kept(
     Ok(list)
 }
 
+fn all_templates_kept(
+    alloc: Global,
+    m: &ViewMap,
+    file: &File,
+    members: &[Stretch],
+    templates: &[Template],
+) -> Result<Items<bool>, NoMemory>
+    requires { members.now ≡ specs.members (file_of file.now) }
+    ensures { IfOk result (λ list. list ≡ map (specs.is_template_kept m.now (file_of file.now)) templates.now) }
+{
+    let mut list = Items::new(alloc);
+    for template in templates {
+        list.push(keeps_template(
+            m,
+            file.items,
+            file.closings,
+            file.rounds,
+            file.class,
+            members,
+            template,
+        ))?;
+    }
+    Ok(list)
+}
+
 fn all_unhidden(alloc: Global, file: &File, constants: &[Constant]) -> Result<Items<bool>, NoMemory>
     ensures { IfOk result (λ list. list ≡ map (specs.is_unhidden (file_of file.now)) constants.now) }
 {
     let mut list = Items::new(alloc);
     for constant in constants {
-        list.push(is_no_field(file.items, constant))?;
+        list.push(is_no_field(file.items, file.closings, file.rounds, constant))?;
     }
     Ok(list)
 }
@@ -139,7 +167,8 @@ pub fn known_in(
     ensures { IfOk result (λ known. known ≡ specs.known_in map.now (file_of file.now)) }
 {
     Ok(Known {
-        kept: all_kept(alloc, file, members, map.fetches.as_slice())?,
+        kept: all_kept(alloc, map, file, members, map.fetches.as_slice())?,
+        templates: all_templates_kept(alloc, map, file, members, map.templates.as_slice())?,
         free: all_unhidden(alloc, file, map.constants.as_slice())?,
         constants: constants_of(alloc, file.items, file.closings, members)?,
         clear: clear_names(alloc, map, file)?,
@@ -177,7 +206,7 @@ fn is_fetch_kept(
     f: Option<&FetchPattern>,
     kept: Option<&bool>,
 ) -> bool
-    requires { option_copied kept ≡ option_map (specs.is_kept (file_of file.now)) (option_copied f) }
+    requires { option_copied kept ≡ option_map (specs.is_kept map.now (file_of file.now)) (option_copied f) }
     ensures { result ≡ specs.is_fetch_there map.now (file_of file.now) method.now (option_copied f.entry) }
 {
     match (f, kept) {
@@ -223,28 +252,50 @@ fn are_fetches_there(
     true
 }
 
-fn is_template_there(map: &ViewMap, file: &File, method: &Method, t: Option<&Template>) -> bool
+fn is_template_there(
+    map: &ViewMap,
+    file: &File,
+    method: &Method,
+    t: Option<&Template>,
+    kept: Option<&bool>,
+) -> bool
+    requires { option_copied kept ≡ option_map (specs.is_template_kept map.now (file_of file.now)) (option_copied t) }
     ensures { result ≡ specs.is_template_there map.now (file_of file.now) method.now (option_copied t.entry) }
 {
-    match t {
-        Some(t) => is_template_read(map, file.items, file.closings, file.rounds, method, t),
-        None => false,
+    match (t, kept) {
+        (Some(t), Some(kept)) => {
+            *kept && is_template_read(map, file.items, file.closings, file.rounds, method, t)
+        }
+        _ => false,
     }
 }
 
-fn is_template_of(map: &ViewMap, file: &File, method: &Method, number: u32) -> bool
+#[tactic(auto, using(crate::proofs::Knowing::template_of))]
+fn is_template_of(map: &ViewMap, file: &File, known: &Known, method: &Method, number: u32) -> bool
+    requires { known.now ≡ specs.known_in map.now (file_of file.now) }
     ensures { result ≡ specs.is_template_of map.now (file_of file.now) method.now number }
 {
     let t = map.templates.as_slice().get(number as usize);
-    is_template_there(map, file, method, t)
+    let kept = known.templates.as_slice().get(number as usize);
+    is_template_there(map, file, method, t, kept)
 }
 
-fn are_templates_there(map: &ViewMap, file: &File, method: &Method, numbers: &[u32]) -> bool
+fn are_templates_there(
+    map: &ViewMap,
+    file: &File,
+    known: &Known,
+    method: &Method,
+    numbers: &[u32],
+) -> bool
+    requires { known.now ≡ specs.known_in map.now (file_of file.now) }
     ensures { result ≡ specs.are_templates_there map.now (file_of file.now) method.now numbers.now }
 {
-    numbers
-        .iter()
-        .all(|n| is_template_of(map, file, method, *n))
+    for n in numbers {
+        if !is_template_of(map, file, known, method, *n) {
+            return false;
+        }
+    }
+    true
 }
 
 fn is_constant_unhidden(
@@ -325,7 +376,7 @@ fn same_constant(c: &ClassConstant, d: &ClassConstant) -> bool
                     && same_sign(c.value.negative, d.value.negative))))
 }
 
-fn same_sign(a: bool, b: bool) -> bool
+pub fn same_sign(a: bool, b: bool) -> bool
     ensures { result ≡ specs.same_sign a b }
 {
     (a && b) || (!a && !b)
@@ -390,7 +441,7 @@ pub fn are_words(map: &ViewMap, file: &File, known: &Known, method: &Method, wor
 {
     are_classes_there(map, file, words.classes.as_slice())
         && (are_fetches_there(map, file, known, method, words.fetches.as_slice())
-            && (are_templates_there(map, file, method, words.templates.as_slice())
+            && (are_templates_there(map, file, known, method, words.templates.as_slice())
                 && (are_constants_there(map, file, known, method, words.map_constants.as_slice())
                     && (are_constants_free(file, method, words.constants.as_slice())
                         && (are_constants_among(

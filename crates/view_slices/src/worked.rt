@@ -1,5 +1,5 @@
 //! Worked views, as laws that compute. They do nothing.
-ghost use Rattle.view_slices.specs.Worked.{WorkedColumns, WorkedGroups, WorkedLoops};
+ghost use Rattle.view_slices.specs.Worked.{WorkedColumns, WorkedConstants, WorkedGroups, WorkedLoops, WorkedNested, WorkedParameters, WorkedWidths};
 
 /// What a slice in the block of a loop sets is printed, since the loop's condition names it before.
 #[tactic(auto, using(crate::proofs::Computed::loops))]
@@ -17,4 +17,28 @@ pub fn columns_from_outside_are_parameters()
 #[tactic(auto, using(crate::proofs::Computed::groups))]
 pub fn what_gave_way_is_read_again()
     ensures { WorkedGroups }
+{}
+
+/// What a slice doesn't name is no parameter, since it may be null.
+#[tactic(auto, using(crate::proofs::Computed::parameters))]
+pub fn parameters_are_named()
+    ensures { WorkedParameters }
+{}
+
+/// A literal or a name of a column of another width is none of the source's.
+#[tactic(auto, using(crate::proofs::Computed::widths))]
+pub fn statements_keep_their_widths()
+    ensures { WorkedWidths }
+{}
+
+/// A `final` variable that is named behind a slice stays one.
+#[tactic(auto, using(crate::proofs::Computed::constants))]
+pub fn constants_stay()
+    ensures { WorkedConstants }
+{}
+
+/// A statement that asks stands in place of others in the body of one that is kept.
+#[tactic(auto, using(crate::proofs::Computed::nested))]
+pub fn what_gave_way_inside_is_read_again()
+    ensures { WorkedNested }
 {}

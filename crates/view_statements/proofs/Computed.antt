@@ -6,7 +6,7 @@ use Rattle.view_items.specs.Items.{items_from, items_of}
 use Rattle.view_shapes.specs.Mentions.{numbers}
 use Rattle.view_shapes.specs.Uses.{is_keyword_name}
 use Rattle.view_shapes.specs.Prefixes.{prefix_end}
-use Rattle.view_statements.specs.Worked.{WorkedSkips, WorkedExtremes, WorkedDifferences, WorkedElse, WorkedSets, WorkedLists}
+use Rattle.view_statements.specs.Worked.{WorkedSkips, WorkedExtremes, WorkedDifferences, WorkedElse, WorkedSets, WorkedLists, WorkedCasts}
 
 pub skips : WorkedSkips
 unfolding closing number_len piece_of items_from items_of numbers is_keyword_name prefix_end
@@ -31,3 +31,7 @@ sets = record { hashed = refl; linked = refl }
 pub lists : WorkedLists
 unfolding closing number_len piece_of items_from items_of numbers is_keyword_name prefix_end
 lists = record { from_outside = refl; set_first = refl }
+
+pub casts : WorkedCasts
+unfolding closing number_len piece_of items_from items_of numbers is_keyword_name prefix_end
+casts = record { as_int = refl; as_long = refl; to_int = refl; to_long = refl }

@@ -2,6 +2,7 @@ pub mod Cells
 pub mod Orders
 pub mod Places
 pub mod Reading
+pub mod Slices
 pub mod Statements
 pub mod Steps
 pub mod Tree

@@ -43,9 +43,15 @@ semicolon = codes ";" ∷ []
 
 -- ---- Declarations
 
+-- a query is narrowed to an `int` for a variable that is one, since what is seen has no widths
+abbrev pub is_narrowed_well : JavaType → PlainExpression → Bool
+is_narrowed_well java (exprs.Query at cast number text element arguments) = not cast || is_int java
+is_narrowed_well java e = true
+
 -- the value may be that of a variable of this type, declared by this name
 abbrev pub is_value_of : Frame → JavaType → JavaType → ℕ → PlainExpression → Seen → Bool
-is_value_of f declared java name value e = same_type declared java && (may_be_assigned java e.1 && may_be_hashed f name value e.0)
+is_value_of f declared java name value e =
+    same_type declared java && (may_be_assigned java e.1 && (is_narrowed_well java value && may_be_hashed f name value e.0))
 
 -- `= e;` behind the name
 abbrev pub assigned_to : Frame → List Sighted → List ℕ → ℕ → PlainExpression → Option Seen
@@ -110,7 +116,7 @@ first_set f p s name java value i =
 abbrev pub assignment : Frame → List Sighted → ℕ → PlainExpression → ℕ → Option ℕ
 assignment f s name value i =
     here name i >>= λ h. set_at f s h >>= λ v. assigned_to f s (codes "=") h value >>= λ e.
-    where_so (may_be_assigned v.java e.1 && not (is_hashed value)) e.0
+    where_so (may_be_assigned v.java e.1 && (is_narrowed_well v.java value && not (is_hashed value))) e.0
 
 -- `x += e` and `x -= e` of numbers
 abbrev pub changed : Frame → List Sighted → List ℕ → ℕ → PlainExpression → ℕ → Option ℕ

@@ -1,14 +1,19 @@
 -- Statements that are seen, and ones that are not.
-use Rattle.std.specs.Prelude.{◌≡◌, ℕ, ◌+◌, List, [], ◌∷◌, ◌++◌, Bool, true, false, map, codes, Option, Some, None}
+use Rattle.std.specs.Prelude.{◌≡◌, ℕ, ◌+◌, List, [], ◌∷◌, ◌++◌, Bool, true, false, map, codes, Option, Some, None, is_some}
 use Rattle.qbs_base.specs.declared.columns.Column.{Column}
 use Rattle.qbs_base.specs.declared.columns.Table.{Table}
 use Rattle.qbs_base.specs.declared.scalar.Ty.{Ty}
 use Rattle.qbs_base.specs.declared.scalar.Ty.TheVariants as tys
 use Rattle.view_items.specs.Items.{items_of}
+use Rattle.view_items.specs.declared.item.ItemKind.TheVariants as items
 use Rattle.view_map.specs.declared.model.Member.{Member}
+use Rattle.view_map.specs.declared.model.Part.TheVariants as parts
+use Rattle.view_map.specs.declared.model.PatternItem.{PatternItem}
+use Rattle.view_map.specs.declared.model.QueryKind.TheVariants as queries
 use Rattle.view_map.specs.declared.model.RowClass.{RowClass}
 use Rattle.view_map.specs.declared.model.ScalarKind.{ScalarKind}
 use Rattle.view_map.specs.declared.model.ScalarKind.TheVariants as kinds
+use Rattle.view_map.specs.declared.model.Template.{Template}
 use Rattle.view_map.specs.declared.model.ViewMap.{ViewMap}
 use Rattle.view_rules.specs.declared.expression.Operator.TheVariants as ops
 use Rattle.view_rules.specs.declared.java_type.JavaType.{JavaType}
@@ -46,8 +51,24 @@ account_class =
       members = member kinds.Long true (codes "getId") 0 ∷ member kinds.Boolean false (codes "isEnabled") 1 ∷ member kinds.Int false (codes "getAge") 2 ∷ [];
     }
 
+abbrev word : List ℕ → PatternItem
+word bytes = record { kind = items.Name; bytes = bytes }
+
+abbrev sign : List ℕ → PatternItem
+sign bytes = record { kind = items.Sign; bytes = bytes }
+
+-- db.queryLong($sql {, $arg})
+abbrev query_long : Template
+query_long =
+    record {
+      kind = queries.Long;
+      front = parts.Item (word (codes "db")) ∷ parts.Item (sign (codes ".")) ∷ parts.Item (word (codes "queryLong")) ∷ parts.Item (sign (codes "(")) ∷ parts.Sql ∷ [];
+      each = parts.Item (sign (codes ",")) ∷ parts.Argument ∷ [];
+      back = parts.Item (sign (codes ")")) ∷ [];
+    }
+
 abbrev accounts_map : ViewMap
-accounts_map = record { classes = account_class ∷ []; fetches = []; constants = []; templates = []; texts_binary = true }
+accounts_map = record { classes = account_class ∷ []; fetches = []; constants = []; templates = query_long ∷ []; texts_binary = true }
 
 abbrev scalar : ScalarKind → Bool → JavaType
 scalar kind boxed = types.Scalar (record { kind = kind; boxed = boxed })
@@ -69,7 +90,7 @@ within source =
       items = items_of source;
       classes = 0 ∷ [];
       fetches = [];
-      templates = [];
+      templates = 0 ∷ [];
       map_constants = [];
       constants = [];
       params = [];
@@ -205,3 +226,26 @@ pub record WorkedSets : Type 0 where
 pub record WorkedLists : Type 0 where
   pub from_outside : seen added adding ≡ None
   pub set_first : seen first_set setting_first ≡ Some (10, sight_behind)
+
+-- ---- Queries that are narrowed
+
+abbrev pub narrowed : List ℕ → List ℕ
+narrowed type = type ++ codes " x = (int) db.queryLong(\"q\");"
+
+abbrev pub narrowing : ScalarKind → PlainStatement
+narrowing kind = plain.Declaration 0 1 (scalar kind false) (exprs.Query 3 true 0 10 (scalar kinds.Long false) exprs.End) 12
+
+abbrev pub assigned : List ℕ
+assigned = codes "n = (int) db.queryLong(\"q\");"
+
+-- of a variable n of this kind
+abbrev pub seen_of : ScalarKind → Option Passed
+seen_of kind =
+    statement_of (frame assigned) at_top (sighted (codes "n") (scalar kind false) false ∷ []) (plain.Assignment 0 (exprs.Query 2 true 0 9 (scalar kinds.Long false) exprs.End) 11) 0
+
+-- `(int)` before a query isn't seen as such, so it stands only where the variable is an `int`
+pub record WorkedCasts : Type 0 where
+  pub as_int : is_some (seen (narrowed (codes "int")) (narrowing kinds.Int)) ≡ true
+  pub as_long : seen (narrowed (codes "long")) (narrowing kinds.Long) ≡ None
+  pub to_int : is_some (seen_of kinds.Int) ≡ true
+  pub to_long : seen_of kinds.Long ≡ None

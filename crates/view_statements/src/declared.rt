@@ -12,8 +12,8 @@ use crate::{Frame, Place};
 use qbs_base::NoMemory;
 use std::alloc::Global;
 use view_rules::{
-    ColumnName, Expression, JavaType, Sighted, bytes_at, here, is_scalar, may_be_assigned, next,
-    past, same_type,
+    ColumnName, Expression, JavaType, Sighted, bytes_at, here, is_int, is_scalar, may_be_assigned,
+    next, past, same_type,
 };
 
 /// The number behind a sign, an expression and a semicolon behind a name, and the expression's type.
@@ -31,6 +31,16 @@ pub fn assigned_to(
     value_to(f, sight, value, &[b";"], j)
 }
 
+/// Whether a query is narrowed to an `int` only for a variable that is one.
+pub fn is_narrowed_well(java: JavaType, value: &Expression) -> bool
+    ensures { result ≡ specs.is_narrowed_well java (expression value.now) }
+{
+    match value {
+        Expression::Query { cast, .. } => !*cast || is_int(java),
+        _ => true,
+    }
+}
+
 fn is_value_of(
     f: &Frame,
     declared: JavaType,
@@ -41,7 +51,9 @@ fn is_value_of(
 ) -> bool
     ensures { result ≡ specs.is_value_of (frame_of f.now) declared java name (expression value.now) e }
 {
-    same_type(declared, java) && (may_be_assigned(java, e.1) && may_be_hashed(f, name, value, e.0))
+    same_type(declared, java)
+        && (may_be_assigned(java, e.1)
+            && (is_narrowed_well(java, value) && may_be_hashed(f, name, value, e.0)))
 }
 
 /// The number behind `T x = e;`.

@@ -4,7 +4,7 @@ ghost use Rattle.view_rules.specs.Reading.{expression};
 ghost use Rattle.view_statements.specs.Places.{frame_of};
 ghost use Rattle.view_statements.specs.Statements as specs;
 
-use crate::declared::assigned_to;
+use crate::declared::{assigned_to, is_narrowed_well};
 use crate::orders::ordered_by;
 use crate::sights::is_hashed;
 use crate::steps::{counted_at, past_close, set_at, value_to};
@@ -70,7 +70,7 @@ pub fn assignment(
     let h = here(name, i)?;
     let v = set_at(f, sight, h)?;
     let e = assigned_to(f, sight, b"=", h, value)?;
-    if may_be_assigned(v.java, e.1) && !is_hashed(value) {
+    if may_be_assigned(v.java, e.1) && (is_narrowed_well(v.java, value) && !is_hashed(value)) {
         Some(e.0)
     } else {
         None

@@ -1,5 +1,6 @@
 //! Worked statements, as laws that compute. They do nothing.
 ghost use Rattle.view_statements.specs.Worked.{
+  WorkedCasts,
   WorkedDifferences,
   WorkedElse,
   WorkedExtremes,
@@ -42,4 +43,10 @@ pub fn hash_sets_are_not_walked()
 #[tactic(auto, using(crate::proofs::Computed::lists))]
 pub fn lists_from_outside_are_set_first()
     ensures { WorkedLists }
+{}
+
+/// `(int)` before a query stands only where the variable is an `int`.
+#[tactic(auto, using(crate::proofs::Computed::casts))]
+pub fn queries_are_narrowed_for_ints()
+    ensures { WorkedCasts }
 {}

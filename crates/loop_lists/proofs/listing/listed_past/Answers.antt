@@ -6,6 +6,5 @@ use Rattle.loop_lists.proofs.listing.listed_past.Goals as goal
 pub returns-then-standing-listed : goal.returns-then-standing-listed
 returns-then-standing-listed c =
     let many : c.len.result ≡ length c.args.listed.paths = c.len.ensures in
-    let within : c.args.standing - c.args.listed.before < length c.args.listed.paths = omega (arith, c.if-standing-listed.true) in
-    lists_within (map plain_method c.args.methods.now) c.args.standing c.args.listed.number c.args.listed.before c.requires.behind c.requires.before c.args.listed.paths c.requires.paths within
-    (record { number = c.args.listed.number; before = c.args.listed.before; paths = c.args.listed.paths }) refl refl refl
+    let within : (c.args.standing - c.args.listed.before) - c.args.listed.from < length c.args.listed.paths = omega (arith, many, c.if-standing-listed.true) in
+    lists_within (map plain_method c.args.methods.now) c.args.standing c.args.listed.number c.args.listed.before c.requires.behind c.requires.before c.args.listed.from c.args.listed.upto c.args.listed.paths c.requires.paths c.requires.reached within c.args.listed refl

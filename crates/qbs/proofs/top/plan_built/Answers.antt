@@ -69,8 +69,14 @@ returns-in-Gather-clause-due g c = as_due _ _ c.args.command.now _ c.plan_gather
 pub returns-in-Gather-clause-reads : goal.returns-in-Gather-clause-reads
 returns-in-Gather-clause-reads g c = as_read _ c.args.command.now _ _ _ c.in-Gather.is c.plan_gather.ensures.reads
 
+pub returns-in-View-clause-due : goal.returns-in-View-clause-due
+returns-in-View-clause-due g c = as_due _ _ c.args.command.now _ c.plan_view.result c.in-View.is c.plan_view.ensures.due
+
+pub returns-in-View-clause-reads : goal.returns-in-View-clause-reads
+returns-in-View-clause-reads g c = as_read _ c.args.command.now _ _ _ c.in-View.is c.plan_view.ensures.reads
+
 pub returns-in_default : goal.returns-in_default
 returns-in_default g c = record {
-  due = other_due (given g.F.Files.told g.F.Files.faults g.F.Files.may_fail c.args.files.now c.args.files.now) _ c.args.command.now c.refused.result c.in_default.not-Rewrite c.in_default.not-Prove c.in_default.not-Check c.in_default.not-Run c.in_default.not-Sql c.in_default.not-Make c.in_default.not-Schema c.in_default.not-Inline c.in_default.not-Narrow c.in_default.not-Unnest c.in_default.not-Gather c.refused.ensures;
+  due = other_due (given g.F.Files.told g.F.Files.faults g.F.Files.may_fail c.args.files.now c.args.files.now) _ c.args.command.now c.refused.result c.in_default.not-Rewrite c.in_default.not-Prove c.in_default.not-Check c.in_default.not-Run c.in_default.not-Sql c.in_default.not-Make c.in_default.not-Schema c.in_default.not-Inline c.in_default.not-Narrow c.in_default.not-Unnest c.in_default.not-Gather c.in_default.not-View c.refused.ensures;
   reads = none_read (looks g.F.Files.told g.F.Files.faults g.F.Files.may_fail g.F.Files.by_read) c.args.command.now c.args.files.now;
 }

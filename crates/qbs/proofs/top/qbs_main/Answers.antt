@@ -8,6 +8,7 @@ use Rattle.qbs.proofs.Promised.{promised, headline, no_one}
 use Rattle.qbs.proofs.Gathering.{gathered}
 use Rattle.qbs.proofs.Neutral.{neutral}
 use Rattle.qbs.proofs.Unnesting.{unnested}
+use Rattle.qbs.proofs.Viewing.{viewed}
 use Rattle.qbs.proofs.top.qbs_main.Goals as goal
 
 pub returns-clause-one_plan : goal.returns-clause-one_plan
@@ -36,6 +37,9 @@ returns-clause-unnested g c = unnested _ _ _ _ _ _ c.carry_out.ensures.done
 
 pub returns-clause-gathered : goal.returns-clause-gathered
 returns-clause-gathered g c = gathered _ _ _ _ _ _ c.carry_out.ensures.done
+
+pub returns-clause-viewed : goal.returns-clause-viewed
+returns-clause-viewed g c = viewed _ _ _ _ _ _ c.carry_out.ensures.done
 
 pub returns-clause-neutral : goal.returns-clause-neutral
 returns-clause-neutral g c = neutral _ _ _

@@ -5,5 +5,5 @@ use Rattle.view_scope.specs.Allowed.{is_kept_at}
 use Rattle.view_scope.proofs.allowed.are_kept.Given as goal
 
 abbrev pub invariant-loop-number : goal.invariant-loop-number
-invariant-loop-number l = list_all (is_kept_at l.items l.closings l.class l.members l.pattern) (numbers l.number (l.to - l.number))
-    ≡ list_all (is_kept_at l.items l.closings l.class l.members l.pattern) (numbers l.from (l.to - l.from))
+invariant-loop-number l = list_all (is_kept_at l.map l.items l.closings l.class l.members l.pattern) (numbers l.number (l.to - l.number))
+    ≡ list_all (is_kept_at l.map l.items l.closings l.class l.members l.pattern) (numbers l.from (l.to - l.from))

@@ -1,0 +1,9 @@
+pub mod Fetched
+pub mod Heads
+pub mod Joins
+pub mod Marks
+pub mod Origins
+pub mod Placed
+pub mod Reading
+pub mod Shared
+pub mod Worked

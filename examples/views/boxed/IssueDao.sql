@@ -1,0 +1,2 @@
+CREATE TABLE project (id INT PRIMARY KEY, manager_id BIGINT);
+CREATE TABLE issue (id BIGINT PRIMARY KEY, project_id INT NOT NULL, severity INT NOT NULL, status INT NOT NULL, owner_id BIGINT NOT NULL, title VARCHAR(255) NOT NULL);

@@ -1,0 +1,5 @@
+package app.hotel;
+
+/** A stay: the room is taken from firstDay on, and free again on lastDay. */
+public record Booking(long id, long roomId, Long guestId, long firstDay, long lastDay) {
+}

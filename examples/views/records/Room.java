@@ -1,0 +1,4 @@
+package app.hotel;
+
+public record Room(long id, int floor, int beds) {
+}
