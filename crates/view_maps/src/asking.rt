@@ -146,10 +146,12 @@ fn put_truth(out: &mut Vec<u8>, template: &Template, arguments: usize) -> Result
 
 /// The template of a kind of queries.
 fn template_of(map: &ViewMap, kind: QueryKind) -> Option<&Template> {
-    map.templates
-        .as_slice()
-        .iter()
-        .find(|template| template.kind == kind)
+    for template in map.templates.as_slice() {
+        if template.kind == kind {
+            return Some(template);
+        }
+    }
+    None
 }
 
 fn put_scalars(out: &mut Vec<u8>, map: &ViewMap, arguments: usize) -> Result<(), NoMemory> {

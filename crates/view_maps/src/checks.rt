@@ -160,7 +160,8 @@ fn put_opened(
     let Some(class) = plain_class(source) else {
         return put_unchecked(out, file);
     };
-    let (before, behind) = file.split_at(place_of(source, class.to).min(file.len()));
+    let at = place_of(source, class.to).min(file.len());
+    let (before, behind) = file.split_at(at);
     put_bytes(out, before)?;
     put(out, "\n")?;
     put_method(out, map, bytes_at(source, class.name))?;

@@ -1,5 +1,5 @@
 // The classes and records of a file.
-use crate::fronts::{Annotation, front_of};
+use crate::fronts::{Annotation, Front, front_of};
 use crate::source::{Source, bytes_at, past};
 use crate::types::arguments_end;
 use qbs_base::{Items, NoMemory};
@@ -59,20 +59,20 @@ fn brace_behind(source: Source, from: usize, to: usize) -> Option<(usize, Option
     None
 }
 
-/// The class or record with this name, whose further items begin at a number.
+/// The class or record with this name, whose body stands behind its components, before a number.
 fn place_behind(
     source: Source,
     name: usize,
-    components: Option<Stretch>,
-    from: usize,
+    is_record: bool,
+    components: Stretch,
     to: usize,
 ) -> Option<Place> {
-    let (brace, parent) = brace_behind(source, from, to)?;
+    let (brace, parent) = brace_behind(source, components.to, to)?;
     let closing = closing_at(source.items, source.closings, brace)?;
     Some(Place {
-        is_record: components.is_some(),
+        is_record,
         name,
-        components: components.unwrap_or(Stretch { from, to: from }),
+        components,
         parent,
         body: Stretch {
             from: brace.saturating_add(1),
@@ -90,11 +90,30 @@ fn place_at(source: Source, number: usize, to: usize) -> Option<Place> {
     let behind = number.saturating_add(2);
     if is_word("record", source.items, number) {
         let components = components_at(source, behind)?;
-        let from = components.to.saturating_add(1);
-        return place_behind(source, name, Some(components), from, to);
+        return place_behind(source, name, true, components, to);
     }
-    let from = arguments_end(source, behind, to);
-    place_behind(source, name, None, from, to)
+    let end = arguments_end(source, behind, to);
+    let none = Stretch { from: end, to: end };
+    place_behind(source, name, false, none, to)
+}
+
+/// The class or record whose word stands behind a front, outside of brackets.
+fn outer_class(source: Source, front: Front) -> Option<Class> {
+    let place = place_at(source, front.end, source.items.len())?;
+    Some(Class {
+        place,
+        outer: None,
+        annotations: front.annotations,
+    })
+}
+
+/// The number behind a front that begins at a number, or else behind one item or the brackets that it opens.
+fn next_of(source: Source, number: usize, end: usize) -> usize {
+    if end > number {
+        end
+    } else {
+        past(source, number)
+    }
 }
 
 /// The first class or record outside of brackets.
@@ -104,25 +123,35 @@ fn first_class(alloc: Global, source: Source) -> Result<Option<Class>, NoMemory>
     for _ in 0..end {
         let front = front_of(alloc, source, number, end)?;
         if begins_class(source, front.end) {
-            let Some(place) = place_at(source, front.end, end) else {
-                return Ok(None);
-            };
-            return Ok(Some(Class {
-                place,
-                outer: None,
-                annotations: front.annotations,
-            }));
+            return Ok(outer_class(source, front));
         }
-        number = if front.end > number {
-            front.end
-        } else {
-            past(source, number)
-        };
+        number = next_of(source, number, front.end);
         if number >= end {
-            break;
+            return Ok(None);
         }
     }
     Ok(None)
+}
+
+/// The class or record that a member of another one is, if its name is short.
+fn inner_class(
+    alloc: Global,
+    source: Source,
+    outer: usize,
+    member: Stretch,
+) -> Result<Option<Class>, NoMemory> {
+    let front = front_of(alloc, source, member.from, member.to)?;
+    let Some(place) = place_at(source, front.end, member.to) else {
+        return Ok(None);
+    };
+    if !has_short_name(source, place.name) {
+        return Ok(None);
+    }
+    Ok(Some(Class {
+        place,
+        outer: Some(outer),
+        annotations: front.annotations,
+    }))
 }
 
 /// Adds the classes and records that stand directly in a body.
@@ -134,16 +163,8 @@ fn put_inner(
 ) -> Result<(), NoMemory> {
     let members = members_of(alloc, source.items, source.closings, outer.body.from)?;
     for member in members.as_slice() {
-        let front = front_of(alloc, source, member.from, member.to)?;
-        let Some(place) = place_at(source, front.end, member.to) else {
-            continue;
-        };
-        if has_short_name(source, place.name) {
-            classes.push(Class {
-                place,
-                outer: Some(outer.name),
-                annotations: front.annotations,
-            })?;
+        if let Some(class) = inner_class(alloc, source, outer.name, *member)? {
+            classes.push(class)?;
         }
     }
     Ok(())
@@ -160,12 +181,14 @@ fn has_short_name(source: Source, number: usize) -> bool {
 /// more than 255 bytes are passed over. It fails only by want of memory.
 pub fn classes_of(alloc: Global, source: Source) -> Result<Items<Class>, NoMemory> {
     let mut classes = Items::new(alloc);
-    if let Some(first) = first_class(alloc, source)? {
-        let place = first.place;
-        if has_short_name(source, place.name) {
-            classes.push(first)?;
-            put_inner(alloc, source, place, &mut classes)?;
-        }
+    let Some(first) = first_class(alloc, source)? else {
+        return Ok(classes);
+    };
+    let place = first.place;
+    if !has_short_name(source, place.name) {
+        return Ok(classes);
     }
+    classes.push(first)?;
+    put_inner(alloc, source, place, &mut classes)?;
     Ok(classes)
 }

@@ -1,6 +1,6 @@
 // What is known of the column of a field.
 use crate::fields::{Accessor, Field};
-use crate::fronts::{Annotation, Said, has_annotation, last_called, said, said_name, word_in};
+use crate::fronts::{Annotation, Said, last_called, said_name, value_of, word_in};
 use crate::kinds::kind_of;
 use crate::source::{Source, bytes_at};
 use crate::texts::{put, put_bytes};
@@ -68,7 +68,7 @@ fn last_of(
     for place in field.accessors.as_slice() {
         if let Some(accessor) = accessors.get(*place) {
             let other = last_called(source, accessor.annotations.as_slice(), name);
-            found = other.or(found);
+            found = if other.is_some() { other } else { found };
         }
     }
     found
@@ -111,38 +111,38 @@ fn has_capital(bytes: &[u8]) -> bool {
 
 /// What is said of a name of a column.
 #[derive(Clone, Copy)]
-enum Named {
+enum Naming {
     Literal(usize),
     Own,
     Unknown(Reason),
 }
 
 /// The field's own name, where every strategy leaves it.
-fn own_name(source: Source, field: &Field) -> Named {
+fn own_name(source: Source, field: &Field) -> Naming {
     if has_capital(bytes_at(source, field.name)) {
-        Named::Unknown(Reason::Unsaid)
+        Naming::Unknown(Reason::Unsaid)
     } else {
-        Named::Own
+        Naming::Own
     }
 }
 
-fn named_at(source: Source, number: usize) -> Named {
+fn named_at(source: Source, number: usize) -> Naming {
     if word_in(source, number).is_some() {
-        return Named::Literal(number);
+        return Naming::Literal(number);
     }
     match bytes_at(source, number) {
-        [b'"', ..] => Named::Unknown(Reason::NoWord),
-        _ => Named::Unknown(Reason::NoLiteral),
+        [b'"', ..] => Naming::Unknown(Reason::NoWord),
+        _ => Naming::Unknown(Reason::NoLiteral),
     }
 }
 
-fn named(source: Source, field: &Field, column: Option<Annotation>) -> Named {
+fn naming_of(source: Source, field: &Field, column: Option<Annotation>) -> Naming {
     let Some(column) = column else {
         return own_name(source, field);
     };
     match said_name(source, column) {
         Said::Nothing => own_name(source, field),
-        Said::More => Named::Unknown(Reason::NoLiteral),
+        Said::More => Naming::Unknown(Reason::NoLiteral),
         Said::Item(number) => named_at(source, number),
     }
 }
@@ -151,7 +151,7 @@ fn is_said_not_null(source: Source, column: Option<Annotation>) -> bool {
     let Some(column) = column else {
         return false;
     };
-    match said(source, column, "nullable") {
+    match value_of(source, column, "nullable") {
         Said::Item(number) => is_word("false", source.items, number),
         _ => false,
     }
@@ -174,10 +174,10 @@ pub fn column_of(source: Source, field: &Field, accessors: &[Accessor]) -> Field
         || is_said_not_null(source, column)
         || is_annotated(source, field, accessors, "NotNull")
         || is_annotated(source, field, accessors, "NotBlank");
-    let (name, is_literal, unnamed) = match named(source, field, column) {
-        Named::Literal(number) => (Some(number), true, None),
-        Named::Own => (Some(field.name), false, None),
-        Named::Unknown(reason) => (None, false, Some(reason)),
+    let (name, is_literal, unnamed) = match naming_of(source, field, column) {
+        Naming::Literal(number) => (Some(number), true, None),
+        Naming::Own => (Some(field.name), false, None),
+        Naming::Unknown(reason) => (None, false, Some(reason)),
     };
     let reason = match bar_of(source, field, accessors) {
         Some(bar) => Some(Reason::Annotated(bar)),
@@ -194,11 +194,18 @@ pub fn column_of(source: Source, field: &Field, accessors: &[Accessor]) -> Field
     }
 }
 
+fn literal_word<'a>(source: Source<'a>, number: usize) -> &'a [u8] {
+    match word_in(source, number) {
+        Some(word) => word,
+        None => "..".as_bytes(),
+    }
+}
+
 /// The name of a column, `..` where it isn't known.
 pub fn name_of<'a>(source: Source<'a>, column: FieldColumn) -> &'a [u8] {
     match column.name {
-        None => b"..",
-        Some(number) if column.is_literal => word_in(source, number).unwrap_or(b".."),
+        None => "..".as_bytes(),
+        Some(number) if column.is_literal => literal_word(source, number),
         Some(number) => bytes_at(source, number),
     }
 }

@@ -64,40 +64,45 @@ impl Drawing {
     }
 }
 
-fn begun(alloc: Global) -> Drawing {
-    Drawing {
+/// The text, with what stands at its end.
+fn ended(drawing: Drawing) -> Result<Vec<u8>, NoMemory> {
+    let Drawing { mut text, ends } = drawing;
+    put_bytes(&mut text, ends.as_slice())?;
+    Ok(text)
+}
+
+/// What is drawn of files behind a first line.
+fn drawn(alloc: Global, sheet: Sheet, first: &str, files: &[Bytes]) -> Result<Vec<u8>, NoMemory> {
+    let mut drawing = Drawing {
         text: Vec::new(alloc),
         ends: Vec::new(alloc),
-    }
+    };
+    put(&mut drawing.text, first)?;
+    drawing.put_files(alloc, sheet, files)?;
+    ended(drawing)
 }
+
+const MAP_LINE: &str =
+    "// Drawn from classes, to be reviewed. What is in a comment isn't known. Say \"by value\" behind a table where nobody can tell which objects its rows are.\n";
+
+const MAP_END: &str =
+    "// query = ..;\n// queryLong = ..;\n// queryBoolean = ..;\n// texts binary;\n";
+
+const SCHEMA_LINE: &str =
+    "-- Drawn from classes, to be reviewed. What is in a comment isn't known.\n";
 
 /// A map of the classes and records of Java files, in the order of the files: of each its first class or record and those directly in it. It is to be
 /// reviewed: what isn't known stands in a comment, and a table of which no name is known is refused as a map until it is said. Files that can't be read as
 /// Java are passed over. It fails only by want of memory.
 pub fn draw_map(alloc: Global, files: &[Bytes]) -> Result<Bytes, NoMemory> {
-    let mut drawing = begun(alloc);
-    put(
-        &mut drawing.text,
-        "// Drawn from classes, to be reviewed. What is in a comment isn't known. Say \"by value\" behind a table where nobody can tell which objects its rows are.\n",
-    )?;
-    drawing.put_files(alloc, Sheet::Map, files)?;
-    let Drawing { mut text, ends } = drawing;
-    put_bytes(&mut text, ends.as_slice())?;
-    put(
-        &mut text,
-        "// query = ..;\n// queryLong = ..;\n// queryBoolean = ..;\n// texts binary;\n",
-    )?;
+    let mut text = drawn(alloc, Sheet::Map, MAP_LINE, files)?;
+    put(&mut text, MAP_END)?;
     Ok(Bytes::from_vec(text))
 }
 
 /// A schema of the classes and records of Java files, a table each as `draw_map` has them. It is to be reviewed: what isn't known stands in a comment. It
 /// fails only by want of memory.
 pub fn draw_schema(alloc: Global, files: &[Bytes]) -> Result<Bytes, NoMemory> {
-    let mut drawing = begun(alloc);
-    put(
-        &mut drawing.text,
-        "-- Drawn from classes, to be reviewed. What is in a comment isn't known.\n",
-    )?;
-    drawing.put_files(alloc, Sheet::Schema, files)?;
-    Ok(Bytes::from_vec(drawing.text))
+    let text = drawn(alloc, Sheet::Schema, SCHEMA_LINE, files)?;
+    Ok(Bytes::from_vec(text))
 }

@@ -1,7 +1,7 @@
 // The fields of a class or record, and its accessors.
 use crate::classes::Place;
 use crate::fronts::{Annotation, Front, front_of};
-use crate::links::{link, mark_replaced};
+use crate::links::{Places, link, mark_replaced};
 use crate::source::Source;
 use crate::types::type_end;
 use qbs_base::{Items, NoMemory};
@@ -199,16 +199,29 @@ impl Owned {
         }
         Ok(())
     }
+}
 
-    /// Finds which accessor returns which field.
-    fn link(&mut self, alloc: Global, source: Source, is_record: bool) -> Result<(), NoMemory> {
-        let accessors = self.accessors.as_slice();
-        self.others = link(alloc, source, self.fields.as_mut_slice(), accessors)?;
-        if is_record {
-            mark_replaced(alloc, source, self.fields.as_mut_slice(), accessors)?;
-        }
-        Ok(())
+/// Finds which accessor returns which field.
+fn link_all(
+    alloc: Global,
+    source: Source,
+    owned: &mut Owned,
+    is_record: bool,
+) -> Result<(), NoMemory> {
+    let places = Places::of(alloc, source, owned.fields.as_slice())?;
+    let accessors = owned.accessors.as_slice();
+    let others = link(
+        alloc,
+        source,
+        &places,
+        owned.fields.as_mut_slice(),
+        accessors,
+    )?;
+    if is_record {
+        mark_replaced(source, &places, owned.fields.as_mut_slice(), accessors);
     }
+    owned.others = others;
+    Ok(())
 }
 
 /// What a class or record has of its own. It fails only by want of memory.
@@ -216,6 +229,6 @@ pub fn owned_by(alloc: Global, source: Source, place: Place) -> Result<Owned, No
     let mut owned = Owned::nothing(alloc);
     owned.put_components(alloc, source, place.components)?;
     owned.put_members(alloc, source, place)?;
-    owned.link(alloc, source, place.is_record)?;
+    link_all(alloc, source, &mut owned, place.is_record)?;
     Ok(owned)
 }

@@ -149,7 +149,7 @@ fn said_at(source: Source, annotation: Annotation, number: usize) -> Said {
 }
 
 /// What an annotation says behind a key. Annotations inside of it aren't looked into.
-pub fn said(source: Source, annotation: Annotation, key: &str) -> Said {
+pub fn value_of(source: Source, annotation: Annotation, key: &str) -> Said {
     let mut number = annotation.from;
     let mut begins = true;
     for _ in annotation.from..annotation.to {
@@ -179,12 +179,12 @@ fn said_alone(source: Source, annotation: Annotation) -> Said {
 
 /// What an annotation says of a name: behind `name`, behind `value`, or alone.
 pub fn said_name(source: Source, annotation: Annotation) -> Said {
-    match said(source, annotation, "name") {
-        Said::Nothing => match said(source, annotation, "value") {
+    match value_of(source, annotation, "name") {
+        Said::Nothing => match value_of(source, annotation, "value") {
             Said::Nothing => said_alone(source, annotation),
-            said => said,
+            other => other,
         },
-        said => said,
+        other => other,
     }
 }
 

@@ -6,15 +6,22 @@ use view_map::{ScalarKind, ScalarType};
 
 /// The type that a word spells, if it is one of members.
 pub fn kind_of(word: &[u8]) -> Option<ScalarType> {
-    match word {
-        b"int" => primitive(ScalarKind::Int),
-        b"long" => primitive(ScalarKind::Long),
-        b"boolean" => primitive(ScalarKind::Boolean),
-        b"Integer" => boxed(ScalarKind::Int),
-        b"Long" => boxed(ScalarKind::Long),
-        b"Boolean" => boxed(ScalarKind::Boolean),
-        b"String" => boxed(ScalarKind::Text),
-        _ => None,
+    if word == "int".as_bytes() {
+        primitive(ScalarKind::Int)
+    } else if word == "long".as_bytes() {
+        primitive(ScalarKind::Long)
+    } else if word == "boolean".as_bytes() {
+        primitive(ScalarKind::Boolean)
+    } else if word == "Integer".as_bytes() {
+        boxed(ScalarKind::Int)
+    } else if word == "Long".as_bytes() {
+        boxed(ScalarKind::Long)
+    } else if word == "Boolean".as_bytes() {
+        boxed(ScalarKind::Boolean)
+    } else if word == "String".as_bytes() {
+        boxed(ScalarKind::Text)
+    } else {
+        None
     }
 }
 

@@ -66,10 +66,10 @@ fn put_accessor(fields: &mut [Field], place: usize, accessor: usize) -> Result<(
 pub fn link(
     alloc: Global,
     source: Source,
+    places: &Places,
     fields: &mut [Field],
     accessors: &[Accessor],
 ) -> Result<Items<usize>, NoMemory> {
-    let places = Places::of(alloc, source, fields)?;
     let mut others = Items::new(alloc);
     for (number, accessor) in accessors.iter().enumerate() {
         match places.returned(source, accessor) {
@@ -88,16 +88,14 @@ fn replace(fields: &mut [Field], place: usize) {
 
 /// Marks the components of a record whose accessors do more than return them.
 pub fn mark_replaced(
-    alloc: Global,
     source: Source,
+    places: &Places,
     fields: &mut [Field],
     accessors: &[Accessor],
-) -> Result<(), NoMemory> {
-    let places = Places::of(alloc, source, fields)?;
+) {
     for accessor in accessors {
         if let Some(place) = places.replaced(source, accessor) {
             replace(fields, place);
         }
     }
-    Ok(())
 }
