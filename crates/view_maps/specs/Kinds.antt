@@ -11,7 +11,7 @@ column_type kinds.Long = codes "BIGINT"
 column_type kinds.Boolean = codes "BOOLEAN"
 column_type kinds.Text = codes "TEXT"
 
--- no two types have one class
+-- the class that stands for a type
 abbrev pub marker_of : ScalarKind → Bool → List ℕ
 marker_of kinds.Int false = codes "IsInt"
 marker_of kinds.Int true = codes "IsBoxedInt"
