@@ -1,22 +1,24 @@
 // Items of a list put in place of others.
-ghost use Rattle.std.specs.Prelude.{◌≡◌, ◌≤◌, ◌++◌, suc, IfOk, OnOk, take, drop};
+ghost use Rattle.std.specs.Prelude.{◌≡◌, ◌≤◌, ◌++◌, suc, length, OnOk, take, drop};
 
 use qbs_base::NoMemory;
 
-/// Takes the items behind the one with the number `last` out of a list.
-fn split_behind<T>(list: &mut Vec<T>, last: u64) -> Result<Vec<T>, NoMemory>
-    ensures stay { OnOk result (list.new.items ≡ take (suc last) list.old.items) }
-    ensures taken { IfOk result (λ behind. behind.items ≡ drop (suc last) list.old.items) }
+/// Others in place of the items from one number up to another: what stands behind them is moved once.
+fn put_between<T: Drop>(
+    list: &mut Vec<T>,
+    start: usize,
+    end: usize,
+    others: Vec<T>,
+) -> Result<(), NoMemory>
+    requires order { start ≤ end }
+    requires within { end ≤ length list.old.items }
+    ensures { OnOk result (list.new.items ≡ take start list.old.items ++ (others.items ++ drop end list.old.items)) }
 {
-    if (last as usize) < list.len() {
-        Ok(list.split_off(last as usize + 1)?)
-    } else {
-        Ok(list.split_off(list.len())?)
-    }
+    list.splice(start..end, others)?;
+    Ok(())
 }
 
 /// Others in place of the items from the number `first` to the number `last`. Its only error is want of memory.
-#[tactic(auto, using(crate::proofs::Fronts::front_of_front))]
 pub fn put_items<T: Drop>(
     list: &mut Vec<T>,
     first: u64,
@@ -26,10 +28,12 @@ pub fn put_items<T: Drop>(
     requires { first ≤ last }
     ensures { OnOk result (list.new.items ≡ (take first list.old.items ++ others.items) ++ drop (suc last) list.old.items) }
 {
-    let mut others = others;
-    let mut behind = split_behind(list, last)?;
-    list.truncate(first as usize);
-    list.append(&mut others)?;
-    list.append(&mut behind)?;
-    Ok(())
+    let len = list.len();
+    if (last as usize) < len {
+        put_between(list, first as usize, last as usize + 1, others)
+    } else if (first as usize) < len {
+        put_between(list, first as usize, len, others)
+    } else {
+        put_between(list, len, len, others)
+    }
 }
