@@ -1,5 +1,5 @@
 // Characters of a text in quotes, from left to right.
-ghost use Rattle.std.specs.Prelude.{◌≡◌, ◌-◌, ◌&&◌, not, nat_lt};
+ghost use Rattle.std.specs.Prelude.{◌≡◌, ◌-◌, ◌&&◌, not, nat_lt, IfErr};
 ghost use Rattle.std.specs.Str.Lossy.{second_byte_min, second_byte_max};
 ghost use Rattle.readers.specs.Reading.{Gives, first_passes, token_at};
 ghost use Rattle.scalar_readers.specs.Chars as spec;
@@ -22,7 +22,8 @@ fn is_below(limit: u8, bytes: &[u8]) -> bool
 
 /// A byte from the first to the last of a range.
 fn in_range(low: u8, high: u8, bytes: &[u8]) -> Result<(u8, &[u8]), ReadError>
-    ensures { Gives (λ x. (x.0, x.1.now)) result (token_at (between low high) bytes.now) }
+    ensures exact { Gives (λ x. (x.0, x.1.now)) result (token_at (between low high) bytes.now) }
+    ensures no_memory { IfErr result (λ e. e ≡ ReadError.Memory → ⊥) }
 {
     match bytes {
         [first, rest @ ..] if low <= *first && *first <= high => Ok((*first, rest)),
@@ -33,7 +34,8 @@ fn in_range(low: u8, high: u8, bytes: &[u8]) -> Result<(u8, &[u8]), ReadError>
 /// A byte that goes on with a character.
 #[tactic(auto, unfolding(crate::specs::Chars::further_at))]
 fn further(bytes: &[u8]) -> Result<(u8, &[u8]), ReadError>
-    ensures { Gives (λ x. (x.0, x.1.now)) result (spec.further_at bytes.now) }
+    ensures exact { Gives (λ x. (x.0, x.1.now)) result (spec.further_at bytes.now) }
+    ensures no_memory { IfErr result (λ e. e ≡ ReadError.Memory → ⊥) }
 {
     in_range(0x80, 0xBF, bytes)
 }
@@ -63,7 +65,8 @@ fn second_max(first: u8) -> u8
 /// The second byte, behind this first one.
 #[tactic(auto, unfolding(crate::specs::Chars::second_at))]
 fn second(first: u8, bytes: &[u8]) -> Result<(u8, &[u8]), ReadError>
-    ensures { Gives (λ x. (x.0, x.1.now)) result (spec.second_at first bytes.now) }
+    ensures exact { Gives (λ x. (x.0, x.1.now)) result (spec.second_at first bytes.now) }
+    ensures no_memory { IfErr result (λ e. e ≡ ReadError.Memory → ⊥) }
 {
     in_range(second_min(first), second_max(first), bytes)
 }
@@ -85,7 +88,8 @@ fn unescaped(byte: u8) -> Option<u32>
 }
 
 fn sign(bytes: &[u8]) -> Result<(u32, &[u8]), ReadError>
-    ensures { Gives (λ x. (x.0, x.1.now)) result (token_at spec.unescaped bytes.now) }
+    ensures exact { Gives (λ x. (x.0, x.1.now)) result (token_at spec.unescaped bytes.now) }
+    ensures no_memory { IfErr result (λ e. e ≡ ReadError.Memory → ⊥) }
 {
     match bytes {
         [] => Err(unexpected(bytes)),
@@ -99,7 +103,8 @@ fn sign(bytes: &[u8]) -> Result<(u32, &[u8]), ReadError>
 /// A backslash, and what stands behind it.
 #[tactic(auto, unfolding(crate::specs::Chars::escape_at))]
 fn escape(bytes: &[u8]) -> Result<(u32, &[u8]), ReadError>
-    ensures { Gives (λ x. (x.0, x.1.now)) result (spec.escape_at bytes.now) }
+    ensures exact { Gives (λ x. (x.0, x.1.now)) result (spec.escape_at bytes.now) }
+    ensures no_memory { IfErr result (λ e. e ≡ ReadError.Memory → ⊥) }
 {
     let rest = byte(b'\\', bytes)?;
     sign(rest)
@@ -121,7 +126,8 @@ fn is_plain(byte: u8) -> bool
 
 #[tactic(auto, unfolding(crate::specs::Chars::plain_at))]
 fn plain(bytes: &[u8]) -> Result<(u32, &[u8]), ReadError>
-    ensures { Gives (λ x. (x.0, x.1.now)) result (spec.plain_at bytes.now) }
+    ensures exact { Gives (λ x. (x.0, x.1.now)) result (spec.plain_at bytes.now) }
+    ensures no_memory { IfErr result (λ e. e ≡ ReadError.Memory → ⊥) }
 {
     match bytes {
         [first, rest @ ..] if is_plain(*first) => Ok((*first as u32, rest)),
@@ -140,7 +146,8 @@ fn bits(mark: u8, byte: u8) -> u32
 
 #[tactic(auto, unfolding(crate::specs::Chars::two_at))]
 fn two(bytes: &[u8]) -> Result<(u32, &[u8]), ReadError>
-    ensures { Gives (λ x. (x.0, x.1.now)) result (spec.two_at bytes.now) }
+    ensures exact { Gives (λ x. (x.0, x.1.now)) result (spec.two_at bytes.now) }
+    ensures no_memory { IfErr result (λ e. e ≡ ReadError.Memory → ⊥) }
 {
     let (first, rest) = in_range(0xC2, 0xDF, bytes)?;
     let (last, rest) = further(rest)?;
@@ -149,7 +156,8 @@ fn two(bytes: &[u8]) -> Result<(u32, &[u8]), ReadError>
 
 #[tactic(auto, unfolding(crate::specs::Chars::three_at))]
 fn three(bytes: &[u8]) -> Result<(u32, &[u8]), ReadError>
-    ensures { Gives (λ x. (x.0, x.1.now)) result (spec.three_at bytes.now) }
+    ensures exact { Gives (λ x. (x.0, x.1.now)) result (spec.three_at bytes.now) }
+    ensures no_memory { IfErr result (λ e. e ≡ ReadError.Memory → ⊥) }
 {
     let (first, rest) = in_range(0xE0, 0xEF, bytes)?;
     let (next, rest) = second(first, rest)?;
@@ -160,7 +168,8 @@ fn three(bytes: &[u8]) -> Result<(u32, &[u8]), ReadError>
 
 #[tactic(auto, unfolding(crate::specs::Chars::four_at))]
 fn four(bytes: &[u8]) -> Result<(u32, &[u8]), ReadError>
-    ensures { Gives (λ x. (x.0, x.1.now)) result (spec.four_at bytes.now) }
+    ensures exact { Gives (λ x. (x.0, x.1.now)) result (spec.four_at bytes.now) }
+    ensures no_memory { IfErr result (λ e. e ≡ ReadError.Memory → ⊥) }
 {
     let (first, rest) = in_range(0xF0, 0xF4, bytes)?;
     let (next, rest) = second(first, rest)?;
@@ -176,7 +185,8 @@ fn four(bytes: &[u8]) -> Result<(u32, &[u8]), ReadError>
 /// A character by its number.
 #[tactic(auto, unfolding(crate::specs::Chars::char_at))]
 fn code(bytes: &[u8]) -> Result<(u32, &[u8]), ReadError>
-    ensures { Gives (λ x. (x.0, x.1.now)) result (spec.char_at bytes.now) }
+    ensures exact { Gives (λ x. (x.0, x.1.now)) result (spec.char_at bytes.now) }
+    ensures no_memory { IfErr result (λ e. e ≡ ReadError.Memory → ⊥) }
 {
     if is_next(b'\\', bytes) {
         escape(bytes)
@@ -193,7 +203,8 @@ fn code(bytes: &[u8]) -> Result<(u32, &[u8]), ReadError>
 
 /// A character of a text in quotes, and what stands behind it.
 pub fn character(bytes: &[u8]) -> Result<(char, &[u8]), ReadError>
-    ensures { Gives (λ x. (x.0, x.1.now)) result (spec.char_at bytes.now) }
+    ensures exact { Gives (λ x. (x.0, x.1.now)) result (spec.char_at bytes.now) }
+    ensures no_memory { IfErr result (λ e. e ≡ ReadError.Memory → ⊥) }
 {
     let (code, rest) = code(bytes)?;
     match char::from_u32(code) {

@@ -1,5 +1,5 @@
 // Numbers of 64 bits with a sign, from left to right.
-ghost use Rattle.std.specs.Prelude.{◌≡◌, ◌≤◌, ◌<◌, ◌^◌, ◌+◌, IfOk};
+ghost use Rattle.std.specs.Prelude.{◌≡◌, ◌≤◌, ◌<◌, ◌^◌, ◌+◌, IfOk, IfErr};
 ghost use Rattle.readers.specs.Reading.{Gives};
 ghost use Rattle.scalar_readers.specs.Scalars as spec;
 
@@ -14,6 +14,7 @@ const LIMIT: u64 = 0x8000_0000_0000_0000;
 fn positive(bytes: &[u8]) -> Result<(u64, &[u8]), ReadError>
     ensures exact { Gives (λ x. (x.0, x.1.now)) result (spec.positive_at bytes.now) }
     ensures below { IfOk result (λ x. x.0 < 2 ^ 63 + 1) }
+    ensures no_memory { IfErr result (λ e. e ≡ ReadError.Memory → ⊥) }
 {
     if is_next(b'0', bytes) {
         return Err(unexpected(bytes));
@@ -31,7 +32,8 @@ fn below_zero(n: u64) -> i64
 
 #[tactic(auto, unfolding(crate::specs::Scalars::negative_at))]
 fn negative(bytes: &[u8]) -> Result<(i64, &[u8]), ReadError>
-    ensures { Gives (λ x. (x.0, x.1.now)) result (spec.negative_at bytes.now) }
+    ensures exact { Gives (λ x. (x.0, x.1.now)) result (spec.negative_at bytes.now) }
+    ensures no_memory { IfErr result (λ e. e ≡ ReadError.Memory → ⊥) }
 {
     let rest = byte(b'-', bytes)?;
     let (n, rest) = positive(rest)?;
@@ -40,7 +42,8 @@ fn negative(bytes: &[u8]) -> Result<(i64, &[u8]), ReadError>
 
 #[tactic(auto, unfolding(crate::specs::Scalars::natural_at))]
 fn natural(bytes: &[u8]) -> Result<(i64, &[u8]), ReadError>
-    ensures { Gives (λ x. (x.0, x.1.now)) result (spec.natural_at bytes.now) }
+    ensures exact { Gives (λ x. (x.0, x.1.now)) result (spec.natural_at bytes.now) }
+    ensures no_memory { IfErr result (λ e. e ≡ ReadError.Memory → ⊥) }
 {
     let (n, rest) = number(LIMIT, bytes)?;
     Ok((n as i64, rest))
@@ -49,7 +52,8 @@ fn natural(bytes: &[u8]) -> Result<(i64, &[u8]), ReadError>
 /// A number of 64 bits with a sign, and what stands behind it.
 #[tactic(auto, unfolding(crate::specs::Scalars::long_at))]
 pub fn long(bytes: &[u8]) -> Result<(i64, &[u8]), ReadError>
-    ensures { Gives (λ x. (x.0, x.1.now)) result (spec.long_at bytes.now) }
+    ensures exact { Gives (λ x. (x.0, x.1.now)) result (spec.long_at bytes.now) }
+    ensures no_memory { IfErr result (λ e. e ≡ ReadError.Memory → ⊥) }
 {
     if is_next(b'-', bytes) {
         negative(bytes)

@@ -1,5 +1,5 @@
 // Scalars, from left to right.
-ghost use Rattle.std.specs.Prelude.{◌≡◌};
+ghost use Rattle.std.specs.Prelude.{◌≡◌, IfErr};
 ghost use Rattle.readers.specs.Reading.{Gives, first_passes};
 ghost use Rattle.scalar_readers.specs.Scalars as spec;
 
@@ -13,7 +13,8 @@ use text_readers::{is_next, word};
 /// `true` or `false`.
 #[tactic(auto, unfolding(crate::specs::Scalars::truth_at))]
 fn truth(bytes: &[u8]) -> Result<(bool, &[u8]), ReadError>
-    ensures { Gives (λ x. (x.0, x.1.now)) result (spec.truth_at bytes.now) }
+    ensures exact { Gives (λ x. (x.0, x.1.now)) result (spec.truth_at bytes.now) }
+    ensures no_memory { IfErr result (λ e. e ≡ ReadError.Memory → ⊥) }
 {
     if is_next(b't', bytes) {
         let rest = word(b"true", bytes)?;

@@ -12,11 +12,11 @@ loop-init c = rw c.new-text.ensures.bytes (begin (length c.args.bytes.now) c.arg
 pub returns-in_err-c : goal.returns-in_err-c
 returns-in_err-c c =
     let p = err_from_is_err_and c.from_residual.result c.from_residual.ensures.1 in
-    rw (p.1, p.2) (fail (string_bytes c.loop.text) (length c.args.bytes.now) c.loop.counter c.loop.rest.now (chars_at c.args.bytes.now) c.in_err-c.field-0.0 c.loop-test.true (sym c.is_over_at.ensures ∙ c.if-is_over_at.false) c.in_err-c.ensures c.loop.invariant)
+    rw (p.1, p.2) (fail (string_bytes c.loop.text) (length c.args.bytes.now) c.loop.counter c.loop.rest.now (chars_at c.args.bytes.now) c.in_err-c.field-0.0 c.loop-test.true (sym c.is_over_at.ensures ∙ c.if-is_over_at.false) c.in_err-c.ensures.exact c.loop.invariant)
 
 pub loop-preserved : goal.loop-preserved
 loop-preserved c =
-    rw c.in_ok-push.ensures.bytes (go_on (string_bytes c.loop.text) (length c.args.bytes.now) c.loop.counter c.loop.rest.now (chars_at c.args.bytes.now) c.in_ok-c.c c.in_ok-c.after.now c.loop-test.true (sym c.is_over_at.ensures ∙ c.if-is_over_at.false) c.in_ok-c.ensures c.loop.invariant)
+    rw c.in_ok-push.ensures.bytes (go_on (string_bytes c.loop.text) (length c.args.bytes.now) c.loop.counter c.loop.rest.now (chars_at c.args.bytes.now) c.in_ok-c.c c.in_ok-c.after.now c.loop-test.true (sym c.is_over_at.ensures ∙ c.if-is_over_at.false) c.in_ok-c.ensures.exact c.loop.invariant)
 
 pub returns : goal.returns
 returns c =
