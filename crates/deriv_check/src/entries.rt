@@ -1,5 +1,5 @@
 // The entries of a bundle, from left to right.
-ghost use Rattle.std.specs.Prelude.{◌≡◌, map};
+ghost use Rattle.std.specs.Prelude.{◌≡◌, map, IfErr};
 ghost use Rattle.readers.specs.Reading.{Gives, is_over};
 ghost use Rattle.tor_axioms.specs.Accepts.{proof_of};
 ghost use Rattle.deriv_check.specs.Bundles.{entry_of, entries_of};
@@ -44,7 +44,8 @@ fn proofs(alloc: Global, bytes: &[u8]) -> Result<(Vec<Derivation>, &[u8]), ReadE
 /// The line of a loop: its line and column, and the number of its candidate.
 #[tactic(auto, unfolding(crate::specs::Reading::head_at))]
 fn head(bytes: &[u8]) -> Result<((u32, u32, u32), &[u8]), ReadError>
-    ensures { Gives (λ x. (x.0, x.1.now)) result (spec.head_at bytes.now) }
+    ensures exact { Gives (λ x. (x.0, x.1.now)) result (spec.head_at bytes.now) }
+    ensures no_memory { IfErr result (λ e. e ≡ ReadError.Memory → ⊥) }
 {
     let rest = word(b"loop ", bytes)?;
     let (line, rest) = number(rest)?;

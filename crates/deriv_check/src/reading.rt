@@ -19,7 +19,8 @@ use tor_terms::TermPath;
 /// `.` and a number.
 #[tactic(auto, unfolding(crate::specs::Reading::further_at))]
 fn further(bytes: &[u8]) -> Result<(u32, &[u8]), ReadError>
-    ensures { Gives (λ x. (x.0, x.1.now)) result (spec.further_at bytes.now) }
+    ensures exact { Gives (λ x. (x.0, x.1.now)) result (spec.further_at bytes.now) }
+    ensures no_memory { IfErr result (λ e. e ≡ ReadError.Memory → ⊥) }
 {
     let rest = byte(b'.', bytes)?;
     number(rest)
@@ -150,7 +151,8 @@ fn steps(alloc: Global, bytes: &[u8]) -> Result<(Derivation, &[u8]), ReadError>
 
 #[tactic(auto, unfolding(crate::specs::Reading::absurd_at))]
 fn absurd(bytes: &[u8]) -> Result<(Derivation, &[u8]), ReadError>
-    ensures { Gives (λ x. (proof_of x.0, x.1.now)) result (spec.absurd_at bytes.now) }
+    ensures exact { Gives (λ x. (proof_of x.0, x.1.now)) result (spec.absurd_at bytes.now) }
+    ensures no_memory { IfErr result (λ e. e ≡ ReadError.Memory → ⊥) }
 {
     let rest = word(b"!\n", bytes)?;
     Ok((Derivation::Absurd, rest))
@@ -175,7 +177,8 @@ fn joined(
 /// The line of a split: its atom.
 #[tactic(auto, unfolding(crate::specs::Reading::choice_at))]
 fn choice(bytes: &[u8]) -> Result<(u32, &[u8]), ReadError>
-    ensures { Gives (λ x. (x.0, x.1.now)) result (spec.choice_at bytes.now) }
+    ensures exact { Gives (λ x. (x.0, x.1.now)) result (spec.choice_at bytes.now) }
+    ensures no_memory { IfErr result (λ e. e ≡ ReadError.Memory → ⊥) }
 {
     let rest = word(b"? ", bytes)?;
     let (atom, rest) = number(rest)?;

@@ -12,11 +12,11 @@ loop-init c = many_behind ends_path further_at c.args.path.items (length c.args.
 pub returns-in_err-number : goal.returns-in_err-number
 returns-in_err-number c =
     let p = err_from_is_err_and c.from_residual.result c.from_residual.ensures.1 in
-    rw (p.1, p.2) (many_fail ends_path further_at c.loop.path.items (length c.args.bytes.now) c.loop.counter c.loop.rest.now (numbers_behind c.args.path.items c.args.bytes.now) c.in_err-number.field-0.0 c.loop-test.true (sym c.ends_path.ensures ∙ c.if-ends_path.false) c.in_err-number.ensures c.loop.invariant)
+    rw (p.1, p.2) (many_fail ends_path further_at c.loop.path.items (length c.args.bytes.now) c.loop.counter c.loop.rest.now (numbers_behind c.args.path.items c.args.bytes.now) c.in_err-number.field-0.0 c.loop-test.true (sym c.ends_path.ensures ∙ c.if-ends_path.false) c.in_err-number.ensures.exact c.loop.invariant)
 
 pub loop-preserved : goal.loop-preserved
 loop-preserved c =
-    rw c.in_ok-push.ensures.items (many_go_on ends_path further_at c.loop.path.items (length c.args.bytes.now) c.loop.counter c.loop.rest.now (numbers_behind c.args.path.items c.args.bytes.now) c.in_ok-number.number c.in_ok-number.after.now c.loop-test.true (sym c.ends_path.ensures ∙ c.if-ends_path.false) c.in_ok-number.ensures c.loop.invariant)
+    rw c.in_ok-push.ensures.items (many_go_on ends_path further_at c.loop.path.items (length c.args.bytes.now) c.loop.counter c.loop.rest.now (numbers_behind c.args.path.items c.args.bytes.now) c.in_ok-number.number c.in_ok-number.after.now c.loop-test.true (sym c.ends_path.ensures ∙ c.if-ends_path.false) c.in_ok-number.ensures.exact c.loop.invariant)
 
 pub returns : goal.returns
 returns c =
