@@ -1,5 +1,5 @@
 // Tokens to tables, from left to right.
-ghost use Rattle.std.specs.Prelude.{◌≡◌, length, map};
+ghost use Rattle.std.specs.Prelude.{◌≡◌, length, map, IfErr};
 ghost use Rattle.readers.specs.Reading.{Gives, first_passes, is_over, token_at};
 ghost use Rattle.schema.specs.Tokens.{kinds_of};
 ghost use Rattle.schema.specs.Marks.{table_of};
@@ -22,7 +22,8 @@ fn unexpected(tokens: &[Token]) -> ReadError
 // ---- single tokens
 
 fn name(tokens: &[Token]) -> Result<(&Name, &[Token]), ReadError>
-    ensures { Gives (λ x. (x.0.now, kinds_of x.1.now)) result (name_at (kinds_of tokens.now)) }
+    ensures exact { Gives (λ x. (x.0.now, kinds_of x.1.now)) result (name_at (kinds_of tokens.now)) }
+    ensures no_memory { IfErr result (λ e. e ≡ ReadError.Memory → ⊥) }
 {
     match tokens {
         [] => Err(unexpected(tokens)),
@@ -43,7 +44,8 @@ fn copied_name(tokens: &[Token]) -> Result<(Name, &[Token]), ReadError>
 }
 
 fn word<'a>(keyword: &str, tokens: &'a [Token]) -> Result<&'a [Token], ReadError>
-    ensures { Gives (λ x. (tt, kinds_of x.now)) result (word_at keyword.now (kinds_of tokens.now)) }
+    ensures exact { Gives (λ x. (tt, kinds_of x.now)) result (word_at keyword.now (kinds_of tokens.now)) }
+    ensures no_memory { IfErr result (λ e. e ≡ ReadError.Memory → ⊥) }
 {
     match tokens {
         [first, rest @ ..] if first.is_word(keyword) => Ok(rest),
@@ -52,7 +54,8 @@ fn word<'a>(keyword: &str, tokens: &'a [Token]) -> Result<&'a [Token], ReadError
 }
 
 fn sign(sign: Sign, tokens: &[Token]) -> Result<&[Token], ReadError>
-    ensures { Gives (λ x. (tt, kinds_of x.now)) result (sign_at sign (kinds_of tokens.now)) }
+    ensures exact { Gives (λ x. (tt, kinds_of x.now)) result (sign_at sign (kinds_of tokens.now)) }
+    ensures no_memory { IfErr result (λ e. e ≡ ReadError.Memory → ⊥) }
 {
     match tokens {
         [first, rest @ ..] if first.is_sign(sign) => Ok(rest),
@@ -61,7 +64,8 @@ fn sign(sign: Sign, tokens: &[Token]) -> Result<&[Token], ReadError>
 }
 
 fn digits(tokens: &[Token]) -> Result<&[Token], ReadError>
-    ensures { Gives (λ x. (tt, kinds_of x.now)) result (digits_at (kinds_of tokens.now)) }
+    ensures exact { Gives (λ x. (tt, kinds_of x.now)) result (digits_at (kinds_of tokens.now)) }
+    ensures no_memory { IfErr result (λ e. e ≡ ReadError.Memory → ⊥) }
 {
     match tokens {
         [first, rest @ ..] if first.is_digits() => Ok(rest),
@@ -84,7 +88,8 @@ fn is_next(keyword: &str, tokens: &[Token]) -> bool
 /// VARCHAR and a length.
 #[tactic(auto, unfolding(schema::specs::Reading::sized_at))]
 fn sized(tokens: &[Token]) -> Result<&[Token], ReadError>
-    ensures { Gives (λ x. (Ty.Text, kinds_of x.now)) result (sized_at (kinds_of tokens.now)) }
+    ensures exact { Gives (λ x. (Ty.Text, kinds_of x.now)) result (sized_at (kinds_of tokens.now)) }
+    ensures no_memory { IfErr result (λ e. e ≡ ReadError.Memory → ⊥) }
 {
     let rest = word("VARCHAR", tokens)?;
     let rest = sign(Sign::Open, rest)?;
@@ -94,7 +99,8 @@ fn sized(tokens: &[Token]) -> Result<&[Token], ReadError>
 
 /// A type of one word.
 fn plain(tokens: &[Token]) -> Result<(Ty, &[Token]), ReadError>
-    ensures { Gives (λ x. (x.0, kinds_of x.1.now)) result (token_at type_in (kinds_of tokens.now)) }
+    ensures exact { Gives (λ x. (x.0, kinds_of x.1.now)) result (token_at type_in (kinds_of tokens.now)) }
+    ensures no_memory { IfErr result (λ e. e ≡ ReadError.Memory → ⊥) }
 {
     match tokens {
         [] => Err(unexpected(tokens)),
@@ -107,7 +113,8 @@ fn plain(tokens: &[Token]) -> Result<(Ty, &[Token]), ReadError>
 
 #[tactic(auto, unfolding(schema::specs::Reading::type_at))]
 fn ty(tokens: &[Token]) -> Result<(Ty, &[Token]), ReadError>
-    ensures { Gives (λ x. (x.0, kinds_of x.1.now)) result (type_at (kinds_of tokens.now)) }
+    ensures exact { Gives (λ x. (x.0, kinds_of x.1.now)) result (type_at (kinds_of tokens.now)) }
+    ensures no_memory { IfErr result (λ e. e ≡ ReadError.Memory → ⊥) }
 {
     if is_next("VARCHAR", tokens) {
         return Ok((Ty::Text, sized(tokens)?));
@@ -118,7 +125,8 @@ fn ty(tokens: &[Token]) -> Result<(Ty, &[Token]), ReadError>
 /// NOT NULL or PRIMARY KEY.
 #[tactic(auto, unfolding(schema::specs::Reading::mark_at))]
 fn mark(tokens: &[Token]) -> Result<(Mark, &[Token]), ReadError>
-    ensures { Gives (λ x. (x.0, kinds_of x.1.now)) result (mark_at (kinds_of tokens.now)) }
+    ensures exact { Gives (λ x. (x.0, kinds_of x.1.now)) result (mark_at (kinds_of tokens.now)) }
+    ensures no_memory { IfErr result (λ e. e ≡ ReadError.Memory → ⊥) }
 {
     if is_next("NOT", tokens) {
         let rest = word("NULL", word("NOT", tokens)?)?;
@@ -138,7 +146,8 @@ fn is_unmarked(tokens: &[Token]) -> bool
 
 /// NOT NULL and PRIMARY KEY, any number of them.
 fn marks(tokens: &[Token]) -> Result<(Marks, &[Token]), ReadError>
-    ensures { Gives (λ x. (x.0, kinds_of x.1.now)) result (marks_at (kinds_of tokens.now)) }
+    ensures exact { Gives (λ x. (x.0, kinds_of x.1.now)) result (marks_at (kinds_of tokens.now)) }
+    ensures no_memory { IfErr result (λ e. e ≡ ReadError.Memory → ⊥) }
 {
     let mut marks = Marks {
         not_null: false,
@@ -160,7 +169,8 @@ fn marks(tokens: &[Token]) -> Result<(Marks, &[Token]), ReadError>
 /// What stands behind the name of a column.
 #[tactic(auto, unfolding(schema::specs::Reading::rest_at))]
 fn column_type(tokens: &[Token]) -> Result<(Ty, Marks, &[Token]), ReadError>
-    ensures { Gives (λ x. ((x.0, x.1), kinds_of x.2.now)) result (rest_at (kinds_of tokens.now)) }
+    ensures exact { Gives (λ x. ((x.0, x.1), kinds_of x.2.now)) result (rest_at (kinds_of tokens.now)) }
+    ensures no_memory { IfErr result (λ e. e ≡ ReadError.Memory → ⊥) }
 {
     let (ty, rest) = ty(tokens)?;
     let (marks, rest) = marks(rest)?;
@@ -238,7 +248,8 @@ fn column(tokens: &[Token]) -> Result<(Column, &[Token]), ReadError>
 
 /// The word PRIMARY, as the name that it may be.
 fn primary(tokens: &[Token]) -> Result<(&Name, &[Token]), ReadError>
-    ensures { Gives (λ x. (x.0.now, kinds_of x.1.now)) result (token_at primary_in (kinds_of tokens.now)) }
+    ensures exact { Gives (λ x. (x.0.now, kinds_of x.1.now)) result (token_at primary_in (kinds_of tokens.now)) }
+    ensures no_memory { IfErr result (λ e. e ≡ ReadError.Memory → ⊥) }
 {
     match tokens {
         [] => Err(unexpected(tokens)),
@@ -317,7 +328,8 @@ fn body(alloc: Global, tokens: &[Token]) -> Result<(Vec<Column>, Names, &[Token]
 /// CREATE TABLE, the name of a table, and what opens its columns.
 #[tactic(auto, unfolding(schema::specs::Reading::head_at))]
 fn head(tokens: &[Token]) -> Result<(&Name, &[Token]), ReadError>
-    ensures { Gives (λ x. (x.0.now, kinds_of x.1.now)) result (head_at (kinds_of tokens.now)) }
+    ensures exact { Gives (λ x. (x.0.now, kinds_of x.1.now)) result (head_at (kinds_of tokens.now)) }
+    ensures no_memory { IfErr result (λ e. e ≡ ReadError.Memory → ⊥) }
 {
     let rest = word("CREATE", tokens)?;
     let rest = word("TABLE", rest)?;
@@ -329,7 +341,8 @@ fn head(tokens: &[Token]) -> Result<(&Name, &[Token]), ReadError>
 /// What closes the columns and ends a table.
 #[tactic(auto, unfolding(schema::specs::Reading::tail_at))]
 fn tail(tokens: &[Token]) -> Result<&[Token], ReadError>
-    ensures { Gives (λ x. ((tt, tt), kinds_of x.now)) result (tail_at (kinds_of tokens.now)) }
+    ensures exact { Gives (λ x. ((tt, tt), kinds_of x.now)) result (tail_at (kinds_of tokens.now)) }
+    ensures no_memory { IfErr result (λ e. e ≡ ReadError.Memory → ⊥) }
 {
     let rest = sign(Sign::Close, tokens)?;
     sign(Sign::Semicolon, rest)
