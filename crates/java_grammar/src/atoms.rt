@@ -26,7 +26,8 @@ use readers::ReadError;
 /// A minus and an integer.
 #[tactic(auto, unfolding(crate::specs::ReadingExpressions::negative_at))]
 fn negative(tokens: &[Token]) -> Result<(Scalar, &[Token]), ReadError>
-    ensures { Gives (λ x. (x.0, all_strict x.1.now)) result (negative_at (all_strict tokens.now)) }
+    ensures value { Gives (λ x. (x.0, all_strict x.1.now)) result (negative_at (all_strict tokens.now)) }
+    ensures no_memory { IfErr result (λ e. e ≡ ReadError.Memory → ⊥) }
 {
     let rest = sign("-", tokens)?;
     let (value, rest) = natural(rest)?;
@@ -35,7 +36,8 @@ fn negative(tokens: &[Token]) -> Result<(Scalar, &[Token]), ReadError>
 
 /// Long or Integer, as what it names.
 fn number_type(tokens: &[Token]) -> Result<(&Name, &[Token]), ReadError>
-    ensures { Gives (λ x. (x.0.now, all_strict x.1.now)) result (one_at (word_if names_numbers) (all_strict tokens.now)) }
+    ensures value { Gives (λ x. (x.0.now, all_strict x.1.now)) result (one_at (word_if names_numbers) (all_strict tokens.now)) }
+    ensures no_memory { IfErr result (λ e. e ≡ ReadError.Memory → ⊥) }
 {
     match tokens {
         [] => Err(unexpected(tokens)),
@@ -48,7 +50,8 @@ fn number_type(tokens: &[Token]) -> Result<(&Name, &[Token]), ReadError>
 
 /// The name of the least or the greatest number of a type.
 fn bound<'a>(ty: &Name, tokens: &'a [Token]) -> Result<(i64, &'a [Token]), ReadError>
-    ensures { Gives (λ x. (x.0, all_strict x.1.now)) result (one_at (by_word (limit_of ty.now)) (all_strict tokens.now)) }
+    ensures value { Gives (λ x. (x.0, all_strict x.1.now)) result (one_at (by_word (limit_of ty.now)) (all_strict tokens.now)) }
+    ensures no_memory { IfErr result (λ e. e ≡ ReadError.Memory → ⊥) }
 {
     match tokens {
         [] => Err(unexpected(tokens)),
@@ -65,7 +68,8 @@ fn bound<'a>(ty: &Name, tokens: &'a [Token]) -> Result<(i64, &'a [Token]), ReadE
 /// A type of numbers, a dot and a bound.
 #[tactic(auto, unfolding(crate::specs::ReadingExpressions::limit_at))]
 fn named_limit(tokens: &[Token]) -> Result<(Scalar, &[Token]), ReadError>
-    ensures { Gives (λ x. (x.0, all_strict x.1.now)) result (limit_at (all_strict tokens.now)) }
+    ensures value { Gives (λ x. (x.0, all_strict x.1.now)) result (limit_at (all_strict tokens.now)) }
+    ensures no_memory { IfErr result (λ e. e ≡ ReadError.Memory → ⊥) }
 {
     let (ty, rest) = number_type(tokens)?;
     let rest = sign(".", rest)?;
@@ -143,7 +147,8 @@ pub fn literal(tokens: &[Token]) -> Result<(Expr, &[Token]), ReadError>
 /// A table, a dot and `class`.
 #[tactic(auto, unfolding(crate::specs::ReadingExpressions::table_class_at))]
 pub fn table_class(tokens: &[Token]) -> Result<(&Name, &[Token]), ReadError>
-    ensures { Gives (λ x. (x.0.now, all_strict x.1.now)) result (table_class_at (all_strict tokens.now)) }
+    ensures value { Gives (λ x. (x.0.now, all_strict x.1.now)) result (table_class_at (all_strict tokens.now)) }
+    ensures no_memory { IfErr result (λ e. e ≡ ReadError.Memory → ⊥) }
 {
     let (table, rest) = table(tokens)?;
     let rest = sign(".", rest)?;
@@ -166,7 +171,8 @@ pub fn element_query(tokens: &[Token]) -> Result<(JTy, &Text, &[Token]), ReadErr
 
 /// The query that the next token asks.
 fn query_word(tokens: &[Token]) -> Result<(Called, &[Token]), ReadError>
-    ensures { Gives (λ x. (seen x.0, all_strict x.1.now)) result (one_at (by_word query_of_member) (all_strict tokens.now)) }
+    ensures value { Gives (λ x. (seen x.0, all_strict x.1.now)) result (one_at (by_word query_of_member) (all_strict tokens.now)) }
+    ensures no_memory { IfErr result (λ e. e ≡ ReadError.Memory → ⊥) }
 {
     match tokens {
         [] => Err(unexpected(tokens)),
@@ -184,6 +190,7 @@ fn query_word(tokens: &[Token]) -> Result<(Called, &[Token]), ReadError>
 #[tactic(auto, unfolding(crate::specs::ReadingExpressions::query_start_at))]
 pub fn query_start(room: u32, tokens: &[Token]) -> Result<(Called, &[Token]), ReadError>
     ensures value { Gives (λ x. (seen x.0, all_strict x.1.now)) result (query_start_at room (all_strict tokens.now)) }
+    ensures no_memory { IfErr result (λ e. e ≡ ReadError.Memory → ⊥) }
 {
     let rest = word("db", tokens)?;
     let rest = sign(".", rest)?;
@@ -196,7 +203,8 @@ pub fn query_start(room: u32, tokens: &[Token]) -> Result<(Called, &[Token]), Re
 
 /// What is made: true where it is a set.
 fn created_word(tokens: &[Token]) -> Result<(bool, &[Token]), ReadError>
-    ensures { Gives (λ x. (x.0, all_strict x.1.now)) result (one_at (by_word created_by) (all_strict tokens.now)) }
+    ensures value { Gives (λ x. (x.0, all_strict x.1.now)) result (one_at (by_word created_by) (all_strict tokens.now)) }
+    ensures no_memory { IfErr result (λ e. e ≡ ReadError.Memory → ⊥) }
 {
     match tokens {
         [] => Err(unexpected(tokens)),
@@ -276,6 +284,7 @@ pub fn is_next_operator(rank: u32, tokens: &[Token]) -> bool
 pub fn operator(left: u32, rank: u32, tokens: &[Token]) -> Result<(Op, &[Token]), ReadError>
     ensures value { Gives (λ x. (x.0, all_strict x.1.now)) result (held_at left (operator_in_node rank) (all_strict tokens.now)) }
     ensures left { IfOk result (λ x. 0 < left) }
+    ensures no_memory { IfErr result (λ e. e ≡ ReadError.Memory → ⊥) }
 {
     match tokens {
         [] => Err(unexpected(tokens)),

@@ -1,5 +1,5 @@
 // Methods and programs.
-ghost use Rattle.std.specs.Prelude.{◌≡◌, ◌∷◌, Ok, map, option_map, is_some};
+ghost use Rattle.std.specs.Prelude.{◌≡◌, ◌∷◌, Ok, map, option_map, is_some, IfErr};
 ghost use Rattle.readers.specs.Reading.{Gives, made, is_over};
 ghost use Rattle.java_ast.specs.Reading.{spelled, param as param_of, method as method_of, program as program_of};
 ghost use Rattle.java_grammar.specs.Marks.{all_strict};
@@ -26,7 +26,8 @@ use std::alloc::Global;
 /// How a method may be reached.
 #[tactic(auto, unfolding(crate::specs::ReadingPrograms::reached_at, crate::specs::ReadingPrograms::public_at, crate::specs::ReadingPrograms::private_at))]
 fn reached(tokens: &[Token]) -> Result<(Access, &[Token]), ReadError>
-    ensures { Gives (λ x. (x.0, all_strict x.1.now)) result (reached_at (all_strict tokens.now)) }
+    ensures value { Gives (λ x. (x.0, all_strict x.1.now)) result (reached_at (all_strict tokens.now)) }
+    ensures no_memory { IfErr result (λ e. e ≡ ReadError.Memory → ⊥) }
 {
     if is_next_word("public", tokens) {
         let rest = word("public", tokens)?;
@@ -42,7 +43,8 @@ fn reached(tokens: &[Token]) -> Result<(Access, &[Token]), ReadError>
 /// Whether this word stands here.
 #[tactic(auto, unfolding(crate::specs::ReadingPrograms::whether_at))]
 fn whether<'a>(text: &str, tokens: &'a [Token]) -> Result<(bool, &'a [Token]), ReadError>
-    ensures { Gives (λ x. (x.0, all_strict x.1.now)) result (whether_at text.now (all_strict tokens.now)) }
+    ensures value { Gives (λ x. (x.0, all_strict x.1.now)) result (whether_at text.now (all_strict tokens.now)) }
+    ensures no_memory { IfErr result (λ e. e ≡ ReadError.Memory → ⊥) }
 {
     if is_next_word(text, tokens) {
         let rest = word(text, tokens)?;

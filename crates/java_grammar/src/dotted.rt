@@ -1,5 +1,5 @@
 // Dotted names, as they are written.
-ghost use Rattle.std.specs.Prelude.{◌≡◌, Ok, option_map};
+ghost use Rattle.std.specs.Prelude.{◌≡◌, Ok, option_map, IfErr};
 ghost use Rattle.std.specs.Option.{option_copied};
 ghost use Rattle.readers.specs.Reading.{Gives};
 ghost use Rattle.java_grammar.specs.Marks.{all_strict};
@@ -15,7 +15,8 @@ use std::alloc::Global;
 /// A name, or none where a star stands here, and may.
 #[tactic(auto, unfolding(crate::specs::Dotted::part_at))]
 fn part(star: bool, tokens: &[Token]) -> Result<(Option<&Name>, &[Token]), ReadError>
-    ensures { Gives (λ x. (option_copied x.0, all_strict x.1.now)) result (part_at star (all_strict tokens.now)) }
+    ensures value { Gives (λ x. (option_copied x.0, all_strict x.1.now)) result (part_at star (all_strict tokens.now)) }
+    ensures no_memory { IfErr result (λ e. e ≡ ReadError.Memory → ⊥) }
 {
     if star && is_next_sign("*", tokens) {
         let rest = sign("*", tokens)?;
@@ -28,7 +29,8 @@ fn part(star: bool, tokens: &[Token]) -> Result<(Option<&Name>, &[Token]), ReadE
 /// A dot and a part.
 #[tactic(auto, unfolding(crate::specs::Dotted::dotted_part_at))]
 fn dotted_part(star: bool, tokens: &[Token]) -> Result<(Option<&Name>, &[Token]), ReadError>
-    ensures { Gives (λ x. (option_copied x.0, all_strict x.1.now)) result (dotted_part_at star (all_strict tokens.now)) }
+    ensures value { Gives (λ x. (option_copied x.0, all_strict x.1.now)) result (dotted_part_at star (all_strict tokens.now)) }
+    ensures no_memory { IfErr result (λ e. e ≡ ReadError.Memory → ⊥) }
 {
     let rest = sign(".", tokens)?;
     let (part, rest) = part(star, rest)?;

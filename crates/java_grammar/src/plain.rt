@@ -94,7 +94,8 @@ fn increase<'a>(
 
 #[tactic(auto, unfolding(crate::specs::ReadingStatements::increment_at))]
 fn increment<'a>(target: &Name, tokens: &'a [Token]) -> Result<(Tail, &'a [Token]), ReadError>
-    ensures { Gives (λ x. (tail_of target.now x.0, all_strict x.1.now)) result (increment_at target.now (all_strict tokens.now)) }
+    ensures value { Gives (λ x. (tail_of target.now x.0, all_strict x.1.now)) result (increment_at target.now (all_strict tokens.now)) }
+    ensures no_memory { IfErr result (λ e. e ≡ ReadError.Memory → ⊥) }
 {
     let rest = sign("++", tokens)?;
     let rest = sign(";", rest)?;
@@ -328,7 +329,8 @@ fn returning(alloc: Global, room: u32, tokens: &[Token]) -> Result<(Stmt, &[Toke
 
 #[tactic(auto, unfolding(crate::specs::ReadingStatements::breaking_at))]
 fn breaking(tokens: &[Token]) -> Result<(Stmt, &[Token]), ReadError>
-    ensures { Gives (λ x. (statement_of x.0, all_strict x.1.now)) result (breaking_at (all_strict tokens.now)) }
+    ensures value { Gives (λ x. (statement_of x.0, all_strict x.1.now)) result (breaking_at (all_strict tokens.now)) }
+    ensures no_memory { IfErr result (λ e. e ≡ ReadError.Memory → ⊥) }
 {
     let rest = word("break", tokens)?;
     let rest = sign(";", rest)?;

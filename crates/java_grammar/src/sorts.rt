@@ -19,7 +19,8 @@ type Further = Vec<Option<Name>>;
 /// `(`, a key and `)`.
 #[tactic(auto, unfolding(crate::specs::ReadingStatements::key_part_at))]
 fn key_part(room: u32, tokens: &[Token]) -> Result<(&Name, &[Token]), ReadError>
-    ensures { Gives (λ x. (x.0.now, all_strict x.1.now)) result (key_part_at room (all_strict tokens.now)) }
+    ensures value { Gives (λ x. (x.0.now, all_strict x.1.now)) result (key_part_at room (all_strict tokens.now)) }
+    ensures no_memory { IfErr result (λ e. e ≡ ReadError.Memory → ⊥) }
 {
     let rest = opening(room, "(", tokens)?;
     let (column, rest) = key(room.saturating_sub(1), rest)?;
@@ -39,7 +40,8 @@ fn next_key(room: u32, tokens: &[Token]) -> Result<(Option<Name>, &[Token]), Rea
 
 #[tactic(auto, unfolding(crate::specs::ReadingStatements::reversed_at))]
 fn reversed(room: u32, tokens: &[Token]) -> Result<(Option<Name>, &[Token]), ReadError>
-    ensures { Gives (λ x. (x.0, all_strict x.1.now)) result (reversed_at room (all_strict tokens.now)) }
+    ensures value { Gives (λ x. (x.0, all_strict x.1.now)) result (reversed_at room (all_strict tokens.now)) }
+    ensures no_memory { IfErr result (λ e. e ≡ ReadError.Memory → ⊥) }
 {
     let rest = word("reversed", tokens)?;
     let rest = opening(room, "(", rest)?;

@@ -1,5 +1,5 @@
 // Single tokens: each function reads one token of its kind and gives the tokens behind it.
-ghost use Rattle.std.specs.Prelude.{◌≡◌, ◌<◌, length, not, Ok, IfOk};
+ghost use Rattle.std.specs.Prelude.{◌≡◌, ◌<◌, length, not, Ok, IfOk, IfErr};
 ghost use Rattle.readers.specs.Reading.{Gives, is_over};
 ghost use Rattle.java_ast.specs.Reading.{spelled};
 ghost use Rattle.java_grammar.specs.Marks.{all_strict};
@@ -88,7 +88,8 @@ pub fn ends_before_word(text: &str, tokens: &[Token]) -> bool
 
 /// This word.
 pub fn word<'a>(text: &str, tokens: &'a [Token]) -> Result<&'a [Token], ReadError>
-    ensures { Gives (λ x. (tt, all_strict x.now)) result (word_at text.now (all_strict tokens.now)) }
+    ensures value { Gives (λ x. (tt, all_strict x.now)) result (word_at text.now (all_strict tokens.now)) }
+    ensures no_memory { IfErr result (λ e. e ≡ ReadError.Memory → ⊥) }
 {
     match tokens {
         [first, rest @ ..] if is_word(text, &first.node) => Ok(rest),
@@ -98,7 +99,8 @@ pub fn word<'a>(text: &str, tokens: &'a [Token]) -> Result<&'a [Token], ReadErro
 
 /// The word that this name is.
 pub fn same_word<'a>(name: &Name, tokens: &'a [Token]) -> Result<&'a [Token], ReadError>
-    ensures { Gives (λ x. (tt, all_strict x.now)) result (word_at name.now (all_strict tokens.now)) }
+    ensures value { Gives (λ x. (tt, all_strict x.now)) result (word_at name.now (all_strict tokens.now)) }
+    ensures no_memory { IfErr result (λ e. e ≡ ReadError.Memory → ⊥) }
 {
     match tokens {
         [first, rest @ ..] if is_word(name.as_str(), &first.node) => Ok(rest),
@@ -108,7 +110,8 @@ pub fn same_word<'a>(name: &Name, tokens: &'a [Token]) -> Result<&'a [Token], Re
 
 /// This sign.
 pub fn sign<'a>(text: &str, tokens: &'a [Token]) -> Result<&'a [Token], ReadError>
-    ensures { Gives (λ x. (tt, all_strict x.now)) result (sign_at text.now (all_strict tokens.now)) }
+    ensures value { Gives (λ x. (tt, all_strict x.now)) result (sign_at text.now (all_strict tokens.now)) }
+    ensures no_memory { IfErr result (λ e. e ≡ ReadError.Memory → ⊥) }
 {
     match tokens {
         [first, rest @ ..] if is_sign(text, &first.node) => Ok(rest),
@@ -120,6 +123,7 @@ pub fn sign<'a>(text: &str, tokens: &'a [Token]) -> Result<&'a [Token], ReadErro
 pub fn opening<'a>(room: u32, text: &str, tokens: &'a [Token]) -> Result<&'a [Token], ReadError>
     ensures value { Gives (λ x. (tt, all_strict x.now)) result (opening_at room text.now (all_strict tokens.now)) }
     ensures room { IfOk result (λ x. 0 < room) }
+    ensures no_memory { IfErr result (λ e. e ≡ ReadError.Memory → ⊥) }
 {
     match tokens {
         [first, rest @ ..] if is_sign(text, &first.node) => {
@@ -134,7 +138,8 @@ pub fn opening<'a>(room: u32, text: &str, tokens: &'a [Token]) -> Result<&'a [To
 
 /// A name.
 pub fn name(tokens: &[Token]) -> Result<(&Name, &[Token]), ReadError>
-    ensures { Gives (λ x. (x.0.now, all_strict x.1.now)) result (one_at name_in (all_strict tokens.now)) }
+    ensures value { Gives (λ x. (x.0.now, all_strict x.1.now)) result (one_at name_in (all_strict tokens.now)) }
+    ensures no_memory { IfErr result (λ e. e ≡ ReadError.Memory → ⊥) }
 {
     match tokens {
         [] => Err(unexpected(tokens)),
@@ -147,7 +152,8 @@ pub fn name(tokens: &[Token]) -> Result<(&Name, &[Token]), ReadError>
 
 /// The name of a table.
 pub fn table(tokens: &[Token]) -> Result<(&Name, &[Token]), ReadError>
-    ensures { Gives (λ x. (x.0.now, all_strict x.1.now)) result (one_at table_in (all_strict tokens.now)) }
+    ensures value { Gives (λ x. (x.0.now, all_strict x.1.now)) result (one_at table_in (all_strict tokens.now)) }
+    ensures no_memory { IfErr result (λ e. e ≡ ReadError.Memory → ⊥) }
 {
     match tokens {
         [] => Err(unexpected(tokens)),
@@ -160,7 +166,8 @@ pub fn table(tokens: &[Token]) -> Result<(&Name, &[Token]), ReadError>
 
 /// A name that may stand for a variable in an expression.
 pub fn variable(tokens: &[Token]) -> Result<(&Name, &[Token]), ReadError>
-    ensures { Gives (λ x. (x.0.now, all_strict x.1.now)) result (one_at variable_in (all_strict tokens.now)) }
+    ensures value { Gives (λ x. (x.0.now, all_strict x.1.now)) result (one_at variable_in (all_strict tokens.now)) }
+    ensures no_memory { IfErr result (λ e. e ≡ ReadError.Memory → ⊥) }
 {
     match tokens {
         [] => Err(unexpected(tokens)),
@@ -173,7 +180,8 @@ pub fn variable(tokens: &[Token]) -> Result<(&Name, &[Token]), ReadError>
 
 /// A text literal.
 pub fn text(tokens: &[Token]) -> Result<(&Text, &[Token]), ReadError>
-    ensures { Gives (λ x. (x.0.now, all_strict x.1.now)) result (one_at text_in (all_strict tokens.now)) }
+    ensures value { Gives (λ x. (x.0.now, all_strict x.1.now)) result (one_at text_in (all_strict tokens.now)) }
+    ensures no_memory { IfErr result (λ e. e ≡ ReadError.Memory → ⊥) }
 {
     match tokens {
         [] => Err(unexpected(tokens)),
@@ -186,7 +194,8 @@ pub fn text(tokens: &[Token]) -> Result<(&Text, &[Token]), ReadError>
 
 /// An integer from 0 on.
 pub fn natural(tokens: &[Token]) -> Result<(i64, &[Token]), ReadError>
-    ensures { Gives (λ x. (x.0, all_strict x.1.now)) result (one_at natural_in (all_strict tokens.now)) }
+    ensures value { Gives (λ x. (x.0, all_strict x.1.now)) result (one_at natural_in (all_strict tokens.now)) }
+    ensures no_memory { IfErr result (λ e. e ≡ ReadError.Memory → ⊥) }
 {
     match tokens {
         [] => Err(unexpected(tokens)),
@@ -199,7 +208,8 @@ pub fn natural(tokens: &[Token]) -> Result<(i64, &[Token]), ReadError>
 
 /// A scalar type.
 pub fn scalar(tokens: &[Token]) -> Result<(JTy, &[Token]), ReadError>
-    ensures { Gives (λ x. (spelled x.0, all_strict x.1.now)) result (one_at (by_word scalar_of) (all_strict tokens.now)) }
+    ensures value { Gives (λ x. (spelled x.0, all_strict x.1.now)) result (one_at (by_word scalar_of) (all_strict tokens.now)) }
+    ensures no_memory { IfErr result (λ e. e ≡ ReadError.Memory → ⊥) }
 {
     match tokens {
         [] => Err(unexpected(tokens)),
@@ -247,7 +257,8 @@ pub fn element(tokens: &[Token]) -> Result<(JTy, &[Token]), ReadError>
 
 /// List or Set: true where it is List.
 pub fn collection_word(tokens: &[Token]) -> Result<(bool, &[Token]), ReadError>
-    ensures { Gives (λ x. (x.0, all_strict x.1.now)) result (one_at (by_word collection_of_word) (all_strict tokens.now)) }
+    ensures value { Gives (λ x. (x.0, all_strict x.1.now)) result (one_at (by_word collection_of_word) (all_strict tokens.now)) }
+    ensures no_memory { IfErr result (λ e. e ≡ ReadError.Memory → ⊥) }
 {
     match tokens {
         [] => Err(unexpected(tokens)),

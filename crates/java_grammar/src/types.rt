@@ -1,5 +1,5 @@
 // Types and the keys of a sort.
-ghost use Rattle.std.specs.Prelude.{◌≡◌};
+ghost use Rattle.std.specs.Prelude.{◌≡◌, IfErr};
 ghost use Rattle.readers.specs.Reading.{Gives};
 ghost use Rattle.java_ast.specs.Reading.{spelled};
 ghost use Rattle.java_grammar.specs.Marks.{all_strict};
@@ -60,7 +60,8 @@ pub fn spelling(alloc: Global, tokens: &[Token]) -> Result<(JTy, &[Token]), Read
 /// `->`, the name before it, a dot and a column.
 #[tactic(auto, unfolding(crate::specs::ReadingTypes::key_column_at))]
 fn key_column<'a>(row: &Name, tokens: &'a [Token]) -> Result<(&'a Name, &'a [Token]), ReadError>
-    ensures { Gives (λ x. (x.0.now, all_strict x.1.now)) result (key_column_at row.now (all_strict tokens.now)) }
+    ensures value { Gives (λ x. (x.0.now, all_strict x.1.now)) result (key_column_at row.now (all_strict tokens.now)) }
+    ensures no_memory { IfErr result (λ e. e ≡ ReadError.Memory → ⊥) }
 {
     let rest = sign("->", tokens)?;
     let rest = same_word(row, rest)?;
@@ -72,7 +73,8 @@ fn key_column<'a>(row: &Name, tokens: &'a [Token]) -> Result<(&'a Name, &'a [Tok
 /// A key without a type.
 #[tactic(auto, unfolding(crate::specs::ReadingTypes::plain_key_at))]
 fn plain_key(tokens: &[Token]) -> Result<(&Name, &[Token]), ReadError>
-    ensures { Gives (λ x. (x.0.now, all_strict x.1.now)) result (plain_key_at (all_strict tokens.now)) }
+    ensures value { Gives (λ x. (x.0.now, all_strict x.1.now)) result (plain_key_at (all_strict tokens.now)) }
+    ensures no_memory { IfErr result (λ e. e ≡ ReadError.Memory → ⊥) }
 {
     let (row, rest) = name(tokens)?;
     let (column, rest) = key_column(row, rest)?;
@@ -82,7 +84,8 @@ fn plain_key(tokens: &[Token]) -> Result<(&Name, &[Token]), ReadError>
 /// `)` and what follows it in a key.
 #[tactic(auto, unfolding(crate::specs::ReadingTypes::closed_column_at))]
 fn closed_column<'a>(row: &Name, tokens: &'a [Token]) -> Result<(&'a Name, &'a [Token]), ReadError>
-    ensures { Gives (λ x. (x.0.now, all_strict x.1.now)) result (closed_column_at row.now (all_strict tokens.now)) }
+    ensures value { Gives (λ x. (x.0.now, all_strict x.1.now)) result (closed_column_at row.now (all_strict tokens.now)) }
+    ensures no_memory { IfErr result (λ e. e ≡ ReadError.Memory → ⊥) }
 {
     let rest = sign(")", tokens)?;
     let (column, rest) = key_column(row, rest)?;
@@ -92,7 +95,8 @@ fn closed_column<'a>(row: &Name, tokens: &'a [Token]) -> Result<(&'a Name, &'a [
 /// A key with a type.
 #[tactic(auto, unfolding(crate::specs::ReadingTypes::typed_key_at))]
 fn typed_key(room: u32, tokens: &[Token]) -> Result<(&Name, &[Token]), ReadError>
-    ensures { Gives (λ x. (x.0.now, all_strict x.1.now)) result (typed_key_at room (all_strict tokens.now)) }
+    ensures value { Gives (λ x. (x.0.now, all_strict x.1.now)) result (typed_key_at room (all_strict tokens.now)) }
+    ensures no_memory { IfErr result (λ e. e ≡ ReadError.Memory → ⊥) }
 {
     let rest = opening(room, "(", tokens)?;
     let (_, rest) = table(rest)?;
@@ -104,7 +108,8 @@ fn typed_key(room: u32, tokens: &[Token]) -> Result<(&Name, &[Token]), ReadError
 /// A key of a sort, where so many more things may be open.
 #[tactic(auto, unfolding(crate::specs::ReadingTypes::key_at))]
 pub fn key(room: u32, tokens: &[Token]) -> Result<(&Name, &[Token]), ReadError>
-    ensures { Gives (λ x. (x.0.now, all_strict x.1.now)) result (key_at room (all_strict tokens.now)) }
+    ensures value { Gives (λ x. (x.0.now, all_strict x.1.now)) result (key_at room (all_strict tokens.now)) }
+    ensures no_memory { IfErr result (λ e. e ≡ ReadError.Memory → ⊥) }
 {
     if is_next_sign("(", tokens) {
         return typed_key(room, tokens);

@@ -65,11 +65,11 @@ query_of_element-returns t c = rw (c.in_ok-ty.ensures, c.in_ok-arguments.ensures
 
 pub query_of_long-returns : goal.query_of_long-returns
 unfolding query_of_long_at
-query_of_long-returns t c = rw (c.in_ok-text.ensures, c.in_ok-arguments.ensures, c.in_ok-node.ensures.ok) refl
+query_of_long-returns t c = rw (c.in_ok-text.ensures.value, c.in_ok-arguments.ensures, c.in_ok-node.ensures.ok) refl
 
 pub query_of_truth-returns : goal.query_of_truth-returns
 unfolding query_of_truth_at
-query_of_truth-returns t c = rw (c.in_ok-text.ensures, c.in_ok-arguments.ensures, c.in_ok-node.ensures.ok) refl
+query_of_truth-returns t c = rw (c.in_ok-text.ensures.value, c.in_ok-arguments.ensures, c.in_ok-node.ensures.ok) refl
 
 pub ranked-returns : goal.ranked-returns
 ranked-returns t c =
