@@ -8,7 +8,7 @@ use std::alloc::Global;
 use std::marker::Model;
 
 // No source is longer, in bytes. A node that says that it stands further on gets no number.
-const ROOM: u64 = 1_048_576;
+const LONGEST_SOURCE: u64 = 1_048_576;
 
 /// A name and its number among those of a method.
 #[derive(Clone, Copy)]
@@ -73,7 +73,7 @@ impl<'a> Numbers<'a> {
         ensures names { self.new.names ≡ self.old.names }
         ensures at { OnOk result ((place : ℕ) → number_at self.new place ≡ noted self.old at.start number place) }
     {
-        if at.start >= ROOM {
+        if at.start >= LONGEST_SOURCE {
             return Ok(());
         }
         put_number(&mut self.places, at.start as usize, number)
