@@ -9,7 +9,7 @@ use Rattle.tor_axioms.specs.Accepts.{Proof}
 use Rattle.kernel_lang.specs.Plain.{Fragment}
 use Rattle.templates.specs.Numbered.{candidates_of}
 use Rattle.query_search.specs.declared.walk.Accepted.{Accepted}
-use Rattle.query_search.specs.declared.walk.Part.{Part}
+use Rattle.query_search.specs.declared.walk.WalkedPart.{WalkedPart}
 use Rattle.query_search.specs.Counted.{AreCounted, none}
 use Rattle.query_search.specs.Seen.{hit_in}
 use Rattle.query_search.specs.Verdicts.{Hit, NoneOf, Budget, or_later, proofs_of, first_hit, verdict_by, verdict, before, IsAcceptedFor}
@@ -65,7 +65,7 @@ module _ {D K : ℕ → Type 0} (f : Fragment) (size : ℕ) where
       let whole : half + (n - half) ≡ n = omega (arith, h) in
       subst (λ n. IsPart f size D K k n (option_map hit_in b) (m + m')) whole (both-parts k half (n - half) (option_map hit_in b) m m' (omega (arith, h, l)) p q)
 
-pub one-part-at : (f : Fragment) (size : ℕ) (D K : ℕ → Type 0) {E : Type 0} (k n : ℕ) → n ≡ 1 → (r : Result Part E) → IfOk r (λ part. IsPart f size D K k 1 (option_map hit_in part.hit) part.dropped)
+pub one-part-at : (f : Fragment) (size : ℕ) (D K : ℕ → Type 0) {E : Type 0} (k n : ℕ) → n ≡ 1 → (r : Result WalkedPart E) → IfOk r (λ part. IsPart f size D K k 1 (option_map hit_in part.hit) part.dropped)
     → IfOk r (λ part. IsPart f size D K k n (option_map hit_in part.hit) part.dropped)
 one-part-at f size D K k n e r h = subst (λ n. IfOk r (λ part. IsPart f size D K k n (option_map hit_in part.hit) part.dropped)) (sym e) h
 

@@ -8,7 +8,7 @@ ghost use Rattle.kernel_lang.specs.Whole.{fragment_of};
 ghost use Rattle.query_search.specs.Asking.{as_it_is, MayAnswer};
 ghost use Rattle.query_search.specs.Counted.{OneIs};
 
-use crate::extra::Extra;
+use crate::extra::FurtherPruner;
 use crate::pruner::{Call, Pruner};
 use kernel_lang::{Candidate, KFragment, PruneAnswer};
 use search_steps::first_asked;
@@ -33,7 +33,7 @@ pub fn ask_pruners(pruners: &[Pruner], frag: &KFragment, cand: &Candidate) -> Pr
 /// What pruners say of a candidate, and where they keep it, what `extra` says.
 pub fn ask_all<F: Fn(&KFragment, &Candidate) -> PruneAnswer>(
     pruners: &[Pruner],
-    extra: &Extra<F>,
+    extra: &FurtherPruner<F>,
     frag: &KFragment,
     cand: &Candidate,
 ) -> PruneAnswer

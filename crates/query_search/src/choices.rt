@@ -50,14 +50,14 @@ fn digits_of(cand: &[u32], first: u32, pool: &[Formula]) -> Option<usize>
 }
 
 /// How many accumulators have places.
-const ROOM: usize = 8;
+const PLACED_ACCUMULATORS: usize = 8;
 
 /// The place of accumulator `i` with the choice that a candidate makes. None where there is none.
 fn place_of(cand: &[u32], first: u32, a: &Acc, i: usize) -> Option<usize>
     ensures room { IfSome result (λ place. i < 8) }
     ensures place { IfSome result (λ place. place ≡ digits cand.now first (forms_of a.now.pool) * 8 + i) }
 {
-    if i >= ROOM {
+    if i >= PLACED_ACCUMULATORS {
         return None;
     }
     digits_of(cand, first, a.pool.as_slice())?
@@ -327,7 +327,7 @@ fn places(frag: &KFragment) -> usize {
     for a in frag.accs.as_slice() {
         longest = longest.max(a.pool.len());
     }
-    let mut places = ROOM;
+    let mut places = PLACED_ACCUMULATORS;
     for _ in 0..longest.min(16) {
         places = places.saturating_mul(2);
     }

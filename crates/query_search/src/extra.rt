@@ -12,14 +12,14 @@ use kernel_lang::{Candidate, KFragment, PruneAnswer};
 /// A closure that is asked as one more pruner, after all others. Whoever is given one asks that its closure
 /// may be called and is justified, as `new` does.
 #[derive(Drop)]
-pub struct Extra<F: Fn(&KFragment, &Candidate) -> PruneAnswer> {
+pub struct FurtherPruner<F: Fn(&KFragment, &Candidate) -> PruneAnswer> {
     pub call: F,
 }
 
-impl<F: Fn(&KFragment, &Candidate) -> PruneAnswer> Extra<F> {
+impl<F: Fn(&KFragment, &Candidate) -> PruneAnswer> FurtherPruner<F> {
     /// One more pruner. Its closure may be asked about every candidate of every fragment, and answers
     /// `Drop` only where some database refutes the candidate. It takes no memory.
-    pub fn new(call: F) -> Extra<F>
+    pub fn new(call: F) -> FurtherPruner<F>
         requires callable { (f : _) (c : _) → IsCandidateOf (fragment_of f.now) c.now → F.pre call f c }
         requires justified { (f : _) (c : _)
             → IsCandidateOf (fragment_of f.now) c.now
@@ -27,7 +27,7 @@ impl<F: Fn(&KFragment, &Candidate) -> PruneAnswer> Extra<F> {
             → ∥ IsRefuted (fragment_of f.now) c.now ∥₁ }
         ensures { result.call ≡ call }
     {
-        Extra { call }
+        FurtherPruner { call }
     }
 
     /// What the closure answers.

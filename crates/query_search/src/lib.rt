@@ -15,7 +15,7 @@ mod pruner;
 mod searching;
 mod walk;
 
-pub use extra::Extra;
+pub use extra::FurtherPruner;
 pub use found::Found;
 pub use kernel_lang::PruneAnswer;
 pub use pruner::{Call, Pruner};

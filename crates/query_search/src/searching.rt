@@ -10,10 +10,10 @@ ghost use Rattle.query_search.specs.Seen.{hit_in, verdict_in, dropped_in, IsFoun
 ghost use Rattle.query_search.specs.Verdicts.{verdict, verdict_by, before};
 
 use crate::choices::new_memory;
-use crate::extra::Extra;
+use crate::extra::FurtherPruner;
 use crate::found::Found;
 use crate::pruner::{Call, Pruner};
-use crate::walk::{Part, walk};
+use crate::walk::{WalkedPart, walk};
 use kernel_lang::{Candidate, KFragment, PruneAnswer};
 use qbs_base::NoMemory;
 use search_steps::{are_all, most_judged};
@@ -21,7 +21,7 @@ use std::alloc::Global;
 use templates::count;
 
 /// What is found, where this comes of the candidates that may be judged, of `n` in all.
-fn answer(part: Part, n: u64, budget: u64) -> Found
+fn answer(part: WalkedPart, n: u64, budget: u64) -> Found
     ensures exact { verdict_in result ≡ verdict_by budget n (option_map hit_in part.hit) }
     ensures dropped { dropped_in result ≡ part.dropped }
 {
@@ -59,7 +59,7 @@ pub fn search_with<F: Fn(&KFragment, &Candidate) -> PruneAnswer>(
     size: u32,
     budget: u64,
     pruners: &[Pruner],
-    extra: &Extra<F>,
+    extra: &FurtherPruner<F>,
 ) -> Result<Found, NoMemory>
     requires size { size ≤ 8 }
     requires callable { (f : _) (c : _) → IsCandidateOf (fragment_of f.now) c.now → F.pre extra.now.call f c }
@@ -89,7 +89,7 @@ fn search_past<F: Fn(&KFragment, &Candidate) -> PruneAnswer>(
     size: u32,
     budget: u64,
     pruners: &[Pruner],
-    kept: &Extra<F>,
+    kept: &FurtherPruner<F>,
 ) -> Result<Found, NoMemory>
     requires size { size ≤ 8 }
     requires callable { (f : _) (c : _) → IsCandidateOf (fragment_of f.now) c.now → F.pre kept.now.call f c }
@@ -122,6 +122,6 @@ pub fn search(
         0 (before (verdict (fragment_of frag.now) size budget)) (dropped_in r)) }
     ensures found { IfOk result (IsFoundOf (fragment_of frag.now)) }
 {
-    let kept = Extra::new(|_frag: &KFragment, _cand: &Candidate| PruneAnswer::Keep);
+    let kept = FurtherPruner::new(|_frag: &KFragment, _cand: &Candidate| PruneAnswer::Keep);
     search_past(alloc, frag, size, budget, pruners, &kept)
 }

@@ -12,7 +12,7 @@ ghost use Rattle.query_search.specs.Walks.{IsPart};
 
 use crate::asking::ask_all;
 use crate::choices::{Memory, judge_by};
-use crate::extra::Extra;
+use crate::extra::FurtherPruner;
 use crate::nth::candidate_at;
 use crate::pruner::{Call, Pruner};
 use kernel_lang::{Candidate, KFragment, PruneAnswer};
@@ -31,7 +31,7 @@ pub struct Accepted {
 
 /// What comes of a part of the candidates: the first accepted one, and how many before it were dropped.
 #[derive(Drop)]
-pub struct Part {
+pub struct WalkedPart {
     pub hit: Option<Accepted>,
     pub dropped: u64,
 }
@@ -42,10 +42,10 @@ fn judge_one<F: Fn(&KFragment, &Candidate) -> PruneAnswer>(
     frag: &KFragment,
     size: u32,
     pruners: &[Pruner],
-    extra: &Extra<F>,
+    extra: &FurtherPruner<F>,
     memory: &mut Memory,
     k: u64,
-) -> Result<Part, NoMemory>
+) -> Result<WalkedPart, NoMemory>
     requires size { size ≤ 8 }
     requires within { k < length (candidates_of (fragment_of frag.now) size) }
     requires known { IsMemoryOf (fragment_of frag.now) memory.old }
@@ -64,16 +64,16 @@ fn judge_one<F: Fn(&KFragment, &Candidate) -> PruneAnswer>(
     let cand = candidate_at(alloc, frag, size, k)?;
     match ask_all(pruners, extra, frag, &cand) {
         PruneAnswer::NoMemory => Err(NoMemory),
-        PruneAnswer::Drop => Ok(Part {
+        PruneAnswer::Drop => Ok(WalkedPart {
             hit: None,
             dropped: 1,
         }),
         PruneAnswer::Keep => match judge_by(alloc, frag, memory, &cand)? {
-            None => Ok(Part {
+            None => Ok(WalkedPart {
                 hit: None,
                 dropped: 0,
             }),
-            Some(proofs) => Ok(Part {
+            Some(proofs) => Ok(WalkedPart {
                 hit: Some(Accepted { k, cand, proofs }),
                 dropped: 0,
             }),
@@ -87,11 +87,11 @@ pub fn walk<F: Fn(&KFragment, &Candidate) -> PruneAnswer>(
     frag: &KFragment,
     size: u32,
     pruners: &[Pruner],
-    extra: &Extra<F>,
+    extra: &FurtherPruner<F>,
     memory: &mut Memory,
     k: u64,
     n: u64,
-) -> Result<Part, NoMemory>
+) -> Result<WalkedPart, NoMemory>
     requires size { size ≤ 8 }
     requires within { k + n ≤ length (candidates_of (fragment_of frag.now) size) }
     requires small { k + n < 2 ^ 64 }
@@ -109,7 +109,7 @@ pub fn walk<F: Fn(&KFragment, &Candidate) -> PruneAnswer>(
         k n (option_map hit_in part.hit) part.dropped) }
 {
     if n == 0 {
-        return Ok(Part {
+        return Ok(WalkedPart {
             hit: None,
             dropped: 0,
         });
@@ -128,7 +128,7 @@ pub fn walk<F: Fn(&KFragment, &Candidate) -> PruneAnswer>(
         alloc, frag, size, pruners, extra, memory, parts.1.0, parts.1.1,
     )?;
     let dropped = first.dropped + rest.dropped;
-    Ok(Part {
+    Ok(WalkedPart {
         hit: rest.hit,
         dropped,
     })
