@@ -6,11 +6,11 @@ ghost use Rattle.java_mean.specs.WellTyped.{IsWellTyped};
 ghost use Rattle.loop_text.specs.Statements.Loops.{loops_of};
 
 use crate::shown::put_lowered;
-use fragments::{Lowered, Outside, loops, lower, needed};
 use java_ast::{Path, Paths, Program, at_path};
 use java_lex::{Tokens, lex};
 use java_parser::parse;
 use java_types::{Typed, check};
+use lowering::{Lowered, Outside, loops, lower, needed};
 use qbs_base::{Fail, NoMemory, Span, Text};
 use schema::Schema;
 use schema_text::parse_schema;

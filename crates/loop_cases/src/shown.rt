@@ -1,7 +1,7 @@
 // The text of a lowered fragment.
-use fragments::Lowered;
 use java_ast::{Expr, ExprNode};
 use kernel_lang::{Acc, Candidate, Col, KFragment, ListDef};
+use lowering::Lowered;
 use qbs_base::{Names, NoMemory, NumberLists, Scalar, Ty, push_scalar};
 use sql_ast::{Queries, Query};
 use sql_text::print_query;

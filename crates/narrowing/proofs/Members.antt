@@ -1,5 +1,5 @@
 -- The query depends on which variables are assigned, and not on how often.
-use Rattle.std.specs.Prelude.{ℕ, Bool, true, false, not, ◌&&◌, ◌||◌, List, [], ◌∷◌, length, nat_lt, if◌then◌else◌}
+use Rattle.std.specs.Prelude.{ℕ, Bool, not, ◌&&◌, ◌||◌, List, [], ◌∷◌, length, nat_lt, if◌then◌else◌}
 use Rattle.std.specs.Option.{option_map}
 use Rattle.std.specs.declared.option.Option.{Option}
 use Rattle.std.specs.declared.option.Option.TheVariants.{Some, None}
@@ -10,7 +10,7 @@ use Rattle.qbs_base.specs.Values.{Schema}
 use Rattle.java_ast.specs.declared.tree.Op.TheVariants as ops
 use Rattle.java_ast.specs.Names.{Names, is_among}
 use Rattle.java_ast.specs.Path.{found_in}
-use Rattle.java_ast.specs.Tree.{Table, Expression, Lit, Var, Field, Binary, Not, Equals, Fetch, Query, Statements, Nothing, Then, If}
+use Rattle.java_ast.specs.Tree.{Table, Expression, Var, Field, Binary, Not, Equals, Fetch, Query, Statements, Nothing, Then, If}
 use Rattle.sql_ast.specs.Canonical.{canonical}
 use Rattle.sql_ast.specs.Tree.{Listing}
 use Rattle.spreads.specs.Narrowed.{Arguments, is_column, are_compared, is_plain, with_part, taken, all_read, parts_of, taken_condition, selecting, expressions, query_for, query_in_place, query_of_body}

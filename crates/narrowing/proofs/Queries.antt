@@ -1,12 +1,12 @@
 -- The expressions of a list, and the condition of a body.
-use Rattle.std.specs.Prelude.{ℕ, ◌<◌, List, [], ◌∷◌, length, map}
+use Rattle.std.specs.Prelude.{◌<◌, List, [], ◌∷◌, length, map}
 use Rattle.std.specs.declared.option.Option.TheVariants.{None}
 use Rattle.std.proofs.Common.{◌≡◌, refl, ap, arith, ◌⊎◌, inl, inr}
 use Rattle.java_ast.specs.declared.tree.Expr.{Expr}
 use Rattle.java_ast.specs.declared.tree.Stmt.{Stmt}
 use Rattle.java_ast.specs.Reading.{expression, statements}
 use Rattle.java_ast.specs.Reading as reading
-use Rattle.java_ast.specs.Tree.{Expressions, And}
+use Rattle.java_ast.specs.Tree.{And}
 use Rattle.spreads.specs.Narrowed.{expressions}
 use Rattle.narrowing.specs.Bodies.{only_condition}
 

@@ -8,7 +8,6 @@ ghost use Rattle.spreads.specs.Narrowed as specs;
 ghost use Rattle.sql_ast.specs.Tree as sql;
 
 use crate::arguments::{Arguments, number_of};
-use crate::plain::is_column;
 use crate::row::Row;
 use java_ast::{Expr, ExprNode, Op};
 use qbs_base::{Name, NoMemory, Scalar, boxed};

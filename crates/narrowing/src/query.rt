@@ -7,7 +7,6 @@ ghost use Rattle.java_mean.specs.Visible.{names_seen};
 ghost use Rattle.narrowing.specs.Bodies as bodies;
 ghost use Rattle.narrowing.specs.Lent.{expressions_lent};
 ghost use Rattle.narrowing.specs.Rows.{condition_boxed};
-ghost use Rattle.qbs_base.specs.Columns.{columns_at};
 ghost use Rattle.spreads.specs.Narrowed as specs;
 ghost use Rattle.spreads.specs.Narrowed.{query_of_body as query_of_body_in};
 ghost use Rattle.sql_ast.specs.Canonical.{canonical};

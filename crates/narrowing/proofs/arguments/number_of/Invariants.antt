@@ -1,4 +1,4 @@
-use Rattle.std.proofs.Common.{◌≡◌, ℕ, drop}
+use Rattle.std.proofs.Common.{◌≡◌, drop}
 use Rattle.java_ast.specs.Reading.{expression}
 use Rattle.narrowing.specs.Lent.{expressions_lent}
 use Rattle.spreads.specs.Narrowed.{number_of}

@@ -1,6 +1,5 @@
 use Rattle.std.proofs.Common.{◌≡◌, drop}
 use Rattle.std.specs.Option.{option_map}
-use Rattle.java_ast.specs.Reading.{expression}
 use Rattle.narrowing.specs.Lent.{expressions_lent}
 use Rattle.narrowing.specs.Rows.{columns_of, condition_boxed}
 use Rattle.spreads.specs.Narrowed.{conditions_of, taken_condition}

@@ -1,6 +1,0 @@
--- The known queries of a loop of the kernel form are those that emission asks for.
-use Rattle.fragments.proofs.Known.KnownLoop.{known_to}
-use Rattle.fragments.proofs.laws.known_queries_are_known.Goals as goal
-
-pub returns : goal.returns
-returns c = known_to

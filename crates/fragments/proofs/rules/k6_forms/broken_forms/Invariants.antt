@@ -1,9 +1,0 @@
-use Rattle.std.proofs.Common.{◌≡◌, drop, map}
-use Rattle.java_loops.specs.Kernel.KernelForms.{broken_form}
-use Rattle.loop_text.specs.Sites.Reading.{site_of}
-use Rattle.fragments.specs.Helping.Reading.{setting_in_code}
-use Rattle.loop_text.specs.Sites.Sites.{first_broken}
-use Rattle.fragments.proofs.rules.k6_forms.broken_forms.Given as goal
-
-abbrev pub invariant-loop-n : goal.invariant-loop-n
-invariant-loop-n l = first_broken (broken_form (setting_in_code l.w)) l.n (map site_of (drop l.n l.w.sites.now)) ≡ first_broken (broken_form (setting_in_code l.w)) 0 (map site_of l.w.sites.now)

@@ -1,4 +1,0 @@
-pub mod Asked
-pub mod AskedWorked
-pub mod Helping
-pub mod Lowers

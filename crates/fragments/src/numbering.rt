@@ -1,9 +1,0 @@
-//! Numbers for what a loop names.
-
-pub mod atoms;
-pub mod counts;
-pub mod formulas;
-pub mod leaf_list;
-pub mod named_values;
-pub mod numbers;
-pub mod tally;

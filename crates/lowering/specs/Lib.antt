@@ -1,0 +1,4 @@
+pub mod Asked
+pub mod AskedWorked
+pub mod InCode
+pub mod Lowers
