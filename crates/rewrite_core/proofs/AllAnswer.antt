@@ -35,7 +35,7 @@ use Rattle.java_loops.specs.Kernel.Setting.{Setting}
 use Rattle.java_loops.specs.Lowering.Lowered.{needed_in_order}
 use Rattle.java_loops.specs.Meant.GivesWay.{AreAnswers}
 use Rattle.java_loops.specs.Meant.Means.{AreMatched, HasScalar}
-use Rattle.fragments.specs.Asked.{queries_in}
+use Rattle.lowering.specs.Asked.{queries_in}
 use Rattle.java_loops.specs.Lowering.Spelling.{spelled_at, element_spelled}
 use Rattle.rewrite_core.specs.Asked.{Place, arguments_of, table_taken, spelled_or_text}
 use Rattle.rewrite_core.specs.Asking.{QueriesAreValid}

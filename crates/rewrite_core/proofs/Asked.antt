@@ -42,8 +42,8 @@ use Rattle.java_loops.proofs.Nested.NestRules.{Unbroken}
 use Rattle.java_loops.proofs.Placing.PlaceLoop.{kernel_unbroken}
 use Rattle.java_loops.proofs.Placing.PlaceTyped.{FragmentThere}
 use Rattle.java_loops.proofs.Typing.TypedFragment.{fragment_fits}
-use Rattle.fragments.specs.Asked.{queries_in}
-use Rattle.fragments.proofs.Known.KnownLoop.{known_to}
+use Rattle.lowering.specs.Asked.{queries_in}
+use Rattle.lowering.proofs.Known.KnownLoop.{known_to}
 use Rattle.rewrite_core.specs.Asked.{Place, asks_of}
 use Rattle.rewrite_core.specs.Asking.{MayBeAsked}
 use Rattle.rewrite_core.proofs.AllAnswer.{all_answer}

@@ -21,7 +21,7 @@ use Rattle.java_loops.specs.Meant.Members.{AreMatched}
 use Rattle.java_loops.specs.Walks.Reads.{Set, Reads, AllRead}
 use Rattle.java_loops.specs.Walks.Replacing.{Ask}
 use Rattle.java_loops.proofs.Starts.Start.{IsStarted}
-use Rattle.fragments.specs.Asked.{queries_in}
+use Rattle.lowering.specs.Asked.{queries_in}
 use Rattle.java_loops.specs.Lowering.Spelling.{spelled_at}
 use Rattle.rewrite_core.specs.Asked.{Place, value_by, type_started, start_type, value_asked, ask_with, emitted_for, asks_from}
 use Rattle.rewrite_core.proofs.Arguments.{arguments_read}

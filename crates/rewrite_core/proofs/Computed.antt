@@ -28,8 +28,8 @@ use Rattle.java_loops.specs.Kernel.Kernel.{lowering}
 use Rattle.java_loops.specs.Kernel.Worked.{program_of}
 use Rattle.java_loops.specs.Meant.Asking.{AskForLoop}
 use Rattle.java_loops.specs.Walks.Replacing.{Ask}
-use Rattle.fragments.specs.Asked.{queries_in, IsKernelLoop, HasQueriesOf}
-use Rattle.fragments.specs.AskedWorked.{asked_text, asked_query, asking}
+use Rattle.lowering.specs.Asked.{queries_in, IsKernelLoop, HasQueriesOf}
+use Rattle.lowering.specs.AskedWorked.{asked_text, asked_query, asking}
 use Rattle.rewrite_core.specs.Asked.{Place, asks_of, replaced}
 use Rattle.rewrite_core.specs.Asking.{MayBeAsked}
 use Rattle.rewrite_core.specs.Worked.{GivesWayTo, Worked, loop_at, giving, selection_asks, greatest_asks, class_C_asking, count_asks, names_asks, known_asks, asking_once}

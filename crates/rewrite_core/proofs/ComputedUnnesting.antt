@@ -18,7 +18,7 @@ use Rattle.java_mean.specs.WellTyped.{IsWellTyped}
 use Rattle.java_mean.specs.Worked.{somewhere, declare, give, method, out}
 use Rattle.java_types.specs.Texts.{read_by}
 use Rattle.java_loops.specs.Kernel.Kernel.{lowering}
-use Rattle.fragments.specs.Asked.{IsKernelLoop}
+use Rattle.lowering.specs.Asked.{IsKernelLoop}
 use Rattle.spreads.specs.Worked.{spread_out}
 use Rattle.rewrite_core.specs.Asked.{Place}
 use Rattle.rewrite_core.specs.Asking.{MayBeAsked}

@@ -27,7 +27,7 @@ use Rattle.java_loops.proofs.Lowering.LowerChains.{at_setting}
 use Rattle.java_loops.proofs.Meant.MeanReplaced.{with_statements}
 use Rattle.java_loops.proofs.Placing.Place.{behind_all}
 use Rattle.java_loops.proofs.Placing.PlaceTyped.{FragmentThere}
-use Rattle.fragments.specs.Asked.{IsKernelLoop}
+use Rattle.lowering.specs.Asked.{IsKernelLoop}
 use Rattle.loop_lists.proofs.LoopSites.{Site, site, sites_in, sites_among, sites_of, paths_of, paths_joined, paths_are}
 use Rattle.rewrite_core.specs.Asked.{Place, asks_of, number_of, replaced}
 use Rattle.rewrite_core.proofs.DistinctLoops.{loop_number}

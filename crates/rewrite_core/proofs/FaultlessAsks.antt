@@ -55,8 +55,8 @@ use Rattle.java_loops.proofs.Lowering.LowerChains.{at_setting}
 use Rattle.java_loops.proofs.Lowering.LowerValid.{fragments_valid}
 use Rattle.java_loops.proofs.Placing.PlaceLoop.{kernel_unbroken}
 use Rattle.java_loops.proofs.Placing.PlaceSpelled.{spelled_there}
-use Rattle.fragments.specs.Asked.{queries_in}
-use Rattle.fragments.proofs.Known.KnownLoop.{known_to}
+use Rattle.lowering.specs.Asked.{queries_in}
+use Rattle.lowering.proofs.Known.KnownLoop.{known_to}
 use Rattle.rewrite_core.specs.Asked.{Place, value_by, arguments_of, table_taken, spelled_or_text, asks_of}
 use Rattle.rewrite_core.specs.Asking.{QueriesAreValid, HasAsks, SeesEntries, IsFaultlessAsk}
 use Rattle.rewrite_core.proofs.Answering.{canonical_read}

@@ -30,7 +30,7 @@ use Rattle.java_loops.proofs.Placing.PlaceLoop.{kernel_unbroken}
 use Rattle.java_loops.proofs.Placing.PlaceTyped.{FragmentThere}
 use Rattle.java_loops.proofs.Walks.TypedPasses.{run_leaves_typed}
 use Rattle.java_loops.proofs.Walks.Visibility.{TypedParts, typed_parts, typed_past}
-use Rattle.fragments.specs.Asked.{queries_in, IsKernelLoop}
+use Rattle.lowering.specs.Asked.{queries_in, IsKernelLoop}
 use Rattle.rewrite_core.specs.Asking.{IsGivenThere}
 use Rattle.rewrite_core.proofs.Known.{one_matched, known_answers}
 

@@ -32,12 +32,12 @@ use Rattle.java_loops.proofs.Kept.KeptPath.{setting_stands}
 use Rattle.java_loops.proofs.Kept.KeptRuns.{kept_numbers_only}
 use Rattle.java_loops.proofs.Typing.TypedAccumulators.{accumulators_there as needed_there}
 use Rattle.java_loops.proofs.Typing.TypedFragment.{fragment_fits}
-use Rattle.fragments.specs.Asked.{queries_in}
-use Rattle.fragments.specs.declared.lowering.lowered.Lowered.{Lowered}
-use Rattle.fragments.specs.Lowers.{lowering_in_code}
+use Rattle.lowering.specs.Asked.{queries_in}
+use Rattle.lowering.specs.declared.lowering.lowered.Lowered.{Lowered}
+use Rattle.lowering.specs.Lowers.{lowering_in_code}
 use Rattle.rewrite_core.specs.Asked.{Place, asks_of, number_of, replaced}
 use Rattle.rewrite_core.specs.Asking.{HasAsks, MayBeAsked}
-use Rattle.rewrite_core.specs.Looped.{Looped, asked_from, AreValidFrom}
+use Rattle.rewrite_core.specs.LoopWithCandidate.{LoopWithCandidate, asked_from, AreValidFrom}
 use Rattle.rewrite_core.specs.Patches.{instead}
 use Rattle.rewrite_core.proofs.HasAsks.{may_with}
 use Rattle.rewrite_core.proofs.Giving.{looped_at, all_asked, all_are_valid}
@@ -92,7 +92,7 @@ module _ (schema : Schema) (read : List ℕ → Option PlainQuery) (p : PlainPro
     abbrev place : Place
     place = record { program = p; path = path; setting = w; candidate = candidate }
 
-    abbrev made : Schema → Statements → Span → Lowering → List PlainQuery → Looped
+    abbrev made : Schema → Statements → Span → Lowering → List PlainQuery → LoopWithCandidate
     made s run at z qs = record { schema = s; program = p; path = path; run = run; at = at; fragment = z.fragment; entries = z.entries; known = qs; arguments = z.arguments; candidate = candidate }
 
     looped_is : (run : Statements) (at : Span) → run ≡ w.fragment.run → at ≡ place_of w.fragment.loop → made schema run at (lowering_in_code l) (map query l.known) ≡ looped_at place
@@ -105,9 +105,9 @@ module _ (schema : Schema) (read : List ℕ → Option PlainQuery) (p : PlainPro
         ∙ ap (λ (z : Lowering). made w.schema w.fragment.run (place_of w.fragment.loop) z (map query l.known)) (sym lowered_is)
         ∙ ap (made w.schema w.fragment.run (place_of w.fragment.loop) (lowering w)) queries
 
-    asks_are : (g : Looped) → g ≡ looped_at place → asked_from g 0 l.names ≡ asked (asks_of place)
+    asks_are : (g : LoopWithCandidate) → g ≡ looped_at place → asked_from g 0 l.names ≡ asked (asks_of place)
     asks_are g is =
-        ap₂ (λ (h : Looped) (xs : Names). asked_from h 0 xs) is (sym (ap (λ (z : Lowering). z.names) lowered_is))
+        ap₂ (λ (h : LoopWithCandidate) (xs : Names). asked_from h 0 xs) is (sym (ap (λ (z : Lowering). z.names) lowered_is))
         ∙ all_asked place (needed_there schema read p path w typed numbers there (subst (λ (z : Setting). broken z ≡ None) same k.unbroken))
 
     kept_are : l.kept ≡ kept_numbers w.fragment (names_read (lowering w).entries) l.first w.fragment.run
@@ -145,7 +145,7 @@ module _ (schema : Schema) (read : List ℕ → Option PlainQuery) (p : PlainPro
         let unbroken : broken w ≡ None = subst (λ (z : Setting). broken z ≡ None) same k.unbroken in
         let found : IsThere schema p path w = is_there schema read p path w there in
         let queries : map query l.known ≡ queries_in (lowering w).known = sym (ap (λ (z : Lowering). queries_in z.known) lowered_is ∙ queries_found l.known) in
-        let valid' : AreValidFrom (looped_at place) 0 (lowering w).names = subst (λ (xs : Names). AreValidFrom (looped_at place) 0 xs) (sym (ap (λ (z : Lowering). z.names) lowered_is)) (subst (λ (g : Looped). AreValidFrom g 0 l.names) (found_looped run at run_is at_is) valid) in
+        let valid' : AreValidFrom (looped_at place) 0 (lowering w).names = subst (λ (xs : Names). AreValidFrom (looped_at place) 0 xs) (sym (ap (λ (z : Lowering). z.names) lowered_is)) (subst (λ (g : LoopWithCandidate). AreValidFrom g 0 l.names) (found_looped run at run_is at_is) valid) in
         record {
           loop = record { typed = typed; numbers = numbers; there = there; unbroken = unbroken };
           known = subst (AllByRecursion (IsQueryOf schema)) queries (known_valid schema (fragment_of l.frag).entries (map query l.known) l.known_args known.each);

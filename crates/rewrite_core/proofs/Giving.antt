@@ -18,10 +18,10 @@ use Rattle.java_loops.specs.Lowering.Collected.{IsForNeeded, AreForNeeded}
 use Rattle.java_loops.specs.Lowering.Lowered.{names_of_flags, needed_in_order}
 use Rattle.java_loops.specs.Lowering.Spelling.{spelled_at, element_spelled}
 use Rattle.java_loops.specs.Walks.Replacing.{Ask, asking, asked}
-use Rattle.fragments.specs.Asked.{queries_in}
+use Rattle.lowering.specs.Asked.{queries_in}
 use Rattle.rewrite_core.specs.Asked.{Place, arguments_of, value_by, spelled_or_text, start_type, table_taken, value_asked, ask_with, emitted_for, asks_from, asks_of}
 use Rattle.rewrite_core.specs.Asking.{QueriesAreValid}
-use Rattle.rewrite_core.specs.Looped.{Looped, rows_taken, element_asked, value_with, outermost, statement_for, asked_with, asked_at, asked_from, IsValidAt, AreValidFrom}
+use Rattle.rewrite_core.specs.LoopWithCandidate.{LoopWithCandidate, rows_taken, element_asked, value_with, outermost, statement_for, asked_with, asked_at, asked_from, IsValidAt, AreValidFrom}
 
 -- ---- Values
 
@@ -78,7 +78,7 @@ not_outer a h = inner_is a (not_zero a.base h)
 -- ---- Of a loop
 
 -- the loop of a place, as code has it
-abbrev pub looped_at : Place → Looped
+abbrev pub looped_at : Place → LoopWithCandidate
 looped_at l =
     record {
       schema = l.setting.schema;

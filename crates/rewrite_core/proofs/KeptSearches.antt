@@ -12,8 +12,8 @@ use Rattle.java_loops.specs.Kernel.Setting.{Setting}
 use Rattle.java_loops.specs.Lowering.Lowered.{Lowering}
 use Rattle.java_loops.specs.Meant.Lowers.{IsLowered}
 use Rattle.java_types.specs.Texts.{read_by}
-use Rattle.fragments.specs.declared.lowering.lowered.Lowered.{Lowered}
-use Rattle.fragments.specs.Lowers.{lowering_in_code}
+use Rattle.lowering.specs.declared.lowering.lowered.Lowered.{Lowered}
+use Rattle.lowering.specs.Lowers.{lowering_in_code}
 use Rattle.verdicts.specs.declared.verdict.LoopVerdict.{LoopVerdict}
 use Rattle.rewrite_core.specs.declared.outcome.Outcome.{Outcome}
 use Rattle.rewrite_core.specs.Outcome.{try_with, IsOutcomeOf}

@@ -23,7 +23,7 @@ use Rattle.java_loops.specs.Lowering.Lowered.{query_asked, numbers_of_arguments}
 use Rattle.java_loops.specs.Lowering.Numbering.{arguments, arguments_asked, entries_of}
 use Rattle.java_loops.specs.Meant.Means.{AreMatched, HasScalar, IsWholeAnswer}
 use Rattle.java_loops.proofs.Known.KnownGiven.{IsGivenKnown}
-use Rattle.fragments.specs.Asked.{queries_in}
+use Rattle.lowering.specs.Asked.{queries_in}
 
 -- ---- Values
 

@@ -19,8 +19,8 @@ use Rattle.java_loops.proofs.Listed.ListedRows.{fragment_seen}
 use Rattle.java_loops.proofs.Lowering.LowerChains.{at_setting}
 use Rattle.java_loops.proofs.Placing.PlaceLoop.{kernel_unbroken}
 use Rattle.java_loops.proofs.Placing.PlaceTyped.{FragmentThere}
-use Rattle.fragments.specs.Asked.{queries_in, IsKernelLoop}
-use Rattle.fragments.proofs.Known.KnownList.{query_for}
+use Rattle.lowering.specs.Asked.{queries_in, IsKernelLoop}
+use Rattle.lowering.proofs.Known.KnownList.{query_for}
 
 column_found : (o : Option PlainQuery) → is_column_query o ≡ true → (q : PlainQuery) × (o ≡ Some q)
 column_found None h = absurd cc

@@ -26,8 +26,8 @@ use Rattle.java_loops.specs.Kernel.Setting.{Setting}
 use Rattle.java_loops.specs.Lowering.Lowered.{Lowering}
 use Rattle.java_loops.specs.Meant.Lowers.{IsLowered}
 use Rattle.java_types.specs.Texts.{read_by}
-use Rattle.fragments.specs.declared.lowering.lowered.Lowered.{Lowered}
-use Rattle.fragments.specs.Lowers.{lowering_in_code}
+use Rattle.lowering.specs.declared.lowering.lowered.Lowered.{Lowered}
+use Rattle.lowering.specs.Lowers.{lowering_in_code}
 use Rattle.rewrite_core.specs.declared.outcome.GivesWay.{GivesWay}
 use Rattle.rewrite_core.specs.declared.outcome.Outcome.{Outcome}
 use Rattle.java_stretches.specs.Patches.{PlainPatch, put_patch}

@@ -9,7 +9,7 @@ use Rattle.java_ast.specs.Tree.{PlainProgram}
 use Rattle.java_loops.specs.Kernel.Kernel.{setting_at}
 use Rattle.java_loops.specs.Kernel.Setting.{Setting}
 use Rattle.java_loops.proofs.Kept.KeptPath.{setting_stands}
-use Rattle.rewrite_core.specs.Looped.{place_or_nowhere}
+use Rattle.rewrite_core.specs.LoopWithCandidate.{place_or_nowhere}
 use Rattle.rewrite_core.proofs.GivenUp.{IsThere, is_there}
 use Rattle.rewrite_core.proofs.StaysTyped.{first_there}
 

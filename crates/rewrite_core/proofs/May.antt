@@ -27,8 +27,8 @@ use Rattle.java_loops.proofs.Lowering.LowerChains.{at_setting}
 use Rattle.java_loops.proofs.Lowering.LowerValid.{fragments_valid}
 use Rattle.java_loops.proofs.Placing.PlaceTyped.{FragmentThere}
 use Rattle.java_loops.proofs.Typing.TypedFragment.{fragment_fits}
-use Rattle.fragments.specs.Asked.{queries_in, IsKernelLoop, HasQueriesOf}
-use Rattle.fragments.proofs.Known.KnownLoop.{known_to}
+use Rattle.lowering.specs.Asked.{queries_in, IsKernelLoop, HasQueriesOf}
+use Rattle.lowering.proofs.Known.KnownLoop.{known_to}
 use Rattle.rewrite_core.specs.Asking.{QueriesAreValid, MayBeAsked}
 use Rattle.rewrite_core.proofs.Asks.{member_accumulator}
 use Rattle.rewrite_core.proofs.Outer.{AreOuter, accumulators_there}

@@ -8,14 +8,14 @@ use Rattle.java_ast.specs.Path.{and_then}
 use Rattle.java_ast.specs.Reading.{statement, statements}
 use Rattle.java_ast.specs.Tree.{Statement, Statements, Nothing, Then}
 use Rattle.java_ast.specs.Names.{Names}
-use Rattle.rewrite_core.specs.Looped.{Looped, outermost, statement_for, emitted_in, asked_with, asked_at, asked_from, IsValidAt, AreValidFrom}
+use Rattle.rewrite_core.specs.LoopWithCandidate.{LoopWithCandidate, outermost, statement_for, emitted_in, asked_with, asked_at, asked_from, IsValidAt, AreValidFrom}
 use Rattle.rewrite_core.proofs.Giving.{and_nothing, and_then_joined}
 
 one_pushed : (all : List Stmt) (s : Stmt) → statements (all ++ s ∷ []) ≡ and_then (statements all) (Then (statement s) Nothing)
 one_pushed [] s = refl
 one_pushed (x ∷ all) s = ap (Then (statement x)) (one_pushed all s)
 
-module _ (g : Looped) where
+module _ (g : LoopWithCandidate) where
   pub push_none : (k : ℕ) (x : List ℕ) (all : Statements) → None ≡ outermost (slice_get g.fragment.accs k) → all ≡ and_then all (asked_at g k x)
   push_none k x all none = sym (ap (λ (o : Option Accumulator). and_then all (asked_with g x o (emitted_in g k))) (sym none) ∙ and_nothing all)
 

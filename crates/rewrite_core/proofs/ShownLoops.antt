@@ -28,8 +28,8 @@ use Rattle.java_mean.specs.WellTyped.{IsWellTyped}
 use Rattle.java_mean.proofs.Kept.{keeps_itself, keeps_through}
 use Rattle.java_types.proofs.Found.{found_exactly}
 use Rattle.java_types.specs.Texts.{read_by}
-use Rattle.fragments.specs.declared.lowering.lowered.Lowered.{Lowered}
-use Rattle.fragments.specs.Lowers.{lowering_in_code}
+use Rattle.lowering.specs.declared.lowering.lowered.Lowered.{Lowered}
+use Rattle.lowering.specs.Lowers.{lowering_in_code}
 use Rattle.loop_lists.specs.Places.{is_at, path_to}
 use Rattle.rewrite_core.specs.declared.checking.Shown.{Shown}
 use Rattle.rewrite_core.specs.Asked.{Place, replaced}

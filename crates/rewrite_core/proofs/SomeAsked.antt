@@ -31,7 +31,7 @@ use Rattle.java_loops.proofs.Placing.PlaceLoop.{kernel_unbroken}
 use Rattle.java_loops.proofs.Standing.StandingRules.{first_none, none_where}
 use Rattle.java_loops.proofs.Starts.Start.{IsStarted, accumulator_started}
 use Rattle.java_loops.proofs.Valid.ValidStarts.{given_sets}
-use Rattle.fragments.specs.Asked.{IsKernelLoop}
+use Rattle.lowering.specs.Asked.{IsKernelLoop}
 use Rattle.rewrite_core.specs.Asked.{Place, ask_with, emitted_for, asks_from, asks_of}
 use Rattle.rewrite_core.specs.Asking.{HasAsks}
 use Rattle.rewrite_core.proofs.StartedAsks.{asks_are_for_needed}

@@ -23,7 +23,7 @@ use Rattle.java_loops.specs.Lowering.Spelling.{spelled_at, element_spelled}
 use Rattle.java_loops.specs.Meant.Asking.{spelled_by, rewritten_at}
 use Rattle.java_loops.specs.Meant.KeptNumbers.{kept_numbers}
 use Rattle.java_loops.specs.Walks.Replacing.{Ask}
-use Rattle.fragments.specs.Asked.{queries_in}
+use Rattle.lowering.specs.Asked.{queries_in}
 
 -- ---- Expressions
 

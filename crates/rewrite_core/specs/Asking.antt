@@ -28,7 +28,7 @@ use Rattle.java_loops.specs.Lowering.Numbering.{numbers_of}
 use Rattle.java_loops.specs.Meant.Means.{AreMatched, HasScalar, IsWholeAnswer}
 use Rattle.java_loops.specs.Walks.Reads.{Set}
 use Rattle.java_loops.specs.Walks.Replacing.{Ask, is_asked}
-use Rattle.fragments.specs.Asked.{queries_in, IsKernelLoop, HasQueriesOf}
+use Rattle.lowering.specs.Asked.{queries_in, IsKernelLoop, HasQueriesOf}
 use Rattle.rewrite_core.specs.Asked.{emitted_for}
 
 -- what is emitted for the needed accumulators of a loop with this candidate is of the grammar of queries

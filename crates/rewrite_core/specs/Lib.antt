@@ -2,7 +2,7 @@ pub mod Asked
 pub mod Asking
 pub mod Checked
 pub mod Checking
-pub mod Looped
+pub mod LoopWithCandidate
 pub mod Outcome
 pub mod Output
 pub mod Patches

@@ -14,7 +14,7 @@ use Rattle.java_loops.specs.Kernel.Setting.{Setting, setting_of}
 use Rattle.java_loops.specs.Kernel.Worked.{program_of}
 use Rattle.java_loops.specs.Meant.Asking.{AskForLoop}
 use Rattle.java_loops.specs.Walks.Replacing.{Ask}
-use Rattle.fragments.specs.AskedWorked.{asking}
+use Rattle.lowering.specs.AskedWorked.{asking}
 use Rattle.rewrite_core.specs.Asked.{Place, asks_of, replaced}
 use Rattle.rewrite_core.specs.Asking.{MayBeAsked}
 

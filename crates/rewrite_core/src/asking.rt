@@ -14,10 +14,10 @@ ghost use Rattle.sql_ast.specs.Valid.{IsQueryOf};
 ghost use Rattle.sql_parts.specs.Given.{AreKnownTo, IsOutermost};
 ghost use Rattle.sql_emit.specs.Reading.{emission_of};
 ghost use Rattle.rewrite_core.specs.Asked.{type_started};
-ghost use Rattle.rewrite_core.specs.Looped as specs;
-ghost use Rattle.rewrite_core.specs.Looped.{looped_in_code};
+ghost use Rattle.rewrite_core.specs.LoopWithCandidate as specs;
+ghost use Rattle.rewrite_core.specs.LoopWithCandidate.{looped_in_code};
 
-use crate::looped::Looped;
+use crate::looped::LoopWithCandidate;
 use crate::spelling::{copy_spelled, spelled_at};
 use crate::values::{arguments_of, element_asked, value_with};
 use java_ast::{Expr, JTy, Stmt, StmtNode};
@@ -82,14 +82,19 @@ fn copy_start(alloc: Global, ty: Option<&JTy>) -> Result<Option<JTy>, NoMemory>
 }
 
 // The type with which the statement that starts a variable declares it, where it does.
-fn start_type(alloc: Global, l: Looped, x: &Name) -> Result<Option<JTy>, NoMemory>
+fn start_type(alloc: Global, l: LoopWithCandidate, x: &Name) -> Result<Option<JTy>, NoMemory>
     ensures { IfOk result (λ ty. option_map spelled ty ≡ type_started (setting.first_touching x.now (looped_in_code l.entry).run)) }
 {
     copy_start(alloc, type_of_start(first_touching(x, l.run)))
 }
 
 // The type of the elements that are asked for a variable.
-fn element_for(alloc: Global, l: Looped, x: &Name, update: Update) -> Result<JTy, NoMemory>
+fn element_for(
+    alloc: Global,
+    l: LoopWithCandidate,
+    x: &Name,
+    update: Update,
+) -> Result<JTy, NoMemory>
     ensures { IfOk result (λ element. spelled element ≡ specs.element_for (looped_in_code l.entry) x.now update) }
 {
     let ty = spelled_at(x, l.path, l.program);
@@ -105,7 +110,7 @@ fn text_of(alloc: Global, q: &Query) -> Result<Text, NoMemory>
 // The query for a variable, by its update and what is emitted for it.
 fn value_for(
     alloc: Global,
-    l: Looped,
+    l: LoopWithCandidate,
     x: &Name,
     update: Update,
     e: &Emitted,
@@ -129,7 +134,7 @@ fn value_for(
 // The statement that asks for a variable, by its update and what is emitted for it.
 fn statement_for(
     alloc: Global,
-    l: Looped,
+    l: LoopWithCandidate,
     x: &Name,
     update: Update,
     e: &Emitted,
@@ -154,7 +159,7 @@ fn outermost(frag: &KFragment, k: u32) -> Option<&Acc>
 }
 
 // The query that is emitted for the accumulator of this number.
-fn emitted(alloc: Global, l: Looped, k: u32) -> Result<Box<Emitted>, NoMemory>
+fn emitted(alloc: Global, l: LoopWithCandidate, k: u32) -> Result<Box<Emitted>, NoMemory>
     requires outer { IsOutermost (fragment_of l.lowered.now.frag) k }
     requires typed { is_typed l.schema.now (fragment_of l.lowered.now.frag) ≡ true }
     requires known { AreKnownTo l.schema.now (fragment_of l.lowered.now.frag) (map plain_query l.lowered.now.known) l.lowered.now.known_args }
@@ -176,7 +181,13 @@ fn emitted(alloc: Global, l: Looped, k: u32) -> Result<Box<Emitted>, NoMemory>
 }
 
 // Adds the statement for a variable whose accumulator has this number, where that stands outside all loops.
-fn push_ask(alloc: Global, l: Looped, k: u32, x: &Name, all: &mut Vec<Stmt>) -> Result<(), NoMemory>
+fn push_ask(
+    alloc: Global,
+    l: LoopWithCandidate,
+    k: u32,
+    x: &Name,
+    all: &mut Vec<Stmt>,
+) -> Result<(), NoMemory>
     requires typed { is_typed l.schema.now (fragment_of l.lowered.now.frag) ≡ true }
     requires known { AreKnownTo l.schema.now (fragment_of l.lowered.now.frag) (map plain_query l.lowered.now.known) l.lowered.now.known_args }
     ensures exact { OnOk result (statements all.new.items ≡ and_then (statements all.old.items) (specs.asked_at (looped_in_code l.entry) k x.now)) }
@@ -196,7 +207,7 @@ fn push_ask(alloc: Global, l: Looped, k: u32, x: &Name, all: &mut Vec<Stmt>) -> 
 /// loops. `NoMemory` comes also where there are more than 32 bits can count.
 pub fn push_asks(
     alloc: Global,
-    l: Looped,
+    l: LoopWithCandidate,
     k: u32,
     names: &[Name],
     all: &mut Vec<Stmt>,

@@ -34,7 +34,7 @@ ghost use Rattle.java_loops.specs.Walks.Reads.{Set};
 ghost use Rattle.java_loops.specs.Meant.Means.{MeansItsLoopThere};
 ghost use Rattle.java_loops.specs.Walks.Replacing.{Ask, asked, is_asked, replacement, run_and_loop, seen_at};
 ghost use Rattle.java_loops.specs.Walks.Runs.{kept, KeptRead};
-ghost use Rattle.fragments.specs.Asked.{queries_in, IsKernelLoop, HasQueriesOf};
+ghost use Rattle.lowering.specs.Asked.{queries_in, IsKernelLoop, HasQueriesOf};
 ghost use Rattle.rewrite_core.specs.Asked.{Place, asks_of, replaced};
 ghost use Rattle.rewrite_core.specs.Output.{IsSourceOf};
 ghost use Rattle.rewrite_core.specs.Patches.{patched_text};

@@ -14,7 +14,7 @@ ghost use Rattle.kernel_lang.specs.Whole.{fragment_of};
 ghost use Rattle.loop_text.specs.Statements.Walking.{IsLoopOf};
 ghost use Rattle.sql_ast.specs.Reading.{query};
 ghost use Rattle.sql_parts.specs.Given.{AreKnownTo};
-ghost use Rattle.fragments.specs.Lowers.{lowering_in_code};
+ghost use Rattle.lowering.specs.Lowers.{lowering_in_code};
 ghost use Rattle.verdicts.specs.declared.verdict.Said.TheVariants as says;
 ghost use Rattle.rewrite_core.specs.Outcome.{try_with, IsOutcomeOf};
 ghost use Rattle.rewrite_core.specs.Searches.{and_searched, before_said, kept_searches, plain_search, search_by};
@@ -25,12 +25,12 @@ ghost use Rattle.query_search.specs.Asking.{SomeMayDrop, EachMayKeep, OfCandidat
 
 use crate::replacing::{place_there, statements_instead};
 use crate::searches::{Search, Searches};
-use fragments::{Lowered, lower};
 use java_ast::{Path, Stmt};
 use java_types::Typed;
 use kernel_lang::{Candidate, KFragment};
+use lowering::{Lowered, lower};
 use qbs_base::{Fail, NoMemory, Span, boxed, held};
-use query_search::{Extra, Found, PruneAnswer, Pruner, search_with};
+use query_search::{Found, FurtherPruner, PruneAnswer, Pruner, search_with};
 use schema::Schema;
 use std::alloc::Global;
 use tor_axioms::Derivations;
@@ -103,7 +103,7 @@ fn search_plainly<F: Fn(&KFragment, &Candidate) -> PruneAnswer>(
     size: u32,
     budget: u64,
     pruners: &[Pruner],
-    extra: &Extra<F>,
+    extra: &FurtherPruner<F>,
 ) -> Result<Found, NoMemory>
     requires size { size ≤ 8 }
     requires callable { (f : _) (c : _) → IsCandidateOf (fragment_of f.now) c.now → F.pre extra.now.call f c }
@@ -132,7 +132,7 @@ fn try_lowered<F: Fn(&KFragment, &Candidate) -> PruneAnswer>(
     size: u32,
     budget: u64,
     pruners: &[Pruner],
-    extra: &Extra<F>,
+    extra: &FurtherPruner<F>,
 ) -> Result<Outcome, NoMemory>
     requires typed { IsWellTyped schema.now (read_by schema.now) (plain_program typed.now.program) }
     requires lowered { IsLowered schema.now (read_by schema.now) (plain_program typed.now.program) path.now (lowering_in_code lowered.now) lowered.now.first lowered.now.kept }
@@ -213,7 +213,7 @@ fn try_noted<F: Fn(&KFragment, &Candidate) -> PruneAnswer>(
     size: u32,
     budget: u64,
     pruners: &[Pruner],
-    extra: &Extra<F>,
+    extra: &FurtherPruner<F>,
     searches: &mut Option<Searches>,
 ) -> Result<Outcome, NoMemory>
     requires typed { IsWellTyped schema.now (read_by schema.now) (plain_program typed.now.program) }
@@ -265,7 +265,7 @@ pub fn try_searched<F: Fn(&KFragment, &Candidate) -> PruneAnswer>(
     size: u32,
     budget: u64,
     pruners: &[Pruner],
-    extra: &Extra<F>,
+    extra: &FurtherPruner<F>,
     searches: &mut Option<Searches>,
 ) -> Result<Outcome, NoMemory>
     requires typed { IsWellTyped schema.now (read_by schema.now) (plain_program typed.now.program) }
@@ -318,7 +318,7 @@ pub fn try_loop<F: Fn(&KFragment, &Candidate) -> PruneAnswer>(
     size: u32,
     budget: u64,
     pruners: &[Pruner],
-    extra: &Extra<F>,
+    extra: &FurtherPruner<F>,
 ) -> Result<Outcome, NoMemory>
     requires typed { IsWellTyped schema.now (read_by schema.now) (plain_program typed.now.program) }
     requires loops { IsLoopOf (plain_program typed.now.program) path.now }

@@ -31,7 +31,7 @@ use java_types::Typed;
 use kernel_lang::{Candidate, KFragment};
 use loop_text::statements::walk::loops_of;
 use qbs_base::{NoMemory, Span};
-use query_search::{Extra, PruneAnswer, Pruner};
+use query_search::{FurtherPruner, PruneAnswer, Pruner};
 use schema::Schema;
 use std::alloc::Global;
 use tor_axioms::Derivations;
@@ -190,7 +190,7 @@ fn try_next<F: Fn(&KFragment, &Candidate) -> PruneAnswer>(
     size: u32,
     budget: u64,
     pruners: &[Pruner],
-    extra: &Extra<F>,
+    extra: &FurtherPruner<F>,
 ) -> Result<Box<Stage>, NoMemory>
     requires typed { IsWellTyped schema.now (read_by schema.now) (plain_program stage.value.typed.program) }
     requires lists { IsStage stage.value }
@@ -242,7 +242,7 @@ fn try_further<F: Fn(&KFragment, &Candidate) -> PruneAnswer>(
     size: u32,
     budget: u64,
     pruners: &[Pruner],
-    extra: &Extra<F>,
+    extra: &FurtherPruner<F>,
 ) -> Result<Box<Stage>, NoMemory>
     requires typed { IsWellTyped schema.now (read_by schema.now) (plain_program stage.value.typed.program) }
     requires lists { IsStage stage.value }
@@ -347,7 +347,7 @@ pub fn try_all<F: Fn(&KFragment, &Candidate) -> PruneAnswer>(
     size: u32,
     budget: u64,
     pruners: &[Pruner],
-    extra: &Extra<F>,
+    extra: &FurtherPruner<F>,
     keep: bool,
 ) -> Result<AllTried, NoMemory>
     requires typed { IsWellTyped schema.now (read_by schema.now) (plain_program typed.now.program) }

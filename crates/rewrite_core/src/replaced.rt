@@ -13,7 +13,7 @@ use java_ast::Program;
 use java_types::Typed;
 use kernel_lang::{Candidate, KFragment};
 use qbs_base::NoMemory;
-use query_search::{Extra, PruneAnswer};
+use query_search::{FurtherPruner, PruneAnswer};
 use schema::Schema;
 use std::alloc::Global;
 use verdicts::Verdicts;
@@ -32,7 +32,7 @@ fn replace_past<F: Fn(&KFragment, &Candidate) -> PruneAnswer>(
     typed: &Typed,
     size: u32,
     budget: u64,
-    kept: &Extra<F>,
+    kept: &FurtherPruner<F>,
 ) -> Result<Replaced, NoMemory>
     requires typed { IsWellTyped schema.now (read_by schema.now) (plain_program typed.now.program) }
     requires size { size ≤ 8 }
@@ -62,6 +62,6 @@ pub fn replace_loops(
     requires budget { budget ≤ 1000000 }
     ensures { IfOk result (IsReplacementOf schema.now size budget (plain_program typed.now.program)) }
 {
-    let kept = Extra::new(|_frag: &KFragment, _cand: &Candidate| PruneAnswer::Keep);
+    let kept = FurtherPruner::new(|_frag: &KFragment, _cand: &Candidate| PruneAnswer::Keep);
     replace_past(alloc, schema, typed, size, budget, &kept)
 }

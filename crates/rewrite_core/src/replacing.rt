@@ -22,19 +22,19 @@ ghost use Rattle.sql_ast.specs.Reading.{query};
 ghost use Rattle.sql_ast.specs.Tree.{PlainQuery};
 ghost use Rattle.sql_parts.specs.Given.{AreKnownTo};
 ghost use Rattle.vc_gen.specs.Soundness.{EndsAnywhere};
-ghost use Rattle.fragments.specs.Lowers.{lowering_in_code};
+ghost use Rattle.lowering.specs.Lowers.{lowering_in_code};
 ghost use Rattle.rewrite_core.specs.Asked.{replaced};
 ghost use Rattle.rewrite_core.specs.Asking.{HasAsks};
-ghost use Rattle.rewrite_core.specs.Looped.{looped_in_code, asked_from, AreValidFrom, place_or_nowhere};
+ghost use Rattle.rewrite_core.specs.LoopWithCandidate.{looped_in_code, asked_from, AreValidFrom, place_or_nowhere};
 ghost use Rattle.rewrite_core.specs.Patches.{instead};
 
 use crate::asking::push_asks;
-use crate::looped::Looped;
-use fragments::{Lowered, kept_statements, run_there};
+use crate::looped::LoopWithCandidate;
 use java_ast::{Path, Program, Stmt, at_path};
 use java_copies::{copy_program, put_at};
 use java_types::Typed;
 use kernel_lang::Candidate;
+use lowering::{Lowered, kept_statements, run_there};
 use qbs_base::{NoMemory, Span};
 use schema::Schema;
 use std::alloc::Global;
@@ -55,7 +55,7 @@ pub fn place_there(program: &Program, path: &Path) -> Span
 }
 
 // The statements that stay of the run before a loop, and those that ask for the loop's needed accumulators.
-fn in_place(alloc: Global, l: Looped) -> Result<Vec<Stmt>, NoMemory>
+fn in_place(alloc: Global, l: LoopWithCandidate) -> Result<Vec<Stmt>, NoMemory>
     requires typed { is_typed l.schema.now (fragment_of l.lowered.now.frag) ≡ true }
     requires known { AreKnownTo l.schema.now (fragment_of l.lowered.now.frag) (map query l.lowered.now.known) l.lowered.now.known_args }
     ensures exact { IfOk result (λ all.
@@ -97,7 +97,7 @@ fn in_place_at(
         → setting_at schema.now (read_by schema.now) path.now (plain_program program.now) ≡ Some w
         → HasAsks schema.now (read_by schema.now) (plain_program program.now) path.now w candidate.now) }
 {
-    let l = Looped {
+    let l = LoopWithCandidate {
         schema,
         program,
         path,

@@ -18,7 +18,7 @@ use java_stretches::with_patches;
 use java_types::Typed;
 use kernel_lang::{Candidate, KFragment};
 use qbs_base::NoMemory;
-use query_search::{Extra, PruneAnswer, Pruner};
+use query_search::{FurtherPruner, PruneAnswer, Pruner};
 use schema::Schema;
 use std::alloc::Global;
 
@@ -68,7 +68,7 @@ pub fn rewrite_with<F: Fn(&KFragment, &Candidate) -> PruneAnswer>(
     size: u32,
     budget: u64,
     pruners: &[Pruner],
-    extra: &Extra<F>,
+    extra: &FurtherPruner<F>,
 ) -> Result<Rewritten, NoMemory>
     requires typed { IsWellTyped schema.now (read_by schema.now) (plain_program typed.now.program) }
     requires source { IsSourceOf source.now (plain_program typed.now.program) }
@@ -100,7 +100,7 @@ fn rewrite_past<F: Fn(&KFragment, &Candidate) -> PruneAnswer>(
     size: u32,
     budget: u64,
     pruners: &[Pruner],
-    kept: &Extra<F>,
+    kept: &FurtherPruner<F>,
 ) -> Result<Rewritten, NoMemory>
     requires typed { IsWellTyped schema.now (read_by schema.now) (plain_program typed.now.program) }
     requires source { IsSourceOf source.now (plain_program typed.now.program) }
@@ -137,6 +137,6 @@ pub fn rewrite(
         (AllMayKeep fragment_of (λ p. ⟦<Box<dyn Fn(&KFragment, &Candidate) -> PruneAnswer> as Fn(&KFragment, &Candidate) -> PruneAnswer>⟧.post p.call) pruners.now)
         schema.now size budget source.now (plain_program typed.now.program)) }
 {
-    let kept = Extra::new(|_frag: &KFragment, _cand: &Candidate| PruneAnswer::Keep);
+    let kept = FurtherPruner::new(|_frag: &KFragment, _cand: &Candidate| PruneAnswer::Keep);
     rewrite_past(alloc, schema, typed, source, size, budget, pruners, &kept)
 }

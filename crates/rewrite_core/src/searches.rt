@@ -14,7 +14,7 @@ use crate::progress::{AllTried, try_all};
 use java_types::Typed;
 use kernel_lang::{Candidate, KFragment};
 use qbs_base::{Items, NoMemory};
-use query_search::{Extra, PruneAnswer};
+use query_search::{FurtherPruner, PruneAnswer};
 use schema::Schema;
 use std::alloc::Global;
 use verdicts::Verdicts;
@@ -60,7 +60,7 @@ fn search_past<F: Fn(&KFragment, &Candidate) -> PruneAnswer>(
     typed: &Typed,
     size: u32,
     budget: u64,
-    kept: &Extra<F>,
+    kept: &FurtherPruner<F>,
 ) -> Result<Searching, NoMemory>
     requires typed { IsWellTyped schema.now (read_by schema.now) (plain_program typed.now.program) }
     requires size { size ≤ 8 }
@@ -87,6 +87,6 @@ pub fn search_loops(
     requires budget { budget ≤ 1000000 }
     ensures { IfOk result (IsSearchingOf schema.now size budget (plain_program typed.now.program)) }
 {
-    let kept = Extra::new(|_frag: &KFragment, _cand: &Candidate| PruneAnswer::Keep);
+    let kept = FurtherPruner::new(|_frag: &KFragment, _cand: &Candidate| PruneAnswer::Keep);
     search_past(alloc, schema, typed, size, budget, &kept)
 }

@@ -10,7 +10,7 @@ ghost use Rattle.java_mean.specs.Queries.{Reader};
 ghost use Rattle.java_mean.specs.WellTyped.{IsWellTyped};
 ghost use Rattle.java_types.specs.Texts.{read_by};
 ghost use Rattle.loop_text.specs.Statements.Loops.{loops_of};
-ghost use Rattle.fragments.specs.Asked.{IsKernelLoop};
+ghost use Rattle.lowering.specs.Asked.{IsKernelLoop};
 ghost use Rattle.rewrite_core.specs.Asked.{Place, replaced};
 ghost use Rattle.rewrite_core.specs.Patches.{patches_left, puts_of, with_puts, patches_for};
 ghost use Rattle.rewrite_core.specs.Rewriting.{standing_tries, StandsIn};

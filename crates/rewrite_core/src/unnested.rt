@@ -25,7 +25,7 @@ use java_copies::{copy_program, put_at};
 use java_types::Typed;
 use kernel_lang::{Candidate, KFragment};
 use qbs_base::NoMemory;
-use query_search::{Extra, PruneAnswer, Pruner};
+use query_search::{FurtherPruner, PruneAnswer, Pruner};
 use schema::Schema;
 use std::alloc::Global;
 
@@ -83,7 +83,7 @@ fn unnest_by<F: Fn(&KFragment, &Candidate) -> PruneAnswer>(
     size: u32,
     budget: u64,
     pruners: &[Pruner],
-    kept: &Extra<F>,
+    kept: &FurtherPruner<F>,
 ) -> Result<Option<Unnested>, NoMemory>
     requires tried { MayBeTried schema.now path.now (statements spread.items) (plain_program program.now) }
     requires size { size ≤ 8 }
@@ -106,7 +106,7 @@ fn unnest_past<F: Fn(&KFragment, &Candidate) -> PruneAnswer>(
     size: u32,
     budget: u64,
     pruners: &[Pruner],
-    kept: &Extra<F>,
+    kept: &FurtherPruner<F>,
 ) -> Result<Option<Unnested>, NoMemory>
     requires typed { IsWellTyped schema.now (read_by schema.now) (plain_program typed.now.program) }
     requires loops { IsLoopOf (plain_program typed.now.program) path.now }
@@ -165,6 +165,6 @@ pub fn unnest(
         → IsWritten (plain_program typed.now.program)
         → IsInGrammar (plain_program u.program) × IsWritten (plain_program u.program))) }
 {
-    let kept = Extra::new(|_frag: &KFragment, _cand: &Candidate| PruneAnswer::Keep);
+    let kept = FurtherPruner::new(|_frag: &KFragment, _cand: &Candidate| PruneAnswer::Keep);
     unnest_past(alloc, schema, typed, path, size, budget, pruners, &kept)
 }

@@ -31,7 +31,7 @@ use kernel_lang::{Candidate, KFragment};
 use loop_lists::next_in;
 use loop_text::statements::walk::loops_of;
 use qbs_base::{Bytes, NoMemory};
-use query_search::{Extra, PruneAnswer};
+use query_search::{FurtherPruner, PruneAnswer};
 use schema::Schema;
 use std::alloc::Global;
 use verdicts::{LoopVerdict, Verdicts};
@@ -245,7 +245,7 @@ fn try_spread<F: Fn(&KFragment, &Candidate) -> PruneAnswer>(
     old: Vec<Stmt>,
     size: u32,
     budget: u64,
-    kept: &Extra<F>,
+    kept: &FurtherPruner<F>,
 ) -> Result<Box<Stage>, NoMemory>
     requires typed { IsWellTyped schema.now (read_by schema.now) (plain_program stage.value.typed.program) }
     requires behind { stage.value.listed.before ≤ stage.value.standing }
@@ -284,7 +284,7 @@ fn unnest_by<F: Fn(&KFragment, &Candidate) -> PruneAnswer>(
     spread: Vec<Stmt>,
     size: u32,
     budget: u64,
-    kept: &Extra<F>,
+    kept: &FurtherPruner<F>,
 ) -> Result<Box<Stage>, NoMemory>
     requires lists { IsStage stage.value }
     requires there { (path : _) × (next_of stage.value ≡ Some path) }
@@ -316,7 +316,7 @@ fn unnest_next<F: Fn(&KFragment, &Candidate) -> PruneAnswer>(
     given: &mut GaveWay,
     size: u32,
     budget: u64,
-    kept: &Extra<F>,
+    kept: &FurtherPruner<F>,
 ) -> Result<Box<Stage>, NoMemory>
     requires typed { IsWellTyped schema.now (read_by schema.now) (plain_program stage.value.typed.program) }
     requires lists { IsStage stage.value }
@@ -351,7 +351,7 @@ fn unnest_further<F: Fn(&KFragment, &Candidate) -> PruneAnswer>(
     left: usize,
     size: u32,
     budget: u64,
-    kept: &Extra<F>,
+    kept: &FurtherPruner<F>,
 ) -> Result<Box<Stage>, NoMemory>
     requires typed { IsWellTyped schema.now (read_by schema.now) (plain_program stage.value.typed.program) }
     requires lists { IsStage stage.value }
@@ -403,7 +403,7 @@ fn unnest_all<F: Fn(&KFragment, &Candidate) -> PruneAnswer>(
     given: &mut GaveWay,
     size: u32,
     budget: u64,
-    kept: &Extra<F>,
+    kept: &FurtherPruner<F>,
 ) -> Result<Box<Stage>, NoMemory>
     requires typed { IsWellTyped schema.now (read_by schema.now) (plain_program typed.now.program) }
     requires verdicts { given.now.verdicts ≡ [] }
@@ -454,7 +454,7 @@ fn unnest_past<F: Fn(&KFragment, &Candidate) -> PruneAnswer>(
     source: &[u8],
     size: u32,
     budget: u64,
-    kept: &Extra<F>,
+    kept: &FurtherPruner<F>,
 ) -> Result<Unnesting, NoMemory>
     requires typed { IsWellTyped schema.now (read_by schema.now) (plain_program typed.now.program) }
     requires source { IsSourceOf source.now (plain_program typed.now.program) }
@@ -492,6 +492,6 @@ pub fn unnest_loops(
     requires budget { budget ≤ 1000000 }
     ensures { IfOk result (IsUnnestingOf schema.now size budget source.now (plain_program typed.now.program)) }
 {
-    let kept = Extra::new(|_frag: &KFragment, _cand: &Candidate| PruneAnswer::Keep);
+    let kept = FurtherPruner::new(|_frag: &KFragment, _cand: &Candidate| PruneAnswer::Keep);
     unnest_past(alloc, schema, typed, source, size, budget, &kept)
 }

@@ -7,7 +7,7 @@ ghost use Rattle.java_loops.specs.Lowering.Spelling.{element_spelled};
 ghost use Rattle.kernel_lang.specs.Whole.{fragment_of};
 ghost use Rattle.sql_parts.specs.Scopes.{def_of, table_name};
 ghost use Rattle.rewrite_core.specs.Asked as specs;
-ghost use Rattle.rewrite_core.specs.Looped as looped;
+ghost use Rattle.rewrite_core.specs.LoopWithCandidate as looped;
 
 use crate::spelling::copy_spelled;
 use java_ast::{Expr, ExprNode, JTy};

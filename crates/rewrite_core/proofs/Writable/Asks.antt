@@ -49,7 +49,7 @@ use Rattle.java_loops.proofs.Lowering.LowerChains.{at_setting}
 use Rattle.java_loops.proofs.Lowering.LowerValid.{fragments_valid}
 use Rattle.java_loops.proofs.Placing.Place.{IsPlacedIn}
 use Rattle.java_loops.proofs.Placing.PlaceSpelled.{spelled_there}
-use Rattle.fragments.specs.Asked.{queries_in}
+use Rattle.lowering.specs.Asked.{queries_in}
 use Rattle.rewrite_core.specs.Asked.{Place, entry_at, arguments_of, value_by, type_started, start_type, table_taken, spelled_or_text, asks_of, first_of_run, replaced}
 use Rattle.rewrite_core.specs.Asking.{QueriesAreValid, HasAsks}
 use Rattle.rewrite_core.proofs.Asks.{emission_of, ask_of, asks_by, Follow, follow_first, follow_next, follow_here, asks_are}

@@ -25,7 +25,7 @@ use Rattle.java_ast.specs.Names.{Names}
 use Rattle.java_loops.specs.Kernel.Setting.{Setting}
 use Rattle.java_loops.specs.Lowering.Lowered.{query_asked}
 use Rattle.java_loops.specs.Lowering.Numbering.{with_new, Leaf, all_leaves, operand_of_literal, operand_of_column, operand_of, operand_before, same_of, compared, flag_reading, bound_reading, reading_of, same_atom, atoms_among}
-use Rattle.fragments.specs.Asked.{queries_in}
+use Rattle.lowering.specs.Asked.{queries_in}
 use Rattle.rewrite_core.proofs.Writable.Given.{Holds}
 use Rattle.rewrite_core.proofs.Writable.Entries.{IsFineAsked, asked_for_fine}
 use Rattle.rewrite_core.proofs.Writable.Leaves.{new_where, OfParts, OfTests, OfLeaf, of_all_leaves}

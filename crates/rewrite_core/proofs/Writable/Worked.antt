@@ -6,7 +6,7 @@ use Rattle.java_types.specs.Texts.{read_by}
 use Rattle.java_types.proofs.Found.{found_exactly}
 use Rattle.java_grammar.specs.InGrammar.{IsInGrammar}
 use Rattle.java_grammar.specs.Written.{IsWritten}
-use Rattle.fragments.specs.AskedWorked.{asked_text, asking}
+use Rattle.lowering.specs.AskedWorked.{asked_text, asking}
 use Rattle.rewrite_core.specs.Asked.{Place}
 use Rattle.rewrite_core.specs.Worked.{loop_at, known_asks, asking_once, GivesWayTo}
 use Rattle.rewrite_core.proofs.HasAsks.{has_asks}

@@ -1,6 +1,6 @@
 use Rattle.std.proofs.lemmas.Result.{on_ok_weaker}
 use Rattle.java_ast.specs.Reading.{statements}
-use Rattle.rewrite_core.specs.Looped.{looped_in_code}
+use Rattle.rewrite_core.specs.LoopWithCandidate.{looped_in_code}
 use Rattle.rewrite_core.proofs.Pushed.{push_end, push_all, end_valid, all_valid}
 use Rattle.rewrite_core.proofs.asking.+push_asks.Goals as goal
 

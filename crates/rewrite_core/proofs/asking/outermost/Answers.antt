@@ -1,7 +1,7 @@
 use Rattle.std.proofs.Common.{List, ◌≡◌, ◌∙◌, sym, ap, subst, Some, map, slice_get}
 use Rattle.kernel_lang.specs.declared.parts.Acc.{Acc}
 use Rattle.kernel_lang.specs.Plain.{accumulator}
-use Rattle.rewrite_core.specs.Looped as specs
+use Rattle.rewrite_core.specs.LoopWithCandidate as specs
 use Rattle.rewrite_core.proofs.Arguing.{mapped_some}
 use Rattle.rewrite_core.proofs.Giving.{not_outer}
 use Rattle.rewrite_core.proofs.asking.outermost.Goals as goal

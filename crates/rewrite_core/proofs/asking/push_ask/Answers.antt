@@ -3,7 +3,7 @@ use Rattle.java_ast.specs.Reading.{statement, statements}
 use Rattle.kernel_lang.specs.Plain.{accumulator}
 use Rattle.sql_emit.specs.declared.emission.Emitted.{Emitted}
 use Rattle.sql_emit.specs.Reading.{emission_of}
-use Rattle.rewrite_core.specs.Looped.{looped_in_code, statement_for}
+use Rattle.rewrite_core.specs.LoopWithCandidate.{looped_in_code, statement_for}
 use Rattle.rewrite_core.proofs.Pushed.{push_none, push_some, none_valid, some_valid}
 use Rattle.rewrite_core.proofs.asking.push_ask.Goals as goal
 

@@ -1,7 +1,7 @@
 use Rattle.std.proofs.Common.{ap, subst}
 use Rattle.java_ast.specs.Reading.{program as plain_program}
 use Rattle.java_types.specs.Texts.{read_by}
-use Rattle.fragments.specs.Lowers.{broken_in_code, IsOutside}
+use Rattle.lowering.specs.Lowers.{broken_in_code, IsOutside}
 use Rattle.rewrite_core.specs.Searches.{kept_searches}
 use Rattle.rewrite_core.proofs.KeptSearches.{outside_notes}
 use Rattle.rewrite_core.proofs.LoopOutcomes.{code_outside}

@@ -3,7 +3,7 @@ use Rattle.java_ast.specs.Path.{and_then}
 use Rattle.java_ast.specs.Reading.{statements}
 use Rattle.loop_text.specs.Statements.KeptStatements.{with_numbers}
 use Rattle.java_ast.specs.Names.{Names}
-use Rattle.rewrite_core.specs.Looped.{looped_in_code, asked_from, AreValidFrom}
+use Rattle.rewrite_core.specs.LoopWithCandidate.{looped_in_code, asked_from, AreValidFrom}
 use Rattle.rewrite_core.proofs.Pushed.{behind_kept}
 use Rattle.rewrite_core.proofs.replacing.in_place.Goals as goal
 

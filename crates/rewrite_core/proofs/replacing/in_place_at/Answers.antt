@@ -3,9 +3,9 @@ use Rattle.std.proofs.lemmas.Result.{IfOk-weaker, on_ok_weaker}
 use Rattle.java_ast.specs.Path.{replaced_at}
 use Rattle.java_ast.specs.Reading.{statements, program}
 use Rattle.java_types.specs.Texts.{read_by}
-use Rattle.fragments.specs.Lowers.{lowering_in_code}
+use Rattle.lowering.specs.Lowers.{lowering_in_code}
 use Rattle.loop_places.specs.RunsThere.{run_or_nothing}
-use Rattle.rewrite_core.specs.Looped.{place_or_nowhere}
+use Rattle.rewrite_core.specs.LoopWithCandidate.{place_or_nowhere}
 use Rattle.rewrite_core.proofs.GivenUp.{fits_schema, instead_is, replaced_is, has_there}
 use Rattle.rewrite_core.proofs.replacing.in_place_at.Goals as goal
 

@@ -27,7 +27,7 @@ use Rattle.loop_text.specs.Statements.Setting.{first_touching}
 use Rattle.java_loops.specs.Lowering.Spelling.{spelled_at, element_spelled}
 use Rattle.java_loops.specs.Walks.Replacing.{asking}
 use Rattle.rewrite_core.specs.Asked.{spelled_or_text, arguments_of, type_started}
-use Rattle.rewrite_core.specs.declared.looped.Looped.{Looped as CodeLooped}
+use Rattle.rewrite_core.specs.declared.looped.LoopWithCandidate.{LoopWithCandidate as CodeLooped}
 
 -- ---- Values
 
@@ -59,7 +59,7 @@ place_or_nowhere None = nowhere
 
 -- A loop of a program with a candidate: the path to it, the run before it and its place, its lowered fragment, the expressions of its
 -- entry values, and its known queries with the entry numbers of their arguments.
-pub record Looped : Type 0 where
+pub record LoopWithCandidate : Type 0 where
   pub schema : Schema
   pub program : PlainProgram
   pub path : List ℕ
@@ -71,7 +71,7 @@ pub record Looped : Type 0 where
   pub arguments : List (List ℕ)
   pub candidate : List ℕ
 
-abbrev pub looped_in_code : CodeLooped → Looped
+abbrev pub looped_in_code : CodeLooped → LoopWithCandidate
 looped_in_code l =
     record {
       schema = l.schema.now;
@@ -94,40 +94,40 @@ outermost (Some a) = if a.base == 0 then Some a else None
 outermost None = None
 
 -- the type of the elements that are asked for a variable
-abbrev pub element_for : Looped → List ℕ → Update → Spelled
+abbrev pub element_for : LoopWithCandidate → List ℕ → Update → Spelled
 element_for l x u = element_asked u (rows_taken l.schema l.fragment.lists u) (spelled_or_text (element_spelled (spelled_at x l.path l.program)))
 
-abbrev pub value_for : Looped → List ℕ → Update → Emission → Expression
+abbrev pub value_for : LoopWithCandidate → List ℕ → Update → Emission → Expression
 value_for l x u e = value_with l.at u (element_for l x u) (canonical e.query) (arguments_of l.at l.entries e.entries)
 
 -- the statement that asks for a variable, by its update and the query that is emitted for it
-abbrev pub statement_for : Looped → List ℕ → Update → Emission → Statement
+abbrev pub statement_for : LoopWithCandidate → List ℕ → Update → Emission → Statement
 statement_for l x u e = asking (type_started (first_touching x l.run)) l.at x (value_for l x u e)
 
 -- the query that is emitted for the accumulator of this number
-abbrev pub emitted_in : Looped → ℕ → Option Emission
+abbrev pub emitted_in : LoopWithCandidate → ℕ → Option Emission
 emitted_in l k = emitted l.schema l.fragment l.candidate k l.known l.arguments
 
-abbrev pub asked_with : Looped → List ℕ → Option Accumulator → Option Emission → Statements
+abbrev pub asked_with : LoopWithCandidate → List ℕ → Option Accumulator → Option Emission → Statements
 asked_with l x (Some a) (Some e) = Then (statement_for l x a.update e) Nothing
 asked_with l x _ _ = Nothing
 
 -- the statement for a variable whose accumulator has the number k, where that stands outside all loops
-abbrev pub asked_at : Looped → ℕ → List ℕ → Statements
+abbrev pub asked_at : LoopWithCandidate → ℕ → List ℕ → Statements
 asked_at l k x = asked_with l x (outermost (slice_get l.fragment.accs k)) (emitted_in l k)
 
 -- the statements for variables, of whose accumulators the first has the number k
-abbrev pub asked_from : Looped → ℕ → Names → Statements
+abbrev pub asked_from : LoopWithCandidate → ℕ → Names → Statements
 asked_from l k [] = Nothing
 asked_from l k (x ∷ xs) = and_then (asked_at l k x) (asked_from l (suc k) xs)
 
 -- ---- Their queries
 
 -- the query that is emitted for the accumulator of this number, where that stands outside all loops, is of the schema
-abbrev pub IsValidAt : Looped → ℕ → Type 0
+abbrev pub IsValidAt : LoopWithCandidate → ℕ → Type 0
 IsValidAt l k = (a : Accumulator) (e : Emission) → outermost (slice_get l.fragment.accs k) ≡ Some a → emitted_in l k ≡ Some e → IsQueryOf l.schema e.query
 
 -- so it is for variables, of whose accumulators the first has the number k
-abbrev pub AreValidFrom : Looped → ℕ → Names → Type 0
+abbrev pub AreValidFrom : LoopWithCandidate → ℕ → Names → Type 0
 AreValidFrom l k [] = Unit {0}
 AreValidFrom l k (x ∷ xs) = IsValidAt l k × AreValidFrom l (suc k) xs
