@@ -1,2 +1,3 @@
 pub mod Reading
 mod Sending
+pub mod Naming

@@ -1,6 +1,6 @@
 -- Files that are only read, one name after the other.
-use Rattle.std.proofs.Common.{◌≡◌, ◌≤◌, ℕ, List, [], ◌∷◌, ◌++◌, refl, ap, ◌∙◌, arith}
-use Rattle.deliveries.specs.Reads.{Looks, AreReadBy, none, next, OnlyReads}
+use Rattle.std.proofs.Common.{◌≡◌, ◌≤◌, ℕ, List, [], ◌∷◌, refl, ap, ◌∙◌, arith}
+use Rattle.deliveries.specs.Reads.{Looks, none, next, OnlyReads}
 
 pub reads_none : {D : Type 0} (l : Looks D) (all : List (List ℕ)) (files : D) → OnlyReads l all files files
 reads_none l all files = record { names = []; others = all; front = refl; read = none; held = refl; later = omega arith; fewer = λ name h. h }

@@ -1,5 +1,5 @@
 -- A piece that isn't empty is sent by one write.
-use Rattle.std.proofs.Common.{◌≡◌, List, [], ◌∷◌, ◌++◌, ℕ, Option, Some, None, length, refl, sym, append-nil, arith}
+use Rattle.std.proofs.Common.{◌≡◌, List, [], ◌∷◌, ℕ, Option, Some, None, length, refl, sym, append-nil, arith}
 use Rattle.std.specs.Io.KnownBytes.{Appends}
 use Rattle.deliveries.specs.Deliver.{Change, IsSent, FailsToSend}
 

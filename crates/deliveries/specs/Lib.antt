@@ -6,3 +6,4 @@ pub mod Memory
 pub mod Found
 pub mod Reads
 pub mod Limits
+pub mod Named

@@ -28,3 +28,7 @@ most_store = 16777216
 -- 16 MiB
 abbrev pub most_dump : ℕ
 most_dump = 16777216
+
+-- all files of entities together, 32 MiB
+abbrev pub most_entities : ℕ
+most_entities = 33554432

@@ -1,6 +1,5 @@
 // Writing what is due.
-ghost use Rattle.std.specs.Prelude.{◌≡◌, ◌≤◌};
-ghost use Rattle.files_sinks.specs.Outside.{Rose};
+ghost use Rattle.std.specs.Prelude.{◌≡◌};
 ghost use Rattle.deliveries.specs.Deliver.{Delivers, IsSent, FailsToSend, change};
 ghost use Rattle.deliveries.specs.declared.plan.Plan.{Plan};
 

@@ -1,6 +1,5 @@
 // Reading a file, or what is due where it can't be read.
-ghost use Rattle.std.specs.Prelude.{◌≡◌, ◌<◌, ◌≤◌, ◌-◌, MatchResult, IfSome, codes, length, ℕ, List};
-ghost use Rattle.files_sinks.specs.Outside.{Rose};
+ghost use Rattle.std.specs.Prelude.{◌≡◌, ◌<◌, ◌≤◌, ◌-◌, codes, length, ℕ, List};
 ghost use Rattle.deliveries.specs.declared.fetch.Stop.TheVariants.{Memory};
 ghost use Rattle.deliveries.specs.Code.{Goes, StopsFor};
 ghost use Rattle.deliveries.specs.Limits.{most_schema, most_source};
@@ -29,6 +28,9 @@ pub const MOST_STORE: u64 = 16777216;
 
 /// The most bytes of all tables together.
 pub const MOST_TABLES: u64 = 33554432;
+
+/// The most bytes of all files of entities together.
+pub const MOST_ENTITIES: u64 = 33554432;
 
 /// What ends a command before its work is done.
 #[derive(Drop)]

@@ -6,6 +6,7 @@ pub mod deliver;
 pub mod fetch;
 pub mod found;
 mod memory;
+pub mod named;
 mod plan;
 
 pub use memory::refuse_for_memory;
