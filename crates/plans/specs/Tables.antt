@@ -1,5 +1,5 @@
 -- The tables of a schema, as files of a folder.
-use Rattle.std.specs.Prelude.{◌≡◌, ℕ, suc, ◌<◌, ◌-◌, ◌^◌, ◌⊎◌, List, [], ◌∷◌, ◌++◌, length, codes, IfSome, Result, Ok, Err, ⊤, slice_get}
+use Rattle.std.specs.Prelude.{◌≡◌, ℕ, suc, ◌<◌, ◌^◌, List, [], ◌∷◌, ◌++◌, length, codes, IfSome, Result, Ok, Err, ⊤, slice_get}
 use Rattle.std.specs.List.{AllByRecursion}
 use Rattle.std.specs.declared.option.Option.{Option}
 use Rattle.std.specs.declared.option.Option.TheVariants.{Some, None}
@@ -17,8 +17,9 @@ use Rattle.deliveries.specs.declared.plan.Plan.{Plan}
 use Rattle.deliveries.specs.declared.fetch.Stop.{Stop}
 use Rattle.plans.specs.Lines.{data_text}
 use Rattle.plans.specs.Opening.{has_schema}
+use Rattle.deliveries.specs.Named.{AreFilesRead, AreFilesUnread, IsNamed, ReadsFiles}
 use Rattle.deliveries.specs.Plan.{Given, refusal}
-use Rattle.deliveries.specs.Steps.{Ends, step, refused, finds, IsRead, IsNotRead}
+use Rattle.deliveries.specs.Steps.{Ends, step, refused, finds}
 
 -- the file of a table in a folder
 abbrev pub table_file : List ℕ → List ℕ → List ℕ
@@ -31,17 +32,11 @@ table_files folder (table ∷ tables) = table_file folder table.name ∷ table_f
 
 -- each text is that of its table's file, in order and all within a limit
 abbrev pub AreRead : Given → List ℕ → List Table → ℕ → List (List ℕ) → Type 0
-AreRead files folder [] left [] = Unit {0}
-AreRead files folder (table ∷ tables) left (text ∷ texts) =
-    IsRead files (table_file folder table.name) left text × AreRead files folder tables (left - length text) texts
-AreRead files folder _ left _ = ⊥
+AreRead files folder tables left texts = AreFilesRead files (table_files folder tables) left texts
 
 -- the first file that isn't read, behind those before it
 abbrev pub AreNotRead : Given → List ℕ → List Table → ℕ → Ends
-AreNotRead files folder [] left plan = ⊥
-AreNotRead files folder (table ∷ tables) left plan =
-    IsNotRead files (table_file folder table.name) left (codes "tables") plan
-    ⊎ ((text : List ℕ) × IsRead files (table_file folder table.name) left text × AreNotRead files folder tables (left - length text) plan)
+AreNotRead files folder tables left plan = AreFilesUnread files (table_files folder tables) left (codes "tables") plan
 
 -- the files of all tables are read in order
 abbrev pub reads_tables : Given → List ℕ → List Table → (List (List ℕ) → Ends) → Ends
@@ -72,8 +67,7 @@ loaded schema texts = loaded_from schema 0 schema texts
 
 -- a file is one of the tables' files
 abbrev pub IsFileOf : List ℕ → List Table → List ℕ → Type 0
-IsFileOf folder [] name = ⊥
-IsFileOf folder (table ∷ tables) name = (name ≡ table_file folder table.name) ⊎ IsFileOf folder tables name
+IsFileOf folder tables name = IsNamed (table_files folder tables) name
 
 -- a file is that of a table of the schema
 pub record IsTableFile (told : List ℕ → Option (List ℕ)) (schema folder name : List ℕ) : Type 0 where
@@ -100,9 +94,7 @@ has_rows tables texts next = finds (HasRows tables texts) (LacksRows tables text
 
 -- texts were put behind those that were there, or what is due without them
 abbrev pub Reads : {A : Type 0} → Given → List ℕ → List Table → ℕ → List (List ℕ) → List (List ℕ) → Result A Stop → Type 0
-Reads files folder tables left old new (Ok done) = (more : List (List ℕ)) × (new ≡ old ++ more) × AreRead files folder tables left more
-Reads files folder tables left old new (Err (Stop.Due plan)) = AreNotRead files folder tables left plan
-Reads files folder tables left old new (Err Stop.Memory) = ⊤
+Reads files folder tables left old new result = ReadsFiles files (table_files folder tables) left (codes "tables") old new result
 
 -- with these rows more in the table with that number
 abbrev pub with_rows_at : Database → ℕ → List Row → Database

@@ -1,8 +1,7 @@
 // The words of a run as arguments of a method.
-ghost use Rattle.std.specs.Prelude.{◌≡◌, ◌<◌, IfSome, IfOk, option_map, length, map, position, slice_get};
+ghost use Rattle.std.specs.Prelude.{◌≡◌, ◌<◌, IfSome, length, map, position};
 ghost use Rattle.java_ast.specs.Reading.{spelled, param as plain_param, method as plain_method};
-ghost use Rattle.java_mean.specs.Types.{AreArguments};
-ghost use Rattle.plans.specs.Calls.{param_type as type_of_param, argument_of, fields_of, method_named, method_at};
+ghost use Rattle.plans.specs.Calls.{param_type as type_of_param, method_named, method_at};
 ghost use Rattle.plans.specs.Words.{Takes, TakesAll, ReadsArguments};
 ghost use Rattle.std.specs.Str.{bytes_eq};
 

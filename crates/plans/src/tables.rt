@@ -1,14 +1,15 @@
 // The tables of a schema, from files of a folder.
-ghost use Rattle.std.specs.Prelude.{◌≡◌, ◌<◌, ◌≤◌, ◌++◌, ◌∷◌, [], length, IfOk, OnOk, IfErr, slice_get, string_bytes};
+ghost use Rattle.std.specs.Prelude.{◌≡◌, ◌<◌, ◌≤◌, length, IfOk, OnOk, string_bytes};
 ghost use Rattle.qbs_base.specs.Values.{IsDatabaseOf};
 ghost use Rattle.deliveries.specs.Plan.{given};
 ghost use Rattle.deliveries.specs.Reads.{looks, OnlyReads};
 ghost use Rattle.plans.specs.Tables.{table_file as file_of, table_files, IsFresh, Reads, Loads, LoadsNext, with_rows_at};
 
 use crate::lines::data_refused;
-use deliveries::fetch::{Stop, fetch, left_behind};
+use deliveries::fetch::Stop;
+use deliveries::named::fetch_named;
 use files_sinks::Files;
-use qbs_base::{Bytes, Db, Fail, Items, NoMemory, Rows, Table, Text};
+use qbs_base::{Bytes, Db, Fail, Items, NoMemory, Rows, Table, Text, Texts};
 use schema::Schema;
 use schema_text::load_table;
 use std::alloc::{AllocError, Global};
@@ -32,8 +33,19 @@ fn table_file(alloc: Global, folder: &Text, table: &Table) -> Result<Text, NoMem
     Ok(Text::from_string(file_text(alloc, folder, table)?))
 }
 
+// The files of tables in a folder, in their order.
+fn file_names(alloc: Global, folder: &Text, tables: &[Table]) -> Result<Texts, NoMemory>
+    ensures { IfOk result (λ names. names ≡ table_files folder.now tables.now) }
+{
+    let mut names = Texts::new(alloc);
+    for table in tables {
+        names.push(table_file(alloc, folder, table)?)?;
+    }
+    Ok(names)
+}
+
 /// Reads the files of tables in order, behind the texts that are there. All together have `left` bytes at
-/// most. A schema has 64 tables at most, and so many calls are open at once.
+/// most.
 pub fn fetch_tables<F: Files>(
     tables: &[Table],
     alloc: Global,
@@ -47,16 +59,8 @@ pub fn fetch_tables<F: Files>(
     ensures only { OnlyReads (looks F.told F.faults F.may_fail F.by_read) (table_files folder.now tables.now) files.old files.new }
     ensures read { Reads (given F.told F.faults F.may_fail files.old files.new) folder.now tables.now left texts.old texts.new result }
 {
-    match tables {
-        [] => Ok(()),
-        [table, rest @ ..] => {
-            let name = table_file(alloc, folder, table)?;
-            let text = fetch(alloc, files, &name, left, "tables")?;
-            let left = left_behind(left, &text);
-            texts.push(text)?;
-            fetch_tables(rest, alloc, files, folder, left, texts)
-        }
-    }
+    let names = file_names(alloc, folder, tables)?;
+    fetch_named(alloc, files, names.as_slice(), left, "tables", texts)
 }
 
 // Puts rows into the table with that number.
