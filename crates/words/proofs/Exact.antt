@@ -8,14 +8,14 @@ use Rattle.word_values.specs.Values.{behind, number_within}
 use Rattle.words.specs.declared.command.Command.{Command}
 use Rattle.words.specs.declared.command.Command.TheVariants as commands
 use Rattle.words.specs.declared.command.Key.{Key}
-use Rattle.words.specs.declared.command.Key.TheVariants.{Size, Candidates, Turns, Rewritten, Store, View, Tables, Columns, Check}
+use Rattle.words.specs.declared.command.Key.TheVariants.{Size, Candidates, Turns, Rewritten, Store, View, Tables, Columns, Check, Schema}
 use Rattle.words.specs.declared.command.Options.{Options}
 use Rattle.words.specs.declared.command.Verb.{Verb}
 use Rattle.words.specs.declared.command.Verb.TheVariants as verbs
 use Rattle.words.specs.Options.{name_of, word_of, has_value, takes, unset}
 use Rattle.words.specs.Plain.{Spells, flag, next, same, Sets, HasOptions, none, more, all_bare, begins_with_dash, HasOthers, bare, dashed, Names, HasWords, plainly}
 use Rattle.words.specs.Plain as has
-use Rattle.words.specs.Reading.{verb_of, Spelled, Flag, Next, Same, Other, value_or, spelled, set_number, set_text, set_flag, set, set_for, with, options_of, value_then, seen, others_of, made, two_names, three_names, run_names, make_names, schema_names, entity_names, map_names, command_of, plain, ReadsPlainWords}
+use Rattle.words.specs.Reading.{verb_of, Spelled, Flag, Next, Same, Other, value_or, spelled, set_number, set_text, set_flag, set, set_for, with, options_of, value_then, seen, others_of, made, two_names, three_names, run_names, make_names, schema_names, checked_names, map_names, command_of, plain, ReadsPlainWords}
 use Rattle.word_values.proofs.Numbers.{bytes_equal, IsWithin, number_within_decimal, number_within_is}
 use Rattle.word_values.proofs.Spelt.{behind_is}
 
@@ -47,6 +47,7 @@ speaks : (w : List ℕ) → Speaks w (spelled w)
 speaks w =
     chosen (Speaks w) (bytes_eq w (codes "--rewritten")) (Flag Rewritten) _ (λ e. (refl, bytes_equal w (codes "--rewritten") e))
     (chosen (Speaks w) (bytes_eq w (codes "--check")) (Flag Check) _ (λ e. (refl, bytes_equal w (codes "--check") e))
+    (chosen (Speaks w) (bytes_eq w (codes "--schema")) (Flag Schema) _ (λ e. (refl, bytes_equal w (codes "--schema") e))
     (chosen (Speaks w) (bytes_eq w (codes "--size")) (Next Size) _ (λ e. (refl, bytes_equal w (codes "--size") e))
     (chosen (Speaks w) (bytes_eq w (codes "--candidates")) (Next Candidates) _ (λ e. (refl, bytes_equal w (codes "--candidates") e))
     (chosen (Speaks w) (bytes_eq w (codes "--turns")) (Next Turns) _ (λ e. (refl, bytes_equal w (codes "--turns") e))
@@ -60,7 +61,7 @@ speaks w =
     (valued w Store (behind (codes "--store=") w) _ refl (λ v. behind_is (codes "--store=") w v)
     (valued w View (behind (codes "--view=") w) _ refl (λ v. behind_is (codes "--view=") w v)
     (valued w Tables (behind (codes "--tables=") w) _ refl (λ v. behind_is (codes "--tables=") w v)
-    (valued w Columns (behind (codes "--columns=") w) Other refl (λ v. behind_is (codes "--columns=") w v) tt)))))))))))))))
+    (valued w Columns (behind (codes "--columns=") w) Other refl (λ v. behind_is (codes "--columns=") w v) tt))))))))))))))))
 
 spelled_next : (k : Key) → has_value k ≡ true → spelled (word_of k) ≡ Next k
 spelled_next Size h = refl
@@ -72,6 +73,7 @@ spelled_next View h = refl
 spelled_next Tables h = refl
 spelled_next Columns h = refl
 spelled_next Check h = absurd cc
+spelled_next Schema h = absurd cc
 
 spelled_flag : (k : Key) → has_value k ≡ false → spelled (word_of k) ≡ Flag k
 spelled_flag Size h = absurd cc
@@ -83,6 +85,7 @@ spelled_flag View h = absurd cc
 spelled_flag Tables h = absurd cc
 spelled_flag Columns h = absurd cc
 spelled_flag Check h = refl
+spelled_flag Schema h = refl
 
 spelled_same : (k : Key) (v : List ℕ) → has_value k ≡ true → spelled (word_of k ++ (61 ∷ v)) ≡ Same k v
 spelled_same Size v h = refl
@@ -94,6 +97,7 @@ spelled_same View v h = refl
 spelled_same Tables v h = refl
 spelled_same Columns v h = refl
 spelled_same Check v h = absurd cc
+spelled_same Schema v h = absurd cc
 
 -- a word that doesn't begin with `-` spells no option
 spelled_bare : (w : List ℕ) → begins_with_dash w ≡ false → spelled w ≡ Other
@@ -135,6 +139,7 @@ set_is View v o p e = sets_text View o.view v (record o { view = Some v }) o p (
 set_is Tables v o p e = sets_text Tables o.tables v (record o { tables = Some v }) o p (λ a. has.tables a) e
 set_is Columns v o p e = sets_text Columns o.columns v (record o { columns = Some v }) o p (λ a. has.columns a) e
 set_is Check v o p e = sets_flag Check o.check v (record o { check = true }) o p (λ a. has.check a) e
+set_is Schema v o p e = sets_flag Schema o.schema v (record o { schema = true }) o p (λ a. has.schema a) e
 
 pub set_all : (k : Key) (v : List ℕ) (o p : Options) → Sets k v o p → set k v o ≡ Some p
 set_all k v o p (has.size {n} {o = q} a h) = rw (a, number_within_decimal 0 8 n (lit< tt) (omega arith) h) refl
@@ -146,6 +151,7 @@ set_all k v o p (has.view {v = w} {o = q} a) = rw a refl
 set_all k v o p (has.tables {v = w} {o = q} a) = rw a refl
 set_all k v o p (has.columns {v = w} {o = q} a) = rw a refl
 set_all k v o p (has.check {o = q} a) = rw a refl
+set_all k v o p (has.schema {o = q} a) = rw a refl
 
 -- a command's word
 abbrev IsNamed : List ℕ → Option Verb → Type 0
@@ -399,10 +405,20 @@ at_schema o [] c e = absurd cc
 at_schema o (d ∷ []) c e = let is : commands.Schema o d ≡ c = cc in subst (λ x. Names verbs.Schema o (d ∷ []) x) is has.schema
 at_schema o (d ∷ u ∷ us) c e = absurd cc
 
-at_map : (o : Options) (b : Bool) → o.check ≡ b → (names : List (List ℕ)) (c : Command) → map_names b names ≡ Some c → Names verbs.Map o names c
-at_map o true h names c e = at_two verbs.Map o names commands.CheckMap c (λ m s. has.check_map h) e
-at_map o false h [] c e = absurd cc
-at_map o false h (n ∷ ns) c e = let is : commands.Map (n ∷ ns) ≡ c = cc in subst (λ x. Names verbs.Map o (n ∷ ns) x) is (has.map h)
+at_checked : (o : Options) → o.check ≡ true → o.schema ≡ false → (names : List (List ℕ)) (c : Command) → checked_names names ≡ Some c → Names verbs.Map o names c
+at_checked o h f [] c e = absurd cc
+at_checked o h f (m ∷ []) c e = absurd cc
+at_checked o h f (m ∷ s ∷ []) c e = let is : commands.CheckMap m s None ≡ c = cc in subst (λ x. Names verbs.Map o (m ∷ s ∷ []) x) is (has.check_map h f)
+at_checked o h f (m ∷ s ∷ p ∷ []) c e = let is : commands.CheckMap m s (Some p) ≡ c = cc in subst (λ x. Names verbs.Map o (m ∷ s ∷ p ∷ []) x) is (has.check_map_in h f)
+at_checked o h f (m ∷ s ∷ p ∷ q ∷ qs) c e = absurd cc
+
+at_map : (o : Options) (check schema : Bool) → o.check ≡ check → o.schema ≡ schema → (names : List (List ℕ)) (c : Command) → map_names check schema names ≡ Some c → Names verbs.Map o names c
+at_map o false false h f [] c e = absurd cc
+at_map o false false h f (n ∷ ns) c e = let is : commands.Map (n ∷ ns) ≡ c = cc in subst (λ x. Names verbs.Map o (n ∷ ns) x) is (has.map h f)
+at_map o false true h f [] c e = absurd cc
+at_map o false true h f (n ∷ ns) c e = let is : commands.MapSchema (n ∷ ns) ≡ c = cc in subst (λ x. Names verbs.Map o (n ∷ ns) x) is (has.map_schema h f)
+at_map o true false h f names c e = at_checked o h f names c e
+at_map o true true h f names c e = absurd cc
 
 names_is : (verb : Verb) (o : Options) (names : List (List ℕ)) (c : Command) → command_of verb o names ≡ Some c → Names verb o names c
 names_is verbs.Rewrite o names c e = at_two verbs.Rewrite o names (commands.Rewrite o) c (λ s p. has.rewrite) e
@@ -417,7 +433,7 @@ names_is verbs.Inline o names c e = at_two verbs.Inline o names commands.Inline 
 names_is verbs.Gather o names c e = at_two verbs.Gather o names (commands.Gather o) c (λ s p. has.gather) e
 names_is verbs.Schema o names c e = at_schema o names c e
 names_is verbs.View o names c e = at_three verbs.View o names commands.View c (λ m s p. has.view) e
-names_is verbs.Map o names c e = at_map o o.check refl names c e
+names_is verbs.Map o names c e = at_map o o.check o.schema refl refl names c e
 
 names_all : (verb : Verb) (o : Options) (names : List (List ℕ)) (c : Command) → Names verb o names c → command_of verb o names ≡ Some c
 names_all verb o names c has.rewrite = refl
@@ -432,8 +448,10 @@ names_all verb o names c has.inline = refl
 names_all verb o names c has.gather = refl
 names_all verb o names c has.schema = refl
 names_all verb o names c has.view = refl
-names_all verb o names c (has.map h) = rw h refl
-names_all verb o names c (has.check_map h) = rw h refl
+names_all verb o names c (has.map h f) = rw (h, f) refl
+names_all verb o names c (has.map_schema h f) = rw (h, f) refl
+names_all verb o names c (has.check_map h f) = rw (h, f) refl
+names_all verb o names c (has.check_map_in h f) = rw (h, f) refl
 
 -- the whole
 plain_is : (ws : List (List ℕ)) (c : Command) → plain ws ≡ Some c → HasWords ws c

@@ -1,7 +1,7 @@
 -- Commands and options by their words.
 use Rattle.std.specs.Prelude.{ℕ, List, Bool, true, false, codes}
 use Rattle.words.specs.declared.command.Key.{Key}
-use Rattle.words.specs.declared.command.Key.TheVariants.{Size, Candidates, Turns, Rewritten, Store, View, Tables, Columns, Check}
+use Rattle.words.specs.declared.command.Key.TheVariants.{Size, Candidates, Turns, Rewritten, Store, View, Tables, Columns, Check, Schema}
 use Rattle.words.specs.declared.command.Options.{Options}
 use Rattle.words.specs.declared.command.Verb.{Verb}
 use Rattle.words.specs.declared.command.Verb.TheVariants as verbs
@@ -34,10 +34,12 @@ word_of View = codes "--view"
 word_of Tables = codes "--tables"
 word_of Columns = codes "--columns"
 word_of Check = codes "--check"
+word_of Schema = codes "--schema"
 
 abbrev pub has_value : Key → Bool
 has_value Rewritten = false
 has_value Check = false
+has_value Schema = false
 has_value _ = true
 
 -- the options of a search
@@ -69,9 +71,11 @@ chooses Tables = true
 chooses Columns = true
 chooses _ = false
 
-abbrev pub checks : Key → Bool
-checks Check = true
-checks _ = false
+-- what is made of entities, and whether a map is checked
+abbrev pub maps : Key → Bool
+maps Check = true
+maps Schema = true
+maps _ = false
 
 -- which options a command takes
 abbrev pub takes : Verb → Key → Bool
@@ -87,8 +91,8 @@ takes verbs.Inline key = false
 takes verbs.Gather key = searches key
 takes verbs.Schema key = chooses key
 takes verbs.View key = false
-takes verbs.Map key = checks key
+takes verbs.Map key = maps key
 
 -- no option is set
 abbrev pub unset : Options
-unset = record { size = None; candidates = None; turns = None; rewritten = false; store = None; view = None; tables = None; columns = None; check = false }
+unset = record { size = None; candidates = None; turns = None; rewritten = false; store = None; view = None; tables = None; columns = None; check = false; schema = false }

@@ -5,7 +5,7 @@ use Rattle.std.specs.declared.option.Option.TheVariants.{Some, None}
 use Rattle.words.specs.declared.command.Command.{Command}
 use Rattle.words.specs.declared.command.Command.TheVariants as commands
 use Rattle.words.specs.declared.command.Key.{Key}
-use Rattle.words.specs.declared.command.Key.TheVariants.{Size, Candidates, Turns, Rewritten, Store, View, Tables, Columns, Check}
+use Rattle.words.specs.declared.command.Key.TheVariants.{Size, Candidates, Turns, Rewritten, Store, View, Tables, Columns, Check, Schema}
 use Rattle.words.specs.declared.command.Options.{Options}
 use Rattle.words.specs.declared.command.Verb.{Verb}
 use Rattle.words.specs.declared.command.Verb.TheVariants as verbs
@@ -28,6 +28,7 @@ pub data Sets : Key → List ℕ → Options → Options → Type 0 where
   tables : {v : List ℕ} {o : Options} → o.tables ≡ None → Sets Tables v o (record o { tables = Some v })
   columns : {v : List ℕ} {o : Options} → o.columns ≡ None → Sets Columns v o (record o { columns = Some v })
   check : {o : Options} → o.check ≡ false → Sets Check [] o (record o { check = true })
+  schema : {o : Options} → o.schema ≡ false → Sets Schema [] o (record o { schema = true })
 
 -- the options of a command, one after the other
 pub data HasOptions (verb : Verb) : List (List ℕ) → Options → Options → Type 0 where
@@ -48,7 +49,8 @@ pub data HasOthers : List (List ℕ) → List (List ℕ) → Type 0 where
   bare : {ws : List (List ℕ)} → all_bare ws ≡ true → HasOthers ws ws
   dashed : {ws : List (List ℕ)} → HasOthers (codes "--" ∷ ws) ws
 
--- What a command takes besides its options. A map is made of one file of entities at least; it is checked where the flag is set.
+-- What a command takes besides its options. A map or a schema is made of one file of entities at least; a map is checked where that flag is set,
+-- with a source or without one.
 pub data Names : Verb → Options → List (List ℕ) → Command → Type 0 where
   rewrite : {o : Options} {s p : List ℕ} → Names verbs.Rewrite o (s ∷ p ∷ []) (commands.Rewrite o s p)
   prove : {o : Options} {s p : List ℕ} → Names verbs.Prove o (s ∷ p ∷ []) (commands.Prove o s p)
@@ -62,8 +64,10 @@ pub data Names : Verb → Options → List (List ℕ) → Command → Type 0 whe
   gather : {o : Options} {s p : List ℕ} → Names verbs.Gather o (s ∷ p ∷ []) (commands.Gather o s p)
   schema : {o : Options} {d : List ℕ} → Names verbs.Schema o (d ∷ []) (commands.Schema o d)
   view : {o : Options} {m s p : List ℕ} → Names verbs.View o (m ∷ s ∷ p ∷ []) (commands.View m s p)
-  map : {o : Options} {e : List ℕ} {es : List (List ℕ)} → o.check ≡ false → Names verbs.Map o (e ∷ es) (commands.Map (e ∷ es))
-  check_map : {o : Options} {m s : List ℕ} → o.check ≡ true → Names verbs.Map o (m ∷ s ∷ []) (commands.CheckMap m s)
+  map : {o : Options} {e : List ℕ} {es : List (List ℕ)} → o.check ≡ false → o.schema ≡ false → Names verbs.Map o (e ∷ es) (commands.Map (e ∷ es))
+  map_schema : {o : Options} {e : List ℕ} {es : List (List ℕ)} → o.check ≡ false → o.schema ≡ true → Names verbs.Map o (e ∷ es) (commands.MapSchema (e ∷ es))
+  check_map : {o : Options} {m s : List ℕ} → o.check ≡ true → o.schema ≡ false → Names verbs.Map o (m ∷ s ∷ []) (commands.CheckMap m s None)
+  check_map_in : {o : Options} {m s p : List ℕ} → o.check ≡ true → o.schema ≡ false → Names verbs.Map o (m ∷ s ∷ p ∷ []) (commands.CheckMap m s (Some p))
 
 -- the plain words of a command
 pub data HasWords : List (List ℕ) → Command → Type 0 where

@@ -8,7 +8,7 @@ use Rattle.word_values.specs.Values.{behind, number_within}
 use Rattle.words.specs.declared.command.Command.{Command}
 use Rattle.words.specs.declared.command.Command.TheVariants as commands
 use Rattle.words.specs.declared.command.Key.{Key}
-use Rattle.words.specs.declared.command.Key.TheVariants.{Size, Candidates, Turns, Rewritten, Store, View, Tables, Columns, Check}
+use Rattle.words.specs.declared.command.Key.TheVariants.{Size, Candidates, Turns, Rewritten, Store, View, Tables, Columns, Check, Schema}
 use Rattle.words.specs.declared.command.Options.{Options}
 use Rattle.words.specs.declared.command.Verb.{Verb}
 use Rattle.words.specs.declared.command.Verb.TheVariants as verbs
@@ -61,6 +61,7 @@ abbrev pub spelled : List ℕ → Spelled
 spelled w =
     if bytes_eq w (codes "--rewritten") then Flag Rewritten
     else (if bytes_eq w (codes "--check") then Flag Check
+    else (if bytes_eq w (codes "--schema") then Flag Schema
     else (if bytes_eq w (codes "--size") then Next Size
     else (if bytes_eq w (codes "--candidates") then Next Candidates
     else (if bytes_eq w (codes "--turns") then Next Turns
@@ -68,7 +69,7 @@ spelled w =
     else (if bytes_eq w (codes "--view") then Next View
     else (if bytes_eq w (codes "--tables") then Next Tables
     else (if bytes_eq w (codes "--columns") then Next Columns
-    else spelled_within w))))))))
+    else spelled_within w)))))))))
 
 -- what the code's spelling is
 abbrev pub spelling : Spelling → Spelled
@@ -103,6 +104,7 @@ set View v o = set_text o.view (record o { view = Some v })
 set Tables v o = set_text o.tables (record o { tables = Some v })
 set Columns v o = set_text o.columns (record o { columns = Some v })
 set Check v o = set_flag o.check v (record o { check = true })
+set Schema v o = set_flag o.schema v (record o { schema = true })
 
 abbrev pub set_for : Verb → Key → List ℕ → Options → Option Options
 set_for verb k v o = if takes verb k then set k v o else None
@@ -167,9 +169,21 @@ abbrev pub entity_names : List (List ℕ) → Option Command
 entity_names (e ∷ es) = Some (commands.Map (e ∷ es))
 entity_names [] = None
 
-abbrev pub map_names : Bool → List (List ℕ) → Option Command
-map_names true names = two_names names commands.CheckMap
-map_names false names = entity_names names
+abbrev pub schema_entity_names : List (List ℕ) → Option Command
+schema_entity_names (e ∷ es) = Some (commands.MapSchema (e ∷ es))
+schema_entity_names [] = None
+
+abbrev pub checked_names : List (List ℕ) → Option Command
+checked_names (m ∷ s ∷ []) = Some (commands.CheckMap m s None)
+checked_names (m ∷ s ∷ p ∷ []) = Some (commands.CheckMap m s (Some p))
+checked_names _ = None
+
+-- whether it is checked, and whether a schema is made
+abbrev pub map_names : Bool → Bool → List (List ℕ) → Option Command
+map_names false false names = entity_names names
+map_names false true names = schema_entity_names names
+map_names true false names = checked_names names
+map_names true true names = None
 
 -- the command with its names
 abbrev pub command_of : Verb → Options → List (List ℕ) → Option Command
@@ -185,7 +199,7 @@ command_of verbs.Inline o names = two_names names commands.Inline
 command_of verbs.Gather o names = two_names names (commands.Gather o)
 command_of verbs.Schema o names = schema_names names o
 command_of verbs.View o names = three_names names commands.View
-command_of verbs.Map o names = map_names o.check names
+command_of verbs.Map o names = map_names o.check o.schema names
 
 -- the command of a verb with the words after it
 abbrev pub command_with : Verb → List (List ℕ) → Option Command

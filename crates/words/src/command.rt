@@ -40,6 +40,8 @@ pub enum Key {
     Columns,
     /// `--check`, which has no value.
     Check,
+    /// `--schema`, which has no value.
+    Schema,
 }
 
 /// What the options set. Each is set once at most.
@@ -54,6 +56,7 @@ pub struct Options {
     pub tables: Option<Text>,
     pub columns: Option<Text>,
     pub check: bool,
+    pub schema: bool,
 }
 
 /// A command and what it names. Texts are names of files and folders as they were given.
@@ -126,9 +129,15 @@ pub enum Command {
     Map {
         entities: Words,
     },
-    /// A Java file that compiles only where the map is true.
+    /// A schema of these files of entities, one at least.
+    MapSchema {
+        entities: Words,
+    },
+    /// A Java file that compiles only where the map is true: a class of its own, or the source with
+    /// the checks in its class.
     CheckMap {
         map: Text,
         schema: Text,
+        source: Option<Text>,
     },
 }

@@ -2,7 +2,7 @@
 ghost use Rattle.std.specs.Prelude.{◌≡◌, IfOk, MatchOption, Some, None, true};
 ghost use Rattle.words.specs.Options.{takes, unset};
 ghost use Rattle.words.specs.Plain.{all_bare, begins_with_dash};
-ghost use Rattle.words.specs.Reading.{plain, schema_in, spelled, spelled_within, spelling, verb_of, set, set_for, seen, with, value_then, options_of, others_of, command_of, command_with, entity_names, map_names, ReadsPlainWords};
+ghost use Rattle.words.specs.Reading.{plain, schema_in, spelled, spelled_within, spelling, verb_of, set, set_for, seen, with, value_then, options_of, others_of, command_of, command_with, entity_names, schema_entity_names, checked_names, ReadsPlainWords};
 
 use crate::{Command, Key, Options, Verb};
 use qbs_base::{Text, Words};
@@ -48,6 +48,9 @@ pub fn spelling_of(word: &str) -> Spelling<'_>
     }
     if word == "--check" {
         return Spelling::Flag(Key::Check);
+    }
+    if word == "--schema" {
+        return Spelling::Flag(Key::Schema);
     }
     if word == "--size" {
         return Spelling::Next(Key::Size);
@@ -116,7 +119,7 @@ pub fn takes(verb: Verb, key: Key) -> bool
         Verb::Unnest => matches!(key, Key::Size | Key::Candidates | Key::View),
         Verb::Gather => matches!(key, Key::Size | Key::Candidates),
         Verb::Schema => matches!(key, Key::Tables | Key::Columns),
-        Verb::Map => matches!(key, Key::Check),
+        Verb::Map => matches!(key, Key::Check | Key::Schema),
         Verb::Sql | Verb::Make | Verb::Inline | Verb::View => false,
     }
 }
@@ -140,6 +143,7 @@ fn set(
         Key::Tables => set_tables(alloc, value, options),
         Key::Columns => set_columns(alloc, value, options),
         Key::Check => Ok(set_check(value, options)),
+        Key::Schema => Ok(set_schema(value, options)),
     }
 }
 
@@ -271,6 +275,19 @@ fn set_check(value: &str, mut options: Options) -> Option<Options>
         return None;
     }
     options.check = true;
+    Some(options)
+}
+
+fn set_schema(value: &str, mut options: Options) -> Option<Options>
+    ensures { result ≡ set Key.Schema value.now options }
+{
+    if !value.is_empty() {
+        return None;
+    }
+    if options.schema {
+        return None;
+    }
+    options.schema = true;
     Some(options)
 }
 
@@ -561,25 +578,43 @@ fn entities_of(alloc: Global, names: &[Text]) -> Result<Option<Command>, AllocEr
     }))
 }
 
-fn checked_map_of(names: &[Text]) -> Result<Option<Command>, AllocError>
-    ensures { IfOk result (λ c. c ≡ map_names true names.now) }
+fn schema_entities_of(alloc: Global, names: &[Text]) -> Result<Option<Command>, AllocError>
+    ensures { IfOk result (λ c. c ≡ schema_entity_names names.now) }
 {
-    let [map, schema] = names else {
+    if names.is_empty() {
         return Ok(None);
-    };
-    Ok(Some(Command::CheckMap {
-        map: map.clone()?,
-        schema: schema.clone()?,
+    }
+    Ok(Some(Command::MapSchema {
+        entities: copies(alloc, names)?,
     }))
+}
+
+fn checked_map_of(names: &[Text]) -> Result<Option<Command>, AllocError>
+    ensures { IfOk result (λ c. c ≡ checked_names names.now) }
+{
+    match names {
+        [map, schema] => Ok(Some(Command::CheckMap {
+            map: map.clone()?,
+            schema: schema.clone()?,
+            source: None,
+        })),
+        [map, schema, source] => Ok(Some(Command::CheckMap {
+            map: map.clone()?,
+            schema: schema.clone()?,
+            source: Some(source.clone()?),
+        })),
+        _ => Ok(None),
+    }
 }
 
 fn map_of(alloc: Global, options: Options, names: &[Text]) -> Result<Option<Command>, AllocError>
     ensures { IfOk result (λ c. c ≡ command_of Verb.Map options names.now) }
 {
-    if options.check {
-        checked_map_of(names)
-    } else {
-        entities_of(alloc, names)
+    match (options.check, options.schema) {
+        (false, false) => entities_of(alloc, names),
+        (false, true) => schema_entities_of(alloc, names),
+        (true, false) => checked_map_of(names),
+        (true, true) => Ok(None),
     }
 }
 
@@ -623,6 +658,7 @@ fn unset() -> Options
         tables: None,
         columns: None,
         check: false,
+        schema: false,
     }
 }
 
