@@ -28,8 +28,13 @@ abbrev pub past_test_at : Within → List Sighted → Bool → NullTest → Bool
 past_test_at w s all t true i = past w (codes "null") i >>= λ j. past w (null_sign all) j >>= λ k. past_column w s t.class t.member k
 past_test_at w s all t false i = past_column w s t.class t.member i >>= λ j. past w (null_sign all) j >>= λ k. past w (codes "null") k
 
+-- parentheses change no value
+abbrev pub past_test_in : Within → List Sighted → Bool → NullTest → Bool → ℕ → Option ℕ
+past_test_in w s all t true i = past w (codes "(") i >>= λ j. past_test_at w s all t t.null_first j >>= λ k. past w (codes ")") k
+past_test_in w s all t false i = past_test_at w s all t t.null_first i
+
 abbrev pub past_test : Within → List Sighted → Bool → NullTest → ℕ → Option ℕ
-past_test w s all t i = here t.at i >>= λ h. past_test_at w s all t t.null_first h
+past_test w s all t i = here t.at i >>= λ h. past_test_in w s all t t.wrapped h
 
 -- a test with the operator behind it, and with the operator before it
 abbrev pub past_test_before : Within → List Sighted → Bool → NullTest → ℕ → Option ℕ

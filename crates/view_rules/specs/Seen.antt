@@ -81,6 +81,7 @@ abbrev mutual
   expression_of w s (plain.Fetch at number) i = fetch_at w number at i
   -- parentheses stay
   expression_of w s (plain.Group at inner close) i = opened w at i >>= λ j. expression_of w s inner j >>= λ e. closed w close e
+  -- the other truth value, of an operand that is unboxed
   expression_of w s (plain.Not at inner) i =
       past_sign w (codes "!") at i >>= λ j. expression_of w s inner j >>= λ e. negated (level_of inner) e
   -- the operators are Java's, over operands that are unboxed, and numbers stay within their types
@@ -104,6 +105,7 @@ abbrev mutual
       (if has_some tests then (expression_of w s kept i >>= λ e. past_tests_behind w s all tests e.0 >>= λ j. tested_behind all (level_of kept) e.1 j) else None)
   -- the list or set is the slice's own, and no one else holds it
   expression_of w s (plain.Size at) i = size_at w s at i
+  -- it is empty where its size is 0
   expression_of w s (plain.IsEmpty at) i = is_empty_at w s at i
   -- where the place isn't there both fault
   expression_of w s (plain.Get at place close) i =

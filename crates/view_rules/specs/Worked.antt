@@ -163,7 +163,7 @@ abbrev pub unlike : PlainExpression
 unlike = plain.Equals 0 false (column_of 0 2) 5 (plain.Variable 8) 9
 
 abbrev pub test : ℕ → Bool → NullTest
-test at null_first = record { at = at; null_first = null_first; class = 0; member = 1 }
+test at null_first = record { at = at; wrapped = false; null_first = null_first; class = 0; member = 1 }
 
 -- u.getLogin() != null && u.isEnabled()
 abbrev pub before_words : List (List ℕ)
@@ -178,6 +178,13 @@ behind_words = call (codes "isEnabled") (codes "||" ∷ codes "null" ∷ codes "
 
 abbrev pub behind : PlainExpression
 behind = plain.TestedBehind false (column_of 0 3) (test 6 true ∷ [])
+
+-- (u.getLogin() != null) && u.isEnabled()
+abbrev pub wrapped_words : List (List ℕ)
+wrapped_words = codes "(" ∷ call (codes "getLogin") (codes "!=" ∷ codes "null" ∷ codes ")" ∷ codes "&&" ∷ call (codes "isEnabled") [])
+
+abbrev pub wrapped : PlainExpression
+wrapped = plain.TestedBefore true (record { at = 0; wrapped = true; null_first = false; class = 0; member = 1 } ∷ []) (column_of 10 3)
 
 -- u.getLogin() != null
 abbrev pub alone_words : List (List ℕ)

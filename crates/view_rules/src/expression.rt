@@ -18,10 +18,12 @@ pub enum Operator {
     Times,
 }
 
-/// A test of a column for null, `r.m() != null` as a part of `&&` or `r.m() == null` as a part of `||`, from its first item on.
+/// A test of a column for null, `r.m() != null` as a part of `&&` or `r.m() == null` as a part of `||`, from its first item on, in parentheses
+/// where `wrapped`.
 #[derive(Clone, Copy)]
 pub struct NullTest {
     pub at: usize,
+    pub wrapped: bool,
     pub null_first: bool,
     pub class: u32,
     pub member: u32,

@@ -59,10 +59,29 @@ fn past_test_at(
     }
 }
 
+fn past_test_in(
+    w: &Within,
+    sight: &[Sighted],
+    all: bool,
+    t: &NullTest,
+    wrapped: bool,
+    i: usize,
+) -> Option<usize>
+    ensures { result ≡ specs.past_test_in (within_of w.now) sight.now all t.now wrapped i }
+{
+    if wrapped {
+        let j = past(w, b"(", i)?;
+        let k = past_test_at(w, sight, all, t, t.null_first, j)?;
+        past(w, b")", k)
+    } else {
+        past_test_at(w, sight, all, t, t.null_first, i)
+    }
+}
+
 fn past_test(w: &Within, sight: &[Sighted], all: bool, t: &NullTest, i: usize) -> Option<usize>
     ensures { result ≡ specs.past_test (within_of w.now) sight.now all t.now i }
 {
-    past_test_at(w, sight, all, t, t.null_first, here(t.at, i)?)
+    past_test_in(w, sight, all, t, t.wrapped, here(t.at, i)?)
 }
 
 fn past_test_before(

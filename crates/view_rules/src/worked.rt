@@ -19,11 +19,12 @@ pub fn boxed_numbers_are_no_values()
     ensures one { w.seen w.box_words w.box ≡ Some (7, truth) }
 {}
 
-/// A test for null falls away as a part of `&&` and of `||`, before and behind; alone it isn't seen.
+/// A test for null falls away as a part of `&&` and of `||`, before and behind, in parentheses too; alone it isn't seen.
 pub fn tests_for_null_fall_away()
     ensures before { w.seen w.before_words w.before ≡ Some (13, truth) }
     ensures left { w.tokens w.before_words w.before ≡ codes "u" ∷ codes "." ∷ codes "enabled" ∷ [] }
     ensures behind { w.seen w.behind_words w.behind ≡ Some (13, truth) }
+    ensures wrapped { w.seen w.wrapped_words w.wrapped ≡ Some (15, truth) }
     ensures alone { w.seen w.alone_words (plain.Binary ops.Other (w.column_of 0 1) 5 (plain.Variable 6)) ≡ None }
 {}
 
