@@ -1,5 +1,6 @@
 -- The worked methods and conditions, computed.
 use Rattle.std.proofs.Common.{refl, true, false, [], ◌∷◌, codes, Some, None}
+use Rattle.view_rules.specs.declared.java_type.JavaType.TheVariants as types
 use Rattle.view_items.specs.Opened.{closing}
 use Rattle.view_items.specs.Pieces.{number_len, piece_of}
 use Rattle.view_items.specs.Items.{items_from, items_of}
@@ -14,11 +15,11 @@ use Rattle.view_shapes.specs.Uses.{first_of_names, is_keyword_name, is_use}
 use Rattle.view_scope.specs.JavaTypes.{arguments_end, type_rest}
 use Rattle.view_scope.specs.Methods.{parameters_from, exceptions_end, outline_of, method_prefix_end}
 use Rattle.view_map.specs.Templates.{are_closed}
-use Rattle.view_scope.specs.Nulls.{operand_from, operand_to, out_of_parentheses, argument_to, bare}
+use Rattle.view_scope.specs.Nulls.{operand_from, operand_to, out_of_parentheses, argument_to, bare, gives_null, set_among}
 use Rattle.view_scope.specs.Obscured.{last_of_names, is_in_import, is_java_class, hides_last, hides_name, is_typed}
 use Rattle.view_scope.specs.Patterns.{front_in, is_loose}
 use Rattle.view_scope.specs.Constants.{field_prefix_end}
-use Rattle.view_scope.specs.Worked.{two_methods, tested_dao, HasMethods, HasConstants, Frees, Keeps, Tests, Guards, of_body, Sees, MeansTheSame, user_map, constant_map, BeginsWith, WorkedMembers, WorkedGuards, WorkedSight, WorkedFronts, Means, WorkedFetches, KeepsTemplate, WorkedTemplates, Clears, Unhidden, WorkedNames, Worked}
+use Rattle.view_scope.specs.Worked.{two_methods, tested_dao, HasMethods, HasConstants, Frees, Keeps, Tests, Guards, of_body, Sees, MeansTheSame, user_map, constant_map, BeginsWith, WorkedMembers, WorkedGuards, WorkedSight, WorkedFronts, Means, WorkedFetches, KeepsTemplate, WorkedTemplates, Clears, Unhidden, WorkedNames, KnowsRows, user_variable, WorkedRows, Worked}
 
 members_methods : HasMethods two_methods (codes "f" ∷ codes "a" ∷ codes "g" ∷ [])
 unfolding closing number_len piece_of items_from items_of closed_from closings_of rounds_from rounds_of found_in class_of member_end_in members_in numbers is_set_within first_of_names is_use is_shallow_at arguments_end type_rest dotted_end prefix_end parameters_from exceptions_end outline_of method_prefix_end field_prefix_end is_typed
@@ -69,103 +70,163 @@ members : WorkedMembers
 members = record { methods = members_methods; of_list = members_of_list; no_constants = members_no_constants; any_number = members_any_number; constant = members_constant; declared_anew = members_declared_anew; compared = members_compared; of_parameter = members_of_parameter; by_setter = members_by_setter; by_another = members_by_another; by_setter_that_does_more = members_by_setter_that_does_more }
 
 guards_tested : Tests tested_dao 0 (codes "roleId") true
-unfolding closing number_len piece_of items_from items_of closed_from closings_of rounds_from rounds_of found_in class_of member_end_in members_in modifiers_end form_of try_end end_within try_blocks case_blocks blocks_within statements_in blocks_under numbers is_set_within is_shallow_at arguments_end type_rest dotted_end prefix_end parameters_from exceptions_end outline_of method_prefix_end operand_from operand_to out_of_parentheses argument_to bare
+unfolding closing number_len piece_of items_from items_of closed_from closings_of rounds_from rounds_of found_in class_of member_end_in members_in modifiers_end form_of try_end end_within try_blocks case_blocks blocks_within statements_in blocks_under numbers is_set_within is_shallow_at arguments_end type_rest dotted_end prefix_end parameters_from exceptions_end outline_of method_prefix_end operand_from operand_to out_of_parentheses argument_to bare gives_null set_among
 guards_tested = refl
 
 guards_other : Tests tested_dao 0 (codes "login") false
-unfolding closing number_len piece_of items_from items_of closed_from closings_of rounds_from rounds_of found_in class_of member_end_in members_in modifiers_end form_of try_end end_within try_blocks case_blocks blocks_within statements_in blocks_under numbers is_set_within is_shallow_at arguments_end type_rest dotted_end prefix_end parameters_from exceptions_end outline_of method_prefix_end operand_from operand_to out_of_parentheses argument_to bare
+unfolding closing number_len piece_of items_from items_of closed_from closings_of rounds_from rounds_of found_in class_of member_end_in members_in modifiers_end form_of try_end end_within try_blocks case_blocks blocks_within statements_in blocks_under numbers is_set_within is_shallow_at arguments_end type_rest dotted_end prefix_end parameters_from exceptions_end outline_of method_prefix_end operand_from operand_to out_of_parentheses argument_to bare gives_null set_among
 guards_other = refl
 
 guards_guarded : Guards tested_dao 0 (codes "go") true
-unfolding closing number_len piece_of items_from items_of closed_from closings_of rounds_from rounds_of found_in class_of member_end_in members_in modifiers_end form_of try_end end_within try_blocks case_blocks blocks_within statements_in blocks_under numbers is_set_within is_shallow_at arguments_end type_rest dotted_end prefix_end parameters_from exceptions_end outline_of method_prefix_end operand_from operand_to out_of_parentheses argument_to bare
+unfolding closing number_len piece_of items_from items_of closed_from closings_of rounds_from rounds_of found_in class_of member_end_in members_in modifiers_end form_of try_end end_within try_blocks case_blocks blocks_within statements_in blocks_under numbers is_set_within is_shallow_at arguments_end type_rest dotted_end prefix_end parameters_from exceptions_end outline_of method_prefix_end operand_from operand_to out_of_parentheses argument_to bare gives_null set_among
 guards_guarded = refl
 
 guards_by_equals : Tests (of_body (codes "if (Objects.equals(r, null)) g();")) 0 (codes "r") true
-unfolding closing number_len piece_of items_from items_of closed_from closings_of rounds_from rounds_of found_in class_of member_end_in members_in modifiers_end form_of try_end end_within try_blocks case_blocks blocks_within statements_in blocks_under numbers is_set_within is_shallow_at arguments_end type_rest dotted_end prefix_end parameters_from exceptions_end outline_of method_prefix_end operand_from operand_to out_of_parentheses argument_to bare
+unfolding closing number_len piece_of items_from items_of closed_from closings_of rounds_from rounds_of found_in class_of member_end_in members_in modifiers_end form_of try_end end_within try_blocks case_blocks blocks_within statements_in blocks_under numbers is_set_within is_shallow_at arguments_end type_rest dotted_end prefix_end parameters_from exceptions_end outline_of method_prefix_end operand_from operand_to out_of_parentheses argument_to bare gives_null set_among
 guards_by_equals = refl
 
 guards_by_class : Tests (of_body (codes "if ((r) instanceof Named) g();")) 0 (codes "r") true
-unfolding closing number_len piece_of items_from items_of closed_from closings_of rounds_from rounds_of found_in class_of member_end_in members_in modifiers_end form_of try_end end_within try_blocks case_blocks blocks_within statements_in blocks_under numbers is_set_within is_shallow_at arguments_end type_rest dotted_end prefix_end parameters_from exceptions_end outline_of method_prefix_end operand_from operand_to out_of_parentheses argument_to bare
+unfolding closing number_len piece_of items_from items_of closed_from closings_of rounds_from rounds_of found_in class_of member_end_in members_in modifiers_end form_of try_end end_within try_blocks case_blocks blocks_within statements_in blocks_under numbers is_set_within is_shallow_at arguments_end type_rest dotted_end prefix_end parameters_from exceptions_end outline_of method_prefix_end operand_from operand_to out_of_parentheses argument_to bare gives_null set_among
 guards_by_class = refl
 
 guards_where_set : Tests (of_body (codes "while ((r = it.next()) == null) g();")) 0 (codes "r") true
-unfolding closing number_len piece_of items_from items_of closed_from closings_of rounds_from rounds_of found_in class_of member_end_in members_in modifiers_end form_of try_end end_within try_blocks case_blocks blocks_within statements_in blocks_under numbers is_set_within is_shallow_at arguments_end type_rest dotted_end prefix_end parameters_from exceptions_end outline_of method_prefix_end operand_from operand_to out_of_parentheses argument_to bare
+unfolding closing number_len piece_of items_from items_of closed_from closings_of rounds_from rounds_of found_in class_of member_end_in members_in modifiers_end form_of try_end end_within try_blocks case_blocks blocks_within statements_in blocks_under numbers is_set_within is_shallow_at arguments_end type_rest dotted_end prefix_end parameters_from exceptions_end outline_of method_prefix_end operand_from operand_to out_of_parentheses argument_to bare gives_null set_among
 guards_where_set = refl
 
 guards_beside_another : Tests (of_body (codes "if (r == null && x.y > 3) g();")) 0 (codes "x") false
-unfolding closing number_len piece_of items_from items_of closed_from closings_of rounds_from rounds_of found_in class_of member_end_in members_in modifiers_end form_of try_end end_within try_blocks case_blocks blocks_within statements_in blocks_under numbers is_set_within is_shallow_at arguments_end type_rest dotted_end prefix_end parameters_from exceptions_end outline_of method_prefix_end operand_from operand_to out_of_parentheses argument_to bare
+unfolding closing number_len piece_of items_from items_of closed_from closings_of rounds_from rounds_of found_in class_of member_end_in members_in modifiers_end form_of try_end end_within try_blocks case_blocks blocks_within statements_in blocks_under numbers is_set_within is_shallow_at arguments_end type_rest dotted_end prefix_end parameters_from exceptions_end outline_of method_prefix_end operand_from operand_to out_of_parentheses argument_to bare gives_null set_among
 guards_beside_another = refl
 
 guards_member : Tests (of_body (codes "if (isEmpty(r.name())) g(r);")) 0 (codes "r") false
-unfolding closing number_len piece_of items_from items_of closed_from closings_of rounds_from rounds_of found_in class_of member_end_in members_in modifiers_end form_of try_end end_within try_blocks case_blocks blocks_within statements_in blocks_under numbers is_set_within is_shallow_at arguments_end type_rest dotted_end prefix_end parameters_from exceptions_end outline_of method_prefix_end operand_from operand_to out_of_parentheses argument_to bare
+unfolding closing number_len piece_of items_from items_of closed_from closings_of rounds_from rounds_of found_in class_of member_end_in members_in modifiers_end form_of try_end end_within try_blocks case_blocks blocks_within statements_in blocks_under numbers is_set_within is_shallow_at arguments_end type_rest dotted_end prefix_end parameters_from exceptions_end outline_of method_prefix_end operand_from operand_to out_of_parentheses argument_to bare gives_null set_among
 guards_member = refl
 
 guards_in_parentheses : Tests (of_body (codes "if (Objects.isNull((r))) g();")) 0 (codes "r") true
-unfolding closing number_len piece_of items_from items_of closed_from closings_of rounds_from rounds_of found_in class_of member_end_in members_in modifiers_end form_of try_end end_within try_blocks case_blocks blocks_within statements_in blocks_under numbers is_set_within is_shallow_at arguments_end type_rest dotted_end prefix_end parameters_from exceptions_end outline_of method_prefix_end operand_from operand_to out_of_parentheses argument_to bare
+unfolding closing number_len piece_of items_from items_of closed_from closings_of rounds_from rounds_of found_in class_of member_end_in members_in modifiers_end form_of try_end end_within try_blocks case_blocks blocks_within statements_in blocks_under numbers is_set_within is_shallow_at arguments_end type_rest dotted_end prefix_end parameters_from exceptions_end outline_of method_prefix_end operand_from operand_to out_of_parentheses argument_to bare gives_null set_among
 guards_in_parentheses = refl
 
 guards_behind_a_cast : Tests (of_body (codes "g(ofNullable((Object) (r)));")) 0 (codes "r") true
-unfolding closing number_len piece_of items_from items_of closed_from closings_of rounds_from rounds_of found_in class_of member_end_in members_in modifiers_end form_of try_end end_within try_blocks case_blocks blocks_within statements_in blocks_under numbers is_set_within is_shallow_at arguments_end type_rest dotted_end prefix_end parameters_from exceptions_end outline_of method_prefix_end operand_from operand_to out_of_parentheses argument_to bare
+unfolding closing number_len piece_of items_from items_of closed_from closings_of rounds_from rounds_of found_in class_of member_end_in members_in modifiers_end form_of try_end end_within try_blocks case_blocks blocks_within statements_in blocks_under numbers is_set_within is_shallow_at arguments_end type_rest dotted_end prefix_end parameters_from exceptions_end outline_of method_prefix_end operand_from operand_to out_of_parentheses argument_to bare gives_null set_among
 guards_behind_a_cast = refl
 
 guards_another_argument : Tests (of_body (codes "g(defaultString(x, r));")) 0 (codes "r") false
-unfolding closing number_len piece_of items_from items_of closed_from closings_of rounds_from rounds_of found_in class_of member_end_in members_in modifiers_end form_of try_end end_within try_blocks case_blocks blocks_within statements_in blocks_under numbers is_set_within is_shallow_at arguments_end type_rest dotted_end prefix_end parameters_from exceptions_end outline_of method_prefix_end operand_from operand_to out_of_parentheses argument_to bare
+unfolding closing number_len piece_of items_from items_of closed_from closings_of rounds_from rounds_of found_in class_of member_end_in members_in modifiers_end form_of try_end end_within try_blocks case_blocks blocks_within statements_in blocks_under numbers is_set_within is_shallow_at arguments_end type_rest dotted_end prefix_end parameters_from exceptions_end outline_of method_prefix_end operand_from operand_to out_of_parentheses argument_to bare gives_null set_among
 guards_another_argument = refl
 
 guards_text_or_null : Tests (of_body (codes "g(Objects.toString((r), x));")) 0 (codes "r") true
-unfolding closing number_len piece_of items_from items_of closed_from closings_of rounds_from rounds_of found_in class_of member_end_in members_in modifiers_end form_of try_end end_within try_blocks case_blocks blocks_within statements_in blocks_under numbers is_set_within is_shallow_at arguments_end type_rest dotted_end prefix_end parameters_from exceptions_end outline_of method_prefix_end operand_from operand_to out_of_parentheses argument_to bare
+unfolding closing number_len piece_of items_from items_of closed_from closings_of rounds_from rounds_of found_in class_of member_end_in members_in modifiers_end form_of try_end end_within try_blocks case_blocks blocks_within statements_in blocks_under numbers is_set_within is_shallow_at arguments_end type_rest dotted_end prefix_end parameters_from exceptions_end outline_of method_prefix_end operand_from operand_to out_of_parentheses argument_to bare gives_null set_among
 guards_text_or_null = refl
 
 guards_text : Tests (of_body (codes "g(Objects.toString(r));")) 0 (codes "r") false
-unfolding closing number_len piece_of items_from items_of closed_from closings_of rounds_from rounds_of found_in class_of member_end_in members_in modifiers_end form_of try_end end_within try_blocks case_blocks blocks_within statements_in blocks_under numbers is_set_within is_shallow_at arguments_end type_rest dotted_end prefix_end parameters_from exceptions_end outline_of method_prefix_end operand_from operand_to out_of_parentheses argument_to bare
+unfolding closing number_len piece_of items_from items_of closed_from closings_of rounds_from rounds_of found_in class_of member_end_in members_in modifiers_end form_of try_end end_within try_blocks case_blocks blocks_within statements_in blocks_under numbers is_set_within is_shallow_at arguments_end type_rest dotted_end prefix_end parameters_from exceptions_end outline_of method_prefix_end operand_from operand_to out_of_parentheses argument_to bare gives_null set_among
 guards_text = refl
 
 guards_behind_type_arguments : Tests (of_body (codes "if ((r).<A, List<?>>conv() == null) g();")) 0 (codes "r") true
-unfolding closing number_len piece_of items_from items_of closed_from closings_of rounds_from rounds_of found_in class_of member_end_in members_in modifiers_end form_of try_end end_within try_blocks case_blocks blocks_within statements_in blocks_under numbers is_set_within is_shallow_at arguments_end type_rest dotted_end prefix_end parameters_from exceptions_end outline_of method_prefix_end operand_from operand_to out_of_parentheses argument_to bare
+unfolding closing number_len piece_of items_from items_of closed_from closings_of rounds_from rounds_of found_in class_of member_end_in members_in modifiers_end form_of try_end end_within try_blocks case_blocks blocks_within statements_in blocks_under numbers is_set_within is_shallow_at arguments_end type_rest dotted_end prefix_end parameters_from exceptions_end outline_of method_prefix_end operand_from operand_to out_of_parentheses argument_to bare gives_null set_among
 guards_behind_type_arguments = refl
 
 guards_by_what_it_gives : Tests (of_body (codes "if (r.name() == null) g();")) 0 (codes "r") false
-unfolding closing number_len piece_of items_from items_of closed_from closings_of rounds_from rounds_of found_in class_of member_end_in members_in modifiers_end form_of try_end end_within try_blocks case_blocks blocks_within statements_in blocks_under numbers is_set_within is_shallow_at arguments_end type_rest dotted_end prefix_end parameters_from exceptions_end outline_of method_prefix_end operand_from operand_to out_of_parentheses argument_to bare
+unfolding closing number_len piece_of items_from items_of closed_from closings_of rounds_from rounds_of found_in class_of member_end_in members_in modifiers_end form_of try_end end_within try_blocks case_blocks blocks_within statements_in blocks_under numbers is_set_within is_shallow_at arguments_end type_rest dotted_end prefix_end parameters_from exceptions_end outline_of method_prefix_end operand_from operand_to out_of_parentheses argument_to bare gives_null set_among
 guards_by_what_it_gives = refl
 
 guards_by_case : Tests (of_body (codes "switch (r) { case null -> g(); }")) 0 (codes "r") true
-unfolding closing number_len piece_of items_from items_of closed_from closings_of rounds_from rounds_of found_in class_of member_end_in members_in modifiers_end form_of try_end end_within try_blocks case_blocks blocks_within statements_in blocks_under numbers is_set_within is_shallow_at arguments_end type_rest dotted_end prefix_end parameters_from exceptions_end outline_of method_prefix_end operand_from operand_to out_of_parentheses argument_to bare
+unfolding closing number_len piece_of items_from items_of closed_from closings_of rounds_from rounds_of found_in class_of member_end_in members_in modifiers_end form_of try_end end_within try_blocks case_blocks blocks_within statements_in blocks_under numbers is_set_within is_shallow_at arguments_end type_rest dotted_end prefix_end parameters_from exceptions_end outline_of method_prefix_end operand_from operand_to out_of_parentheses argument_to bare gives_null set_among
 guards_by_case = refl
 
+guards_given_by_choice : Tests (of_body (codes "x = c ? r : null;")) 0 (codes "x") true
+unfolding closing number_len piece_of items_from items_of closed_from closings_of rounds_from rounds_of found_in class_of member_end_in members_in modifiers_end form_of try_end end_within try_blocks case_blocks blocks_within statements_in blocks_under numbers is_set_within is_shallow_at arguments_end type_rest dotted_end prefix_end parameters_from exceptions_end outline_of method_prefix_end operand_from operand_to out_of_parentheses argument_to bare gives_null set_among
+guards_given_by_choice = refl
+
+guards_given_by_call : Tests (of_body (codes "r = o.orElse(null);")) 0 (codes "r") true
+unfolding closing number_len piece_of items_from items_of closed_from closings_of rounds_from rounds_of found_in class_of member_end_in members_in modifiers_end form_of try_end end_within try_blocks case_blocks blocks_within statements_in blocks_under numbers is_set_within is_shallow_at arguments_end type_rest dotted_end prefix_end parameters_from exceptions_end outline_of method_prefix_end operand_from operand_to out_of_parentheses argument_to bare gives_null set_among
+guards_given_by_call = refl
+
+guards_given_to_both : Tests (of_body (codes "x = r = null;")) 0 (codes "x") true
+unfolding closing number_len piece_of items_from items_of closed_from closings_of rounds_from rounds_of found_in class_of member_end_in members_in modifiers_end form_of try_end end_within try_blocks case_blocks blocks_within statements_in blocks_under numbers is_set_within is_shallow_at arguments_end type_rest dotted_end prefix_end parameters_from exceptions_end outline_of method_prefix_end operand_from operand_to out_of_parentheses argument_to bare gives_null set_among
+guards_given_to_both = refl
+
+guards_compared_there : Tests (of_body (codes "x = y == null ? 0L : y;")) 0 (codes "x") false
+unfolding closing number_len piece_of items_from items_of closed_from closings_of rounds_from rounds_of found_in class_of member_end_in members_in modifiers_end form_of try_end end_within try_blocks case_blocks blocks_within statements_in blocks_under numbers is_set_within is_shallow_at arguments_end type_rest dotted_end prefix_end parameters_from exceptions_end outline_of method_prefix_end operand_from operand_to out_of_parentheses argument_to bare gives_null set_among
+guards_compared_there = refl
+
+guards_before_given : Tests (of_body (codes "r = g(); x = null;")) 0 (codes "r") false
+unfolding closing number_len piece_of items_from items_of closed_from closings_of rounds_from rounds_of found_in class_of member_end_in members_in modifiers_end form_of try_end end_within try_blocks case_blocks blocks_within statements_in blocks_under numbers is_set_within is_shallow_at arguments_end type_rest dotted_end prefix_end parameters_from exceptions_end outline_of method_prefix_end operand_from operand_to out_of_parentheses argument_to bare gives_null set_among
+guards_before_given = refl
+
+guards_given_in_switch : Tests (of_body (codes "Long x = switch (k) { case 1 -> r; default -> null; };")) 0 (codes "x") true
+unfolding closing number_len piece_of items_from items_of closed_from closings_of rounds_from rounds_of found_in class_of member_end_in members_in modifiers_end form_of try_end end_within try_blocks case_blocks blocks_within statements_in blocks_under numbers is_set_within is_shallow_at arguments_end type_rest dotted_end prefix_end parameters_from exceptions_end outline_of method_prefix_end operand_from operand_to out_of_parentheses argument_to bare gives_null set_among
+guards_given_in_switch = refl
+
+guards_given_in_array : Tests (of_body (codes "Long x = first(new Long[] { r, null });")) 0 (codes "x") true
+unfolding closing number_len piece_of items_from items_of closed_from closings_of rounds_from rounds_of found_in class_of member_end_in members_in modifiers_end form_of try_end end_within try_blocks case_blocks blocks_within statements_in blocks_under numbers is_set_within is_shallow_at arguments_end type_rest dotted_end prefix_end parameters_from exceptions_end outline_of method_prefix_end operand_from operand_to out_of_parentheses argument_to bare gives_null set_among
+guards_given_in_array = refl
+
+guards_given_in_lambda : Tests (of_body (codes "Long x = o.orElseGet(() -> { return null; });")) 0 (codes "x") true
+unfolding closing number_len piece_of items_from items_of closed_from closings_of rounds_from rounds_of found_in class_of member_end_in members_in modifiers_end form_of try_end end_within try_blocks case_blocks blocks_within statements_in blocks_under numbers is_set_within is_shallow_at arguments_end type_rest dotted_end prefix_end parameters_from exceptions_end outline_of method_prefix_end operand_from operand_to out_of_parentheses argument_to bare gives_null set_among
+guards_given_in_lambda = refl
+
+guards_before_given_in_switch : Tests (of_body (codes "x = g(); y = switch (k) { default -> null; };")) 0 (codes "x") false
+unfolding closing number_len piece_of items_from items_of closed_from closings_of rounds_from rounds_of found_in class_of member_end_in members_in modifiers_end form_of try_end end_within try_blocks case_blocks blocks_within statements_in blocks_under numbers is_set_within is_shallow_at arguments_end type_rest dotted_end prefix_end parameters_from exceptions_end outline_of method_prefix_end operand_from operand_to out_of_parentheses argument_to bare gives_null set_among
+guards_before_given_in_switch = refl
+
+guards_before_given_in_block : Tests (of_body (codes "if ((x = g()) > 3) { y = null; }")) 0 (codes "x") false
+unfolding closing number_len piece_of items_from items_of closed_from closings_of rounds_from rounds_of found_in class_of member_end_in members_in modifiers_end form_of try_end end_within try_blocks case_blocks blocks_within statements_in blocks_under numbers is_set_within is_shallow_at arguments_end type_rest dotted_end prefix_end parameters_from exceptions_end outline_of method_prefix_end operand_from operand_to out_of_parentheses argument_to bare gives_null set_among
+guards_before_given_in_block = refl
+
+guards_set_in_lambda : Tests (of_body (codes "x = () -> { y = null; z(); };")) 0 (codes "y") true
+unfolding closing number_len piece_of items_from items_of closed_from closings_of rounds_from rounds_of found_in class_of member_end_in members_in modifiers_end form_of try_end end_within try_blocks case_blocks blocks_within statements_in blocks_under numbers is_set_within is_shallow_at arguments_end type_rest dotted_end prefix_end parameters_from exceptions_end outline_of method_prefix_end operand_from operand_to out_of_parentheses argument_to bare gives_null set_among
+guards_set_in_lambda = refl
+
+guards_in_any : Tests (of_body (codes "if (isAnyBlank(x, r)) g();")) 0 (codes "r") true
+unfolding closing number_len piece_of items_from items_of closed_from closings_of rounds_from rounds_of found_in class_of member_end_in members_in modifiers_end form_of try_end end_within try_blocks case_blocks blocks_within statements_in blocks_under numbers is_set_within is_shallow_at arguments_end type_rest dotted_end prefix_end parameters_from exceptions_end outline_of method_prefix_end operand_from operand_to out_of_parentheses argument_to bare gives_null set_among
+guards_in_any = refl
+
+guards_in_all_by_member : Tests (of_body (codes "if (allNotNull(x, r.name())) g();")) 0 (codes "r") false
+unfolding closing number_len piece_of items_from items_of closed_from closings_of rounds_from rounds_of found_in class_of member_end_in members_in modifiers_end form_of try_end end_within try_blocks case_blocks blocks_within statements_in blocks_under numbers is_set_within is_shallow_at arguments_end type_rest dotted_end prefix_end parameters_from exceptions_end outline_of method_prefix_end operand_from operand_to out_of_parentheses argument_to bare gives_null set_among
+guards_in_all_by_member = refl
+
+guards_in_first : Tests (of_body (codes "x = firstNonBlank(y, r);")) 0 (codes "r") true
+unfolding closing number_len piece_of items_from items_of closed_from closings_of rounds_from rounds_of found_in class_of member_end_in members_in modifiers_end form_of try_end end_within try_blocks case_blocks blocks_within statements_in blocks_under numbers is_set_within is_shallow_at arguments_end type_rest dotted_end prefix_end parameters_from exceptions_end outline_of method_prefix_end operand_from operand_to out_of_parentheses argument_to bare gives_null set_among
+guards_in_first = refl
+
+guards_or_other : Tests (of_body (codes "x = defaultIfBlank(r, y);")) 0 (codes "r") true
+unfolding closing number_len piece_of items_from items_of closed_from closings_of rounds_from rounds_of found_in class_of member_end_in members_in modifiers_end form_of try_end end_within try_blocks case_blocks blocks_within statements_in blocks_under numbers is_set_within is_shallow_at arguments_end type_rest dotted_end prefix_end parameters_from exceptions_end outline_of method_prefix_end operand_from operand_to out_of_parentheses argument_to bare gives_null set_among
+guards_or_other = refl
+
 guards_by_or : Guards (of_body (codes "if (r == null || x > 3) return; go();")) 0 (codes "go") true
-unfolding closing number_len piece_of items_from items_of closed_from closings_of rounds_from rounds_of found_in class_of member_end_in members_in modifiers_end form_of try_end end_within try_blocks case_blocks blocks_within statements_in blocks_under numbers is_set_within is_shallow_at arguments_end type_rest dotted_end prefix_end parameters_from exceptions_end outline_of method_prefix_end operand_from operand_to out_of_parentheses argument_to bare
+unfolding closing number_len piece_of items_from items_of closed_from closings_of rounds_from rounds_of found_in class_of member_end_in members_in modifiers_end form_of try_end end_within try_blocks case_blocks blocks_within statements_in blocks_under numbers is_set_within is_shallow_at arguments_end type_rest dotted_end prefix_end parameters_from exceptions_end outline_of method_prefix_end operand_from operand_to out_of_parentheses argument_to bare gives_null set_among
 guards_by_or = refl
 
 guards_by_and : Guards (of_body (codes "if (r == null && x > 3) return; go();")) 0 (codes "go") false
-unfolding closing number_len piece_of items_from items_of closed_from closings_of rounds_from rounds_of found_in class_of member_end_in members_in modifiers_end form_of try_end end_within try_blocks case_blocks blocks_within statements_in blocks_under numbers is_set_within is_shallow_at arguments_end type_rest dotted_end prefix_end parameters_from exceptions_end outline_of method_prefix_end operand_from operand_to out_of_parentheses argument_to bare
+unfolding closing number_len piece_of items_from items_of closed_from closings_of rounds_from rounds_of found_in class_of member_end_in members_in modifiers_end form_of try_end end_within try_blocks case_blocks blocks_within statements_in blocks_under numbers is_set_within is_shallow_at arguments_end type_rest dotted_end prefix_end parameters_from exceptions_end outline_of method_prefix_end operand_from operand_to out_of_parentheses argument_to bare gives_null set_among
 guards_by_and = refl
 
 guards_inside : Guards (of_body (codes "if (x > 3 && null != r) { go(); }")) 0 (codes "go") true
-unfolding closing number_len piece_of items_from items_of closed_from closings_of rounds_from rounds_of found_in class_of member_end_in members_in modifiers_end form_of try_end end_within try_blocks case_blocks blocks_within statements_in blocks_under numbers is_set_within is_shallow_at arguments_end type_rest dotted_end prefix_end parameters_from exceptions_end outline_of method_prefix_end operand_from operand_to out_of_parentheses argument_to bare
+unfolding closing number_len piece_of items_from items_of closed_from closings_of rounds_from rounds_of found_in class_of member_end_in members_in modifiers_end form_of try_end end_within try_blocks case_blocks blocks_within statements_in blocks_under numbers is_set_within is_shallow_at arguments_end type_rest dotted_end prefix_end parameters_from exceptions_end outline_of method_prefix_end operand_from operand_to out_of_parentheses argument_to bare gives_null set_among
 guards_inside = refl
 
 guards_inside_or : Guards (of_body (codes "if (x > 3 || null != r) { go(); }")) 0 (codes "go") false
-unfolding closing number_len piece_of items_from items_of closed_from closings_of rounds_from rounds_of found_in class_of member_end_in members_in modifiers_end form_of try_end end_within try_blocks case_blocks blocks_within statements_in blocks_under numbers is_set_within is_shallow_at arguments_end type_rest dotted_end prefix_end parameters_from exceptions_end outline_of method_prefix_end operand_from operand_to out_of_parentheses argument_to bare
+unfolding closing number_len piece_of items_from items_of closed_from closings_of rounds_from rounds_of found_in class_of member_end_in members_in modifiers_end form_of try_end end_within try_blocks case_blocks blocks_within statements_in blocks_under numbers is_set_within is_shallow_at arguments_end type_rest dotted_end prefix_end parameters_from exceptions_end outline_of method_prefix_end operand_from operand_to out_of_parentheses argument_to bare gives_null set_among
 guards_inside_or = refl
 
 guards_behind_else : Guards (of_body (codes "if (r == null) g(); else { go(); }")) 0 (codes "go") true
-unfolding closing number_len piece_of items_from items_of closed_from closings_of rounds_from rounds_of found_in class_of member_end_in members_in modifiers_end form_of try_end end_within try_blocks case_blocks blocks_within statements_in blocks_under numbers is_set_within is_shallow_at arguments_end type_rest dotted_end prefix_end parameters_from exceptions_end outline_of method_prefix_end operand_from operand_to out_of_parentheses argument_to bare
+unfolding closing number_len piece_of items_from items_of closed_from closings_of rounds_from rounds_of found_in class_of member_end_in members_in modifiers_end form_of try_end end_within try_blocks case_blocks blocks_within statements_in blocks_under numbers is_set_within is_shallow_at arguments_end type_rest dotted_end prefix_end parameters_from exceptions_end outline_of method_prefix_end operand_from operand_to out_of_parentheses argument_to bare gives_null set_among
 guards_behind_else = refl
 
 guards_with_else : Guards (of_body (codes "if (r == null) return; else g(); go();")) 0 (codes "go") false
-unfolding closing number_len piece_of items_from items_of closed_from closings_of rounds_from rounds_of found_in class_of member_end_in members_in modifiers_end form_of try_end end_within try_blocks case_blocks blocks_within statements_in blocks_under numbers is_set_within is_shallow_at arguments_end type_rest dotted_end prefix_end parameters_from exceptions_end outline_of method_prefix_end operand_from operand_to out_of_parentheses argument_to bare
+unfolding closing number_len piece_of items_from items_of closed_from closings_of rounds_from rounds_of found_in class_of member_end_in members_in modifiers_end form_of try_end end_within try_blocks case_blocks blocks_within statements_in blocks_under numbers is_set_within is_shallow_at arguments_end type_rest dotted_end prefix_end parameters_from exceptions_end outline_of method_prefix_end operand_from operand_to out_of_parentheses argument_to bare gives_null set_among
 guards_with_else = refl
 
 guards_nested : Guards (of_body (codes "if (x > 3) { if (r == null) return; } go();")) 0 (codes "go") false
-unfolding closing number_len piece_of items_from items_of closed_from closings_of rounds_from rounds_of found_in class_of member_end_in members_in modifiers_end form_of try_end end_within try_blocks case_blocks blocks_within statements_in blocks_under numbers is_set_within is_shallow_at arguments_end type_rest dotted_end prefix_end parameters_from exceptions_end outline_of method_prefix_end operand_from operand_to out_of_parentheses argument_to bare
+unfolding closing number_len piece_of items_from items_of closed_from closings_of rounds_from rounds_of found_in class_of member_end_in members_in modifiers_end form_of try_end end_within try_blocks case_blocks blocks_within statements_in blocks_under numbers is_set_within is_shallow_at arguments_end type_rest dotted_end prefix_end parameters_from exceptions_end outline_of method_prefix_end operand_from operand_to out_of_parentheses argument_to bare gives_null set_among
 guards_nested = refl
 
 guards_where_set_elsewhere : Guards (of_body (codes "if (r == null) return; r = g(); go();")) 0 (codes "go") false
-unfolding closing number_len piece_of items_from items_of closed_from closings_of rounds_from rounds_of found_in class_of member_end_in members_in modifiers_end form_of try_end end_within try_blocks case_blocks blocks_within statements_in blocks_under numbers is_set_within is_shallow_at arguments_end type_rest dotted_end prefix_end parameters_from exceptions_end outline_of method_prefix_end operand_from operand_to out_of_parentheses argument_to bare
+unfolding closing number_len piece_of items_from items_of closed_from closings_of rounds_from rounds_of found_in class_of member_end_in members_in modifiers_end form_of try_end end_within try_blocks case_blocks blocks_within statements_in blocks_under numbers is_set_within is_shallow_at arguments_end type_rest dotted_end prefix_end parameters_from exceptions_end outline_of method_prefix_end operand_from operand_to out_of_parentheses argument_to bare gives_null set_among
 guards_where_set_elsewhere = refl
 
 guards : WorkedGuards
-guards = record { tested = guards_tested; other = guards_other; guarded = guards_guarded; by_equals = guards_by_equals; by_class = guards_by_class; where_set = guards_where_set; beside_another = guards_beside_another; member = guards_member; in_parentheses = guards_in_parentheses; behind_a_cast = guards_behind_a_cast; another_argument = guards_another_argument; text_or_null = guards_text_or_null; text = guards_text; behind_type_arguments = guards_behind_type_arguments; by_what_it_gives = guards_by_what_it_gives; by_case = guards_by_case; by_or = guards_by_or; by_and = guards_by_and; inside = guards_inside; inside_or = guards_inside_or; behind_else = guards_behind_else; with_else = guards_with_else; nested = guards_nested; where_set_elsewhere = guards_where_set_elsewhere }
+guards = record { tested = guards_tested; other = guards_other; guarded = guards_guarded; by_equals = guards_by_equals; by_class = guards_by_class; where_set = guards_where_set; beside_another = guards_beside_another; member = guards_member; in_parentheses = guards_in_parentheses; behind_a_cast = guards_behind_a_cast; another_argument = guards_another_argument; text_or_null = guards_text_or_null; text = guards_text; behind_type_arguments = guards_behind_type_arguments; by_what_it_gives = guards_by_what_it_gives; by_case = guards_by_case; given_by_choice = guards_given_by_choice; given_by_call = guards_given_by_call; given_to_both = guards_given_to_both; compared_there = guards_compared_there; before_given = guards_before_given; given_in_switch = guards_given_in_switch; given_in_array = guards_given_in_array; given_in_lambda = guards_given_in_lambda; before_given_in_switch = guards_before_given_in_switch; before_given_in_block = guards_before_given_in_block; set_in_lambda = guards_set_in_lambda; in_any = guards_in_any; in_all_by_member = guards_in_all_by_member; in_first = guards_in_first; or_other = guards_or_other; by_or = guards_by_or; by_and = guards_by_and; inside = guards_inside; inside_or = guards_inside_or; behind_else = guards_behind_else; with_else = guards_with_else; nested = guards_nested; where_set_elsewhere = guards_where_set_elsewhere }
 
 sight_of_for : Sees (codes "class A { void f() { for (User u : xs) { go(); } } }") true
 unfolding closing number_len piece_of items_from items_of closed_from closings_of rounds_from rounds_of found_in class_of member_end_in members_in modifiers_end form_of try_end end_within try_blocks case_blocks blocks_within statements_in blocks_under numbers is_shallow_at arguments_end type_rest dotted_end prefix_end parameters_from exceptions_end outline_of method_prefix_end last_of_names is_in_import front_in is_loose is_java_class hides_last hides_name
@@ -398,5 +459,48 @@ names_hidden_constant = refl
 names : WorkedNames
 names = record { imported = names_imported; types = names_types; before_and = names_before_and; before_question = names_before_question; before_when = names_before_when; in_record = names_in_record; caught = names_caught; of_lambda = names_of_lambda; of_array = names_of_array; lone_constant = names_lone_constant; hidden_lone_constant = names_hidden_lone_constant; constant = names_constant; hidden_constant = names_hidden_constant }
 
+rows_of_nothing : KnowsRows (codes "class A { void f(int n) { go(); } }") ([]) true
+unfolding closing number_len piece_of items_from items_of closed_from closings_of rounds_from rounds_of found_in class_of member_end_in members_in modifiers_end form_of try_end end_within try_blocks case_blocks blocks_within statements_in blocks_under numbers is_shallow_at arguments_end type_rest dotted_end prefix_end parameters_from exceptions_end outline_of method_prefix_end last_of_names is_in_import front_in is_loose is_java_class hides_last hides_name
+rows_of_nothing = refl
+
+rows_of_parameter : KnowsRows (codes "class A { void f(User u) { go(); } }") ([]) false
+unfolding closing number_len piece_of items_from items_of closed_from closings_of rounds_from rounds_of found_in class_of member_end_in members_in modifiers_end form_of try_end end_within try_blocks case_blocks blocks_within statements_in blocks_under numbers is_shallow_at arguments_end type_rest dotted_end prefix_end parameters_from exceptions_end outline_of method_prefix_end last_of_names is_in_import front_in is_loose is_java_class hides_last hides_name
+rows_of_parameter = refl
+
+rows_of_known_parameter : KnowsRows (codes "class A { void f(User u) { go(); } }") (user_variable (codes "u") (types.Row 0) ∷ []) true
+unfolding closing number_len piece_of items_from items_of closed_from closings_of rounds_from rounds_of found_in class_of member_end_in members_in modifiers_end form_of try_end end_within try_blocks case_blocks blocks_within statements_in blocks_under numbers is_shallow_at arguments_end type_rest dotted_end prefix_end parameters_from exceptions_end outline_of method_prefix_end last_of_names is_in_import front_in is_loose is_java_class hides_last hides_name
+rows_of_known_parameter = refl
+
+rows_of_another_type : KnowsRows (codes "class A { void f(User u) { go(); } }") (user_variable (codes "u") (types.Rows 0) ∷ []) false
+unfolding closing number_len piece_of items_from items_of closed_from closings_of rounds_from rounds_of found_in class_of member_end_in members_in modifiers_end form_of try_end end_within try_blocks case_blocks blocks_within statements_in blocks_under numbers is_shallow_at arguments_end type_rest dotted_end prefix_end parameters_from exceptions_end outline_of method_prefix_end last_of_names is_in_import front_in is_loose is_java_class hides_last hides_name
+rows_of_another_type = refl
+
+rows_of_statement : KnowsRows (codes "class A { void f() { List<User> us = g(); if (b) { go(); } } }") ([]) false
+unfolding closing number_len piece_of items_from items_of closed_from closings_of rounds_from rounds_of found_in class_of member_end_in members_in modifiers_end form_of try_end end_within try_blocks case_blocks blocks_within statements_in blocks_under numbers is_shallow_at arguments_end type_rest dotted_end prefix_end parameters_from exceptions_end outline_of method_prefix_end last_of_names is_in_import front_in is_loose is_java_class hides_last hides_name
+rows_of_statement = refl
+
+rows_of_known_statement : KnowsRows (codes "class A { void f() { List<User> us = g(); if (b) { go(); } } }") (user_variable (codes "us") (types.Rows 0) ∷ []) true
+unfolding closing number_len piece_of items_from items_of closed_from closings_of rounds_from rounds_of found_in class_of member_end_in members_in modifiers_end form_of try_end end_within try_blocks case_blocks blocks_within statements_in blocks_under numbers is_shallow_at arguments_end type_rest dotted_end prefix_end parameters_from exceptions_end outline_of method_prefix_end last_of_names is_in_import front_in is_loose is_java_class hides_last hides_name
+rows_of_known_statement = refl
+
+rows_of_ended_block : KnowsRows (codes "class A { void f() { if (b) { User u = g(); } go(); } }") ([]) true
+unfolding closing number_len piece_of items_from items_of closed_from closings_of rounds_from rounds_of found_in class_of member_end_in members_in modifiers_end form_of try_end end_within try_blocks case_blocks blocks_within statements_in blocks_under numbers is_shallow_at arguments_end type_rest dotted_end prefix_end parameters_from exceptions_end outline_of method_prefix_end last_of_names is_in_import front_in is_loose is_java_class hides_last hides_name
+rows_of_ended_block = refl
+
+rows_of_head : KnowsRows (codes "class A { void f() { for (User u : us) { go(); } } }") ([]) false
+unfolding closing number_len piece_of items_from items_of closed_from closings_of rounds_from rounds_of found_in class_of member_end_in members_in modifiers_end form_of try_end end_within try_blocks case_blocks blocks_within statements_in blocks_under numbers is_shallow_at arguments_end type_rest dotted_end prefix_end parameters_from exceptions_end outline_of method_prefix_end last_of_names is_in_import front_in is_loose is_java_class hides_last hides_name
+rows_of_head = refl
+
+rows_behind_head : KnowsRows (codes "class A { void f() { for (User u : us) { g(); } go(); } }") ([]) true
+unfolding closing number_len piece_of items_from items_of closed_from closings_of rounds_from rounds_of found_in class_of member_end_in members_in modifiers_end form_of try_end end_within try_blocks case_blocks blocks_within statements_in blocks_under numbers is_shallow_at arguments_end type_rest dotted_end prefix_end parameters_from exceptions_end outline_of method_prefix_end last_of_names is_in_import front_in is_loose is_java_class hides_last hides_name
+rows_behind_head = refl
+
+rows_of_call : KnowsRows (codes "class A { void f() { User.all(); go(); } }") ([]) true
+unfolding closing number_len piece_of items_from items_of closed_from closings_of rounds_from rounds_of found_in class_of member_end_in members_in modifiers_end form_of try_end end_within try_blocks case_blocks blocks_within statements_in blocks_under numbers is_shallow_at arguments_end type_rest dotted_end prefix_end parameters_from exceptions_end outline_of method_prefix_end last_of_names is_in_import front_in is_loose is_java_class hides_last hides_name
+rows_of_call = refl
+
+rows : WorkedRows
+rows = record { of_nothing = rows_of_nothing; of_parameter = rows_of_parameter; of_known_parameter = rows_of_known_parameter; of_another_type = rows_of_another_type; of_statement = rows_of_statement; of_known_statement = rows_of_known_statement; of_ended_block = rows_of_ended_block; of_head = rows_of_head; behind_head = rows_behind_head; of_call = rows_of_call }
+
 pub worked : Worked
-worked = record { members = members; guards = guards; sight = sight; fronts = fronts; fetches = fetches; templates = templates; names = names }
+worked = record { members = members; guards = guards; sight = sight; fronts = fronts; fetches = fetches; templates = templates; names = names; rows = rows }

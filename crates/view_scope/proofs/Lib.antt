@@ -5,4 +5,5 @@ pub mod Fronts
 pub mod Imports
 pub mod Operands
 pub mod Parts
+pub mod Sets
 pub mod Stood

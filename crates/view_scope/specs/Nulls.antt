@@ -1,4 +1,4 @@
--- Where a method tests variables for null: stretches of items in which each variable that is named is tested.
+-- Where a method tests variables for null, or sets them to it: stretches of items in which each variable that is named may be null.
 use Rattle.std.specs.Prelude.{ℕ, zero, suc, ◌+◌, ◌-◌, Bool, false, ◌||◌, ◌&&◌, ◌==◌, not, nat_le, List, [], ◌∷◌, ◌++◌, length, codes, slice_get, if◌then◌else◌}
 use Rattle.std.specs.List.{list_any, flat_map}
 use Rattle.std.specs.declared.option.Option.{Option}
@@ -91,10 +91,74 @@ or_number k (Some j) = j
 abbrev pub ended_from : List Item → List ℕ → ℕ → ℕ
 ended_from items rounds k = if is_sign (codes ")") items k then or_number k (slice_get rounds k) else k
 
--- the variable that is set to null
-abbrev pub set_to_null : List Item → List ℕ → Stretch → Option Stretch
-set_to_null items rounds s =
-    if nat_le 2 s.from && is_sign (codes "=") items (s.from - 1) then Some (from_to (ended_from items rounds (s.from - 2)) (s.from - 1)) else None
+-- ---- What is set to null
+
+-- what ends a statement, or begins or ends a block in it
+abbrev pub ends_statement : List Item → ℕ → Bool
+ends_statement items k = is_one_of_signs (codes ";" ∷ codes "{" ∷ codes "}" ∷ []) items k
+
+-- a `null` that is compared with something gives nothing
+abbrev pub is_equality_round : List Item → Stretch → Bool
+is_equality_round items s = before (is_equality items) s.from || is_equality items s.to
+
+abbrev pub is_given_null : List Item → ℕ → Bool
+is_given_null items k = is_null items k && not (is_equality_round items (null_at items k))
+
+-- another `null` stands at these numbers, before a statement ends and before any block, whatever the brackets
+abbrev pub gives_null_from : List Item → ℕ → Bool → Bool
+gives_null_from items k null_behind = is_given_null items k || (not (ends_statement items k) && null_behind)
+
+unfoldable pub gives_null : List Item → List ℕ → Bool
+gives_null items [] = false
+gives_null items (k ∷ ks) = gives_null_from items k (gives_null items ks)
+
+abbrev pub opens_at : List Item → ℕ → Bool
+opens_at items k = is_one_of_signs (codes "(" ∷ codes "[" ∷ codes "{" ∷ []) items k
+
+abbrev pub closes_at : List Item → ℕ → Bool
+closes_at items k = is_one_of_signs (codes ")" ∷ codes "]" ∷ codes "}" ∷ []) items k
+
+-- Where so many brackets are open that a statement has opened: what closes one of these goes on with one fewer, and what closes one round the
+-- statement ends it. So does a semicolon outside of these.
+abbrev pub past_closing : (ℕ → Bool) → ℕ → Bool
+past_closing behind zero = false
+past_closing behind (suc d) = behind d
+
+abbrev pub past_semicolon : (ℕ → Bool) → ℕ → Bool
+past_semicolon behind zero = false
+past_semicolon behind (suc d) = behind (suc d)
+
+abbrev pub past_item : List Item → ℕ → (ℕ → Bool) → ℕ → Bool
+past_item items k behind depth =
+    if opens_at items k then behind (depth + 1)
+    else (if closes_at items k then past_closing behind depth else (if is_sign (codes ";") items k then past_semicolon behind depth else behind depth))
+
+-- a `null` stands at these numbers in a statement, its blocks and bodies too, where so many of its brackets are open at the first
+abbrev pub holds_given : List Item → List ℕ → ℕ → Bool
+holds_given items [] depth = false
+holds_given items (k ∷ ks) depth = is_given_null items k || past_item items k (λ d. holds_given items ks d) depth
+
+-- How many brackets have to be open, at the least, for that: where one more is, the statement is longer. So one walk from the last item to
+-- the first has it for each.
+abbrev pub are_enough : Option ℕ → ℕ → Bool
+are_enough None depth = false
+are_enough (Some n) depth = nat_le n depth
+
+abbrev pub at_least_one : ℕ → ℕ
+at_least_one n = if n == 0 then 1 else n
+
+abbrev pub least_before : List Item → ℕ → ℕ → ℕ
+least_before items k n =
+    if opens_at items k then n - 1 else (if closes_at items k then n + 1 else (if is_sign (codes ";") items k then at_least_one n else n))
+
+abbrev pub least_from : List Item → ℕ → Option ℕ → Option ℕ
+least_from items k least = if is_given_null items k then Some 0 else if_some least (λ n. Some (least_before items k n))
+
+-- The variable is set, and a `null` stands behind it in the same statement, whatever the brackets: `x = null`, `x = c ? id : null`,
+-- `x = o.orElse(null)`, `x = switch (k) { default -> null; }`.
+abbrev pub set_at : List Item → List ℕ → ℕ → Bool → Option Stretch
+set_at items rounds k null_behind =
+    if null_behind && (is_sign (codes "=") items k && not (k == 0)) then Some (from_to (ended_from items rounds (k - 1)) k) else None
 
 -- `null` stands directly in the parentheses that are opening at a number, alone or in further ones
 abbrev pub is_null_in : List Item → List ℕ → ℕ → ℕ → Bool
@@ -120,7 +184,7 @@ abbrev pub testing_calls : List (List ℕ)
 testing_calls =
     codes "isNull" ∷ codes "nonNull" ∷ codes "ofNullable" ∷ codes "isEmpty" ∷ codes "isBlank" ∷ codes "isNotEmpty" ∷ codes "isNotBlank"
     ∷ codes "hasText" ∷ codes "hasLength" ∷ codes "isNullOrEmpty" ∷ codes "requireNonNullElse" ∷ codes "requireNonNullElseGet"
-    ∷ codes "defaultString" ∷ codes "defaultIfNull" ∷ codes "firstNonNull" ∷ []
+    ∷ codes "defaultString" ∷ codes "defaultIfNull" ∷ codes "defaultIfBlank" ∷ codes "defaultIfEmpty" ∷ codes "firstNonNull" ∷ []
 
 -- the item ends the first argument of the call whose parenthesis is opening at a number
 abbrev pub ends_argument : List Item → List ℕ → ℕ → ℕ → Bool
@@ -162,6 +226,19 @@ tested_first items closings rounds k =
     then tested_up_to items closings k (argument_to (length items) items rounds (k + 1) (k + 2))
     else None
 
+-- calls of these names test all of their arguments
+abbrev pub calls_testing_all : List (List ℕ)
+calls_testing_all =
+    codes "isAnyBlank" ∷ codes "isNoneBlank" ∷ codes "isAllBlank" ∷ codes "isAnyEmpty" ∷ codes "isNoneEmpty" ∷ codes "isAllEmpty"
+    ∷ codes "firstNonBlank" ∷ codes "firstNonEmpty" ∷ codes "firstNonNull" ∷ codes "allNotNull" ∷ codes "anyNull" ∷ codes "allNull" ∷ codes "anyNotNull" ∷ []
+
+abbrev pub all_arguments : ℕ → ℕ → Option Stretch
+all_arguments k close = Some (from_to (k + 2) close)
+
+abbrev pub tested_all : List Item → List ℕ → ℕ → Option Stretch
+tested_all items closings k =
+    if is_sign (codes "(") items (k + 1) && is_one_of_words calls_testing_all items k then if_some (closing_at items closings (k + 1)) (all_arguments k) else None
+
 -- what stands before `instanceof`: one item, or what is in parentheses
 abbrev pub tested_class : List Item → List ℕ → ℕ → Option Stretch
 tested_class items rounds k =
@@ -182,18 +259,33 @@ asked items rounds s = if before (is_word (codes "case") items) s.from then if_s
 -- what is tested by the `null` in a stretch
 abbrev pub tested_by_null : List Item → List ℕ → Stretch → List Stretch
 tested_by_null items rounds s =
-    listed (compared_before items rounds s)
-    ++ (listed (compared_behind items rounds s) ++ (listed (set_to_null items rounds s) ++ listed (asked items rounds s)))
+    listed (compared_before items rounds s) ++ (listed (compared_behind items rounds s) ++ listed (asked items rounds s))
+
+-- what is tested by the name at a number
+abbrev pub tested_by_name : List Item → List ℕ → List ℕ → ℕ → List Stretch
+tested_by_name items closings rounds k =
+    listed (tested_first items closings rounds k) ++ (listed (tested_all items closings k) ++ listed (tested_class items rounds k))
 
 -- what is tested by the item at a number
 abbrev pub tested_at : List Item → List ℕ → List ℕ → ℕ → List Stretch
 tested_at items closings rounds k =
     if is_null items k then tested_by_null items rounds (null_at items k)
-    else (if is_name items k then listed (tested_first items closings rounds k) ++ listed (tested_class items rounds k) else listed (tested_arguments items closings rounds k))
+    else (if is_name items k then tested_by_name items closings rounds k else listed (tested_arguments items closings rounds k))
 
--- where a method's body tests variables for null
+-- the variables that are set at these numbers in statements that give null, the last one first
+unfoldable pub set_among : List Item → List ℕ → List ℕ → List Stretch
+set_among items rounds [] = []
+set_among items rounds (k ∷ ks) = set_among items rounds ks ++ listed (set_at items rounds k (gives_null items ks || holds_given items ks 0))
+
+abbrev pub all_tested : List Item → List ℕ → List ℕ → ℕ → ℕ → List Stretch
+all_tested items closings rounds from to = flat_map (tested_at items closings rounds) (numbers from (to - from))
+
+abbrev pub all_set : List Item → List ℕ → ℕ → ℕ → List Stretch
+all_set items rounds from to = set_among items rounds (numbers from (to - from))
+
+-- where a method's body tests variables for null, or sets them to it
 abbrev pub tested_in : List Item → List ℕ → List ℕ → ℕ → ℕ → List Stretch
-tested_in items closings rounds from to = flat_map (tested_at items closings rounds) (numbers from (to - from))
+tested_in items closings rounds from to = all_tested items closings rounds from to ++ all_set items rounds from to
 
 -- A variable is named there, and no dot stands behind it: behind one what it gives is compared, and not itself, since where it is null that throws.
 abbrev pub is_compared : List Item → List ℕ → ℕ → Bool

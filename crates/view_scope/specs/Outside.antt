@@ -1,19 +1,22 @@
 -- Which variables are in sight at a place of a method's body, and with what types.
-use Rattle.std.specs.Prelude.{ℕ, ◌+◌, ◌-◌, Bool, true, false, ◌||◌, ◌&&◌, ◌==◌, nat_lt, List, [], ◌∷◌, length, codes}
-use Rattle.std.specs.List.{list_any}
+use Rattle.std.specs.Prelude.{ℕ, ◌+◌, ◌-◌, Bool, true, false, ◌||◌, ◌&&◌, ◌==◌, not, nat_lt, List, [], ◌∷◌, length, codes}
+use Rattle.std.specs.List.{list_any, list_all}
 use Rattle.std.specs.declared.option.Option.{Option}
 use Rattle.std.specs.declared.option.Option.TheVariants.{Some, None}
 use Rattle.view_items.specs.declared.item.Item.{Item}
 use Rattle.view_shapes.specs.declared.members.Stretch.{Stretch}
-use Rattle.view_shapes.specs.Found.{is_word, is_sign, is_one_of_signs, closing_at}
+use Rattle.view_shapes.specs.Found.{is_word, is_sign, is_name, is_one_of_signs, closing_at}
 use Rattle.view_shapes.specs.Mentions.{numbers}
 use Rattle.view_rules.specs.declared.java_type.JavaType.{JavaType}
+use Rattle.view_rules.specs.declared.java_type.JavaType.TheVariants as types
+use Rattle.view_rules.specs.declared.sight.Sighted.{Sighted}
 use Rattle.view_rules.specs.declared.spelled.Spelled.{Spelled}
 use Rattle.view_rules.specs.Decisions.{same_type, is_element}
 use Rattle.view_rules.specs.Names.{Seen}
 use Rattle.view_rules.specs.Queries.{fetch_at}
 use Rattle.view_rules.specs.Setting.{Within}
-use Rattle.view_rules.specs.Spelled.{type_at}
+use Rattle.view_rules.specs.Sights.{in_sight}
+use Rattle.view_rules.specs.Spelled.{bytes_at, type_at}
 use Rattle.view_shapes.specs.declared.method.Method.{Method}
 use Rattle.view_shapes.specs.declared.method.Parameter.{Parameter}
 use Rattle.view_shapes.specs.Prefixes.{variable_prefix_end}
@@ -105,6 +108,72 @@ is_in_head w closings place java at from = list_any (is_headed_by w closings pla
 abbrev pub is_in_sight_by : Within → List ℕ → List Standing → Method → ℕ → JavaType → ℕ → Bool
 is_in_sight_by w closings standing m place java at =
     is_parameter w m.parameters java at || is_declared_before w closings standing place java at || is_in_head w closings place java at m.from
+
+-- ---- Rows in sight
+
+-- a row, or a list of rows
+abbrev pub is_of_rows : JavaType → Bool
+is_of_rows (types.Row c) = true
+is_of_rows (types.Rows c) = true
+is_of_rows java = false
+
+abbrev pub has_type : JavaType → Option Sighted → Bool
+has_type java None = false
+has_type java (Some v) = same_type v.java java
+
+-- the variable is among these with its type, if it is one of rows
+abbrev pub is_known : Within → List Sighted → Spelled → Bool
+is_known w vs s = not (is_of_rows s.java) || has_type s.java (in_sight vs (bytes_at w s.to))
+
+-- a parameter whose type is read up to its name
+abbrev pub is_parameter_of : Within → List Sighted → ℕ → Option Spelled → Bool
+is_parameter_of w vs name None = true
+is_parameter_of w vs name (Some s) = not (s.to == name) || is_known w vs s
+
+abbrev pub is_parameter_known : Within → List Sighted → Parameter → Bool
+is_parameter_known w vs p = is_parameter_of w vs p.name (type_at w p.ty)
+
+abbrev pub are_parameters_known : Within → List Sighted → List Parameter → Bool
+are_parameters_known w vs ps = list_all (is_parameter_known w vs) ps
+
+-- what is declared from a number on, where a type stands there, a name behind it, and behind that what may follow
+abbrev pub is_followed : Within → Bool → ℕ → Bool
+is_followed w head k = is_name w.items k && may_follow w.items head (k + 1)
+
+abbrev pub is_spelled_known : Within → List Sighted → Bool → Option Spelled → Bool
+is_spelled_known w vs head None = true
+is_spelled_known w vs head (Some s) = not (is_followed w head s.to) || is_known w vs s
+
+abbrev pub is_typed_known : Within → List Sighted → Bool → Option ℕ → Bool
+is_typed_known w vs head None = true
+is_typed_known w vs head (Some t) = is_spelled_known w vs head (type_at w t)
+
+abbrev pub is_declared_known : Within → List ℕ → List Sighted → Bool → ℕ → Bool
+is_declared_known w closings vs head k = is_typed_known w vs head (variable_prefix_end w.items closings k)
+
+-- a statement before the place in the same block, or in one round it
+abbrev pub is_standing_known : Within → List ℕ → List Sighted → ℕ → Standing → Bool
+is_standing_known w closings vs place s = not (stands_before place s) || is_declared_known w closings vs false s.statement.from
+
+abbrev pub are_standing_known : Within → List ℕ → List Sighted → ℕ → List Standing → Bool
+are_standing_known w closings vs place standing = list_all (is_standing_known w closings vs place) standing
+
+-- the head of a `for` round it; one that walks a fetch by `var` has the fetch in it, which is seen there
+abbrev pub begins_for : List Item → ℕ → Bool
+begins_for items k = is_word (codes "for") items k && is_sign (codes "(") items (k + 1)
+
+abbrev pub is_head_known : Within → List ℕ → List Sighted → ℕ → ℕ → Bool
+is_head_known w closings vs place k =
+    not (begins_for w.items k && is_in_headed w.items closings place (k + 1)) || is_declared_known w closings vs true (k + 2)
+
+abbrev pub are_heads_known : Within → List ℕ → List Sighted → ℕ → ℕ → Bool
+are_heads_known w closings vs from place = list_all (is_head_known w closings vs place) (numbers from (place - from))
+
+-- Each variable of a row or of a list of rows that is in sight at a place, of several in one declaration the first, is among these.
+abbrev pub are_rows_known : Within → List ℕ → List Standing → Method → ℕ → List Sighted → Bool
+are_rows_known w closings standing m place vs =
+    are_parameters_known w vs m.parameters
+    && (are_standing_known w closings vs place standing && are_heads_known w closings vs m.from place)
 
 abbrev pub body_of : Method → Stretch
 body_of m = record { from = m.from; to = m.to }

@@ -18,7 +18,9 @@ use Rattle.view_map.specs.declared.model.ViewMap.{ViewMap}
 use Rattle.view_map.specs.declared.model.QueryKind.TheVariants as queries
 use Rattle.view_map.specs.Patterns.{pattern_items}
 use Rattle.view_map.specs.Templates.{template_of}
+use Rattle.view_rules.specs.declared.java_type.JavaType.{JavaType}
 use Rattle.view_rules.specs.declared.java_type.JavaType.TheVariants as types
+use Rattle.view_rules.specs.declared.sight.Sighted.{Sighted}
 use Rattle.view_rules.specs.Setting.{Within}
 use Rattle.view_shapes.specs.declared.method.Method.{Method}
 use Rattle.view_scope.specs.Allowed.{is_free_in, is_no_field, is_kept, keeps_meaning, keeps_template}
@@ -27,8 +29,9 @@ use Rattle.view_scope.specs.Guards.{is_guarded}
 use Rattle.view_scope.specs.Methods.{method_of}
 use Rattle.view_scope.specs.Nulls.{is_tested}
 use Rattle.view_scope.specs.Obscured.{word_at, means_the_same, is_clear}
-use Rattle.view_scope.specs.Outside.{is_in_sight_at, body_of}
+use Rattle.view_scope.specs.Outside.{is_in_sight_at, are_rows_known, body_of}
 use Rattle.view_scope.specs.Patterns.{bytes_of, first_at}
+use Rattle.view_scope.specs.Standing.{standing_of}
 
 -- what is so of a source: of its items, the closing bracket and the round of each, and its class
 abbrev pub in_class : {A : Type 0} → Bytes → (List Item → List ℕ → List ℕ → ClassPlace → Option A) → Option A
@@ -128,6 +131,21 @@ pub record WorkedGuards : Type 0 where
   pub behind_type_arguments : Tests (of_body (codes "if ((r).<A, List<?>>conv() == null) g();")) 0 (codes "r") true
   pub by_what_it_gives : Tests (of_body (codes "if (r.name() == null) g();")) 0 (codes "r") false
   pub by_case : Tests (of_body (codes "switch (r) { case null -> g(); }")) 0 (codes "r") true
+  pub given_by_choice : Tests (of_body (codes "x = c ? r : null;")) 0 (codes "x") true
+  pub given_by_call : Tests (of_body (codes "r = o.orElse(null);")) 0 (codes "r") true
+  pub given_to_both : Tests (of_body (codes "x = r = null;")) 0 (codes "x") true
+  pub compared_there : Tests (of_body (codes "x = y == null ? 0L : y;")) 0 (codes "x") false
+  pub before_given : Tests (of_body (codes "r = g(); x = null;")) 0 (codes "r") false
+  pub given_in_switch : Tests (of_body (codes "Long x = switch (k) { case 1 -> r; default -> null; };")) 0 (codes "x") true
+  pub given_in_array : Tests (of_body (codes "Long x = first(new Long[] { r, null });")) 0 (codes "x") true
+  pub given_in_lambda : Tests (of_body (codes "Long x = o.orElseGet(() -> { return null; });")) 0 (codes "x") true
+  pub before_given_in_switch : Tests (of_body (codes "x = g(); y = switch (k) { default -> null; };")) 0 (codes "x") false
+  pub before_given_in_block : Tests (of_body (codes "if ((x = g()) > 3) { y = null; }")) 0 (codes "x") false
+  pub set_in_lambda : Tests (of_body (codes "x = () -> { y = null; z(); };")) 0 (codes "y") true
+  pub in_any : Tests (of_body (codes "if (isAnyBlank(x, r)) g();")) 0 (codes "r") true
+  pub in_all_by_member : Tests (of_body (codes "if (allNotNull(x, r.name())) g();")) 0 (codes "r") false
+  pub in_first : Tests (of_body (codes "x = firstNonBlank(y, r);")) 0 (codes "r") true
+  pub or_other : Tests (of_body (codes "x = defaultIfBlank(r, y);")) 0 (codes "r") true
   pub by_or : Guards (of_body (codes "if (r == null || x > 3) return; go();")) 0 (codes "go") true
   pub by_and : Guards (of_body (codes "if (r == null && x > 3) return; go();")) 0 (codes "go") false
   pub inside : Guards (of_body (codes "if (x > 3 && null != r) { go(); }")) 0 (codes "go") true
@@ -178,6 +196,18 @@ abbrev pub seen_at : List Item → List ℕ → List ℕ → Method → Option B
 seen_at items closings rounds m =
     if_some (slice_get (mentions items (codes "go") m.from m.to) 0) (λ place. if_some (slice_get (mentions items (codes "u") m.from m.to) 0) (λ at.
     Some (is_in_sight_at (user_setting items) closings m place (types.Row 0) at)))
+
+-- all rows in sight where a word stands first are among these variables
+abbrev pub known_at : List Sighted → List Item → List ℕ → List ℕ → Method → Option Bool
+known_at vs items closings rounds m =
+    if_some (slice_get (mentions items (codes "go") m.from m.to) 0) (λ place.
+    Some (are_rows_known (user_setting items) closings (standing_of items closings (body_of m)) m place vs))
+
+abbrev pub KnowsRows : Bytes → List Sighted → Bool → Type 0
+KnowsRows source vs b = in_method source 0 (known_at vs) ≡ Some b
+
+abbrev pub user_variable : Bytes → JavaType → Sighted
+user_variable name java = record { name = name; java = java; outside = true; column = None }
 
 abbrev pub Sees : Bytes → Bool → Type 0
 Sees source b = in_method source 0 seen_at ≡ Some b
@@ -307,6 +337,20 @@ pub record WorkedNames : Type 0 where
   pub constant : Unhidden (codes "B" ∷ codes "MAX" ∷ []) (codes "class A { boolean f(int n) { return n > B.MAX; } }") true
   pub hidden_constant : Unhidden (codes "B" ∷ codes "MAX" ∷ []) (codes "class A { Odd B; boolean f(int n) { return n > B.MAX; } }") false
 
+-- ---- Rows in sight
+
+pub record WorkedRows : Type 0 where
+  pub of_nothing : KnowsRows (codes "class A { void f(int n) { go(); } }") ([]) true
+  pub of_parameter : KnowsRows (codes "class A { void f(User u) { go(); } }") ([]) false
+  pub of_known_parameter : KnowsRows (codes "class A { void f(User u) { go(); } }") (user_variable (codes "u") (types.Row 0) ∷ []) true
+  pub of_another_type : KnowsRows (codes "class A { void f(User u) { go(); } }") (user_variable (codes "u") (types.Rows 0) ∷ []) false
+  pub of_statement : KnowsRows (codes "class A { void f() { List<User> us = g(); if (b) { go(); } } }") ([]) false
+  pub of_known_statement : KnowsRows (codes "class A { void f() { List<User> us = g(); if (b) { go(); } } }") (user_variable (codes "us") (types.Rows 0) ∷ []) true
+  pub of_ended_block : KnowsRows (codes "class A { void f() { if (b) { User u = g(); } go(); } }") ([]) true
+  pub of_head : KnowsRows (codes "class A { void f() { for (User u : us) { go(); } } }") ([]) false
+  pub behind_head : KnowsRows (codes "class A { void f() { for (User u : us) { g(); } go(); } }") ([]) true
+  pub of_call : KnowsRows (codes "class A { void f() { User.all(); go(); } }") ([]) true
+
 pub record Worked : Type 0 where
   pub members : WorkedMembers
   pub guards : WorkedGuards
@@ -315,3 +359,4 @@ pub record Worked : Type 0 where
   pub fetches : WorkedFetches
   pub templates : WorkedTemplates
   pub names : WorkedNames
+  pub rows : WorkedRows

@@ -23,6 +23,6 @@ pub use guards::is_guarded;
 pub use method::{Outline, method_of, method_prefix_end};
 pub use nulls::{is_tested, tested_in};
 pub use obscured::{hides, is_clear, is_there, means_the_same};
-pub use outside::{is_in_sight_at, is_inside_try};
+pub use outside::{are_rows_known, is_in_sight_at, is_inside_try};
 pub use standing::{Standing, standing_of};
 pub use types::java_type_end;

@@ -1,5 +1,5 @@
 // Where a method tests variables for null.
-ghost use Rattle.std.specs.Prelude.{◌≡◌, ◌<◌, ◌≤◌, ◌+◌, ◌^◌, ◌++◌, OnOk, IfOk, IfSome, IsTrue, length, codes, Some, None, slice_get};
+ghost use Rattle.std.specs.Prelude.{◌≡◌, ◌<◌, ◌≤◌, ◌+◌, ◌^◌, ◌++◌, ◌||◌, OnOk, IfOk, IfSome, IsTrue, length, codes, Some, None, slice_get};
 ghost use Rattle.view_scope.specs.Nulls as specs;
 
 use qbs_base::{Items, NoMemory};
@@ -182,13 +182,92 @@ fn ended_from(items: &[Item], rounds: &[usize], number: usize) -> usize
     }
 }
 
-fn set_to_null(items: &[Item], rounds: &[usize], s: Stretch) -> Option<Stretch>
-    ensures { result ≡ specs.set_to_null items.now rounds.now s }
+/// What ends a statement, or begins or ends a block in it.
+fn ends_statement(items: &[Item], number: usize) -> bool
+    ensures { result ≡ specs.ends_statement items.now number }
 {
-    if s.from >= 2 && is_sign("=", items, s.from - 1) {
+    is_one_of_signs(&[";", "{", "}"], items, number)
+}
+
+fn is_equality_round(items: &[Item], s: Stretch) -> bool
+    ensures { result ≡ specs.is_equality_round items.now s }
+{
+    (s.from > 0 && is_equality(items, s.from - 1)) || is_equality(items, s.to)
+}
+
+/// Whether `null` stands at a number, and isn't compared with something.
+fn is_given_null(items: &[Item], number: usize) -> bool
+    ensures { result ≡ specs.is_given_null items.now number }
+{
+    is_null(items, number) && !is_equality_round(items, null_at(items, number))
+}
+
+fn gives_null_from(items: &[Item], number: usize, null_behind: bool) -> bool
+    ensures { result ≡ specs.gives_null_from items.now number null_behind }
+{
+    is_given_null(items, number) || (!ends_statement(items, number) && null_behind)
+}
+
+fn opens_at(items: &[Item], number: usize) -> bool
+    ensures { result ≡ specs.opens_at items.now number }
+{
+    is_one_of_signs(&["(", "[", "{"], items, number)
+}
+
+fn closes_at(items: &[Item], number: usize) -> bool
+    ensures { result ≡ specs.closes_at items.now number }
+{
+    is_one_of_signs(&[")", "]", "}"], items, number)
+}
+
+fn at_least_one(number: usize) -> usize
+    ensures { result ≡ specs.at_least_one number }
+{
+    if number == 0 { 1 } else { number }
+}
+
+/// How many brackets have to be open at an item, where it's so many behind it.
+fn least_before(items: &[Item], number: usize, least: usize) -> usize
+    requires { least + 1 < 2 ^ 64 }
+    ensures { result ≡ specs.least_before items.now number least }
+{
+    if opens_at(items, number) {
+        least.saturating_sub(1)
+    } else if closes_at(items, number) {
+        least + 1
+    } else if is_sign(";", items, number) {
+        at_least_one(least)
+    } else {
+        least
+    }
+}
+
+/// How many brackets of a statement have to be open at an item, at the least, for a `null` to stand behind it in that statement.
+fn least_from(items: &[Item], number: usize, least: Option<usize>) -> Option<usize>
+    requires { IfSome least (λ n. n + 1 < 2 ^ 64) }
+    ensures { result ≡ specs.least_from items.now number least }
+{
+    if is_given_null(items, number) {
+        return Some(0);
+    }
+    Some(least_before(items, number, least?))
+}
+
+/// Whether a `null` stands behind an item in its statement, where so many brackets have to be open for that, or before any block.
+fn is_behind(null_behind: bool, least: Option<usize>) -> bool
+    ensures { result ≡ (null_behind || specs.are_enough least 0) }
+{
+    null_behind || least == Some(0)
+}
+
+/// The variable that is set at a number, where a `null` stands behind it in the same statement.
+fn set_at(items: &[Item], rounds: &[usize], number: usize, null_behind: bool) -> Option<Stretch>
+    ensures { result ≡ specs.set_at items.now rounds.now number null_behind }
+{
+    if null_behind && (is_sign("=", items, number) && number > 0) {
         Some(Stretch {
-            from: ended_from(items, rounds, s.from - 2),
-            to: s.from - 1,
+            from: ended_from(items, rounds, number - 1),
+            to: number,
         })
     } else {
         None
@@ -243,7 +322,7 @@ fn tested_arguments(
     }
 }
 
-const TESTING_CALLS: [&str; 15] = [
+const TESTING_CALLS: [&str; 17] = [
     "isNull",
     "nonNull",
     "ofNullable",
@@ -258,6 +337,8 @@ const TESTING_CALLS: [&str; 15] = [
     "requireNonNullElseGet",
     "defaultString",
     "defaultIfNull",
+    "defaultIfBlank",
+    "defaultIfEmpty",
     "firstNonNull",
 ];
 
@@ -364,6 +445,37 @@ fn tested_first(
     }
 }
 
+const CALLS_TESTING_ALL: [&str; 13] = [
+    "isAnyBlank",
+    "isNoneBlank",
+    "isAllBlank",
+    "isAnyEmpty",
+    "isNoneEmpty",
+    "isAllEmpty",
+    "firstNonBlank",
+    "firstNonEmpty",
+    "firstNonNull",
+    "allNotNull",
+    "anyNull",
+    "allNull",
+    "anyNotNull",
+];
+
+/// The arguments of a call that tests all of them.
+fn tested_all(items: &[Item], closings: &[usize], number: usize) -> Option<Stretch>
+    requires { number < length items.now }
+    ensures { result ≡ specs.tested_all items.now closings.now number }
+{
+    if !(is_sign("(", items, number + 1) && is_one_of_words(&CALLS_TESTING_ALL, items, number)) {
+        return None;
+    }
+    let close = closing_at(items, closings, number + 1)?;
+    Some(Stretch {
+        from: number + 2,
+        to: close,
+    })
+}
+
 fn tested_class(items: &[Item], rounds: &[usize], number: usize) -> Option<Stretch>
     ensures { result ≡ specs.tested_class items.now rounds.now number }
 {
@@ -420,8 +532,22 @@ fn add_by_null(
 {
     add_some(list, compared_before(items, rounds, s))?;
     add_some(list, compared_behind(items, rounds, s))?;
-    add_some(list, set_to_null(items, rounds, s))?;
     add_some(list, asked(items, rounds, s))
+}
+
+fn add_by_name(
+    list: &mut Items<Stretch>,
+    items: &[Item],
+    closings: &[usize],
+    rounds: &[usize],
+    number: usize,
+) -> Result<(), NoMemory>
+    requires { number < length items.now }
+    ensures { OnOk result (list.new ≡ list.old ++ specs.tested_by_name items.now closings.now rounds.now number) }
+{
+    add_some(list, tested_first(items, closings, rounds, number))?;
+    add_some(list, tested_all(items, closings, number))?;
+    add_some(list, tested_class(items, rounds, number))
 }
 
 /// Adds what is tested by the item with this number.
@@ -437,15 +563,55 @@ fn add_tested(
     if is_null(items, number) {
         add_by_null(list, items, rounds, null_at(items, number))
     } else if is_name(items, number) {
-        add_some(list, tested_first(items, closings, rounds, number))?;
-        add_some(list, tested_class(items, rounds, number))
+        add_by_name(list, items, closings, rounds, number)
     } else {
         add_some(list, tested_arguments(items, closings, rounds, number))
     }
 }
 
-/// The stretches of a method's body, from a number up to another, in which each variable that is named is tested for null. Time goes with
-/// the number of items and how deep they stand. It fails only by want of memory.
+fn add_all_tested(
+    list: &mut Items<Stretch>,
+    items: &[Item],
+    closings: &[usize],
+    rounds: &[usize],
+    from: usize,
+    to: usize,
+) -> Result<(), NoMemory>
+    ensures { OnOk result (list.new ≡ list.old ++ specs.all_tested items.now closings.now rounds.now from to) }
+{
+    for number in from..to {
+        add_tested(list, items, closings, rounds, number)?;
+    }
+    Ok(())
+}
+
+/// Adds the variables that are set in statements that give null, going from the last item to the first, so that each item is looked at once.
+#[tactic(auto, using(crate::proofs::Sets::least_fits, crate::proofs::Sets::set_all))]
+fn add_set(
+    list: &mut Items<Stretch>,
+    items: &[Item],
+    rounds: &[usize],
+    from: usize,
+    to: usize,
+) -> Result<(), NoMemory>
+    ensures { OnOk result (list.new ≡ list.old ++ specs.all_set items.now rounds.now from to) }
+{
+    let mut null_behind = false;
+    let mut least = None;
+    let mut left = to.saturating_sub(from);
+    while left > 0 {
+        left -= 1;
+        let number = from + left;
+        let is_null_behind = is_behind(null_behind, least);
+        add_some(list, set_at(items, rounds, number, is_null_behind))?;
+        null_behind = gives_null_from(items, number, null_behind);
+        least = least_from(items, number, least);
+    }
+    Ok(())
+}
+
+/// The stretches of a method's body, from a number up to another, in which each variable that is named is tested for null or set to it. Time
+/// goes with the number of items and how deep they stand. It fails only by want of memory.
 pub fn tested_in(
     alloc: Global,
     items: &[Item],
@@ -457,9 +623,8 @@ pub fn tested_in(
     ensures { IfOk result (λ list. list ≡ specs.tested_in items.now closings.now rounds.now from to) }
 {
     let mut list = Items::new(alloc);
-    for number in from..to {
-        add_tested(&mut list, items, closings, rounds, number)?;
-    }
+    add_all_tested(&mut list, items, closings, rounds, from, to)?;
+    add_set(&mut list, items, rounds, from, to)?;
     Ok(list)
 }
 

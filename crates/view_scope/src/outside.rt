@@ -1,14 +1,17 @@
 // Which variables are in sight at a place of a method's body, and with what types.
-ghost use Rattle.std.specs.Prelude.{◌≡◌, ◌<◌, ◌≤◌, ◌^◌, IfSome, length, map, option_map};
+ghost use Rattle.std.specs.Prelude.{◌≡◌, ◌+◌, ◌<◌, ◌≤◌, ◌^◌, IfSome, IsTrue, length, map, option_copied, option_map};
 ghost use Rattle.view_rules.specs.Setting.{within_of};
 ghost use Rattle.view_scope.specs.Outside as specs;
 
 use crate::Standing;
 use crate::guards::{is_before_end_of, is_in_body, stands_before};
 use view_items::Item;
-use view_rules::{JavaType, Spelled, Within, fetch_at, is_element, same_type, type_at};
+use view_rules::{
+    JavaType, Sighted, Spelled, Within, bytes_at, fetch_at, find_sighted, is_element, same_type,
+    type_at,
+};
 use view_shapes::{
-    Method, Parameter, closing_at, is_one_of_signs, is_sign, is_word, variable_prefix_end,
+    Method, Parameter, closing_at, is_name, is_one_of_signs, is_sign, is_word, variable_prefix_end,
 };
 
 fn spells(spelled: Option<Spelled>, java: JavaType, name: usize) -> bool
@@ -245,6 +248,170 @@ pub fn is_in_sight_at(
     is_parameter(w, method.parameters.as_slice(), java, at)
         || is_declared_before(w, closings, standing, place, java, at)
         || is_in_head(w, closings, place, java, at, method.from)
+}
+
+// ---- Rows in sight
+
+fn is_of_rows(java: JavaType) -> bool
+    ensures { result ≡ specs.is_of_rows java }
+{
+    match java {
+        JavaType::Row(_) | JavaType::Rows(_) => true,
+        JavaType::Scalar(_) | JavaType::Scalars(_) | JavaType::Distinct(_) => false,
+    }
+}
+
+fn has_type(java: JavaType, v: Option<&Sighted>) -> bool
+    ensures { result ≡ specs.has_type java (option_copied v.entry) }
+{
+    match v {
+        Some(v) => same_type(v.java, java),
+        None => false,
+    }
+}
+
+/// Whether a variable is among these with its type, if it is one of rows.
+fn is_known(w: &Within, variables: &[Sighted], s: Spelled) -> bool
+    ensures { result ≡ specs.is_known (within_of w.now) variables.now s }
+{
+    !is_of_rows(s.java) || has_type(s.java, find_sighted(variables, bytes_at(w, s.to)))
+}
+
+fn is_parameter_known(w: &Within, variables: &[Sighted], p: Parameter) -> bool
+    ensures { result ≡ specs.is_parameter_known (within_of w.now) variables.now p }
+{
+    match type_at(w, p.ty) {
+        Some(s) => !(s.to == p.name) || is_known(w, variables, s),
+        None => true,
+    }
+}
+
+fn are_parameters_known(w: &Within, variables: &[Sighted], parameters: &[Parameter]) -> bool
+    ensures { result ≡ specs.are_parameters_known (within_of w.now) variables.now parameters.now }
+{
+    parameters
+        .iter()
+        .all(|p| is_parameter_known(w, variables, *p))
+}
+
+fn is_spelled_known(w: &Within, variables: &[Sighted], head: bool, spelled: Option<Spelled>) -> bool
+    ensures { result ≡ specs.is_spelled_known (within_of w.now) variables.now head spelled }
+{
+    match spelled {
+        Some(s) => { !is_followed(w, head, s.to) || is_known(w, variables, s) }
+        None => true,
+    }
+}
+
+/// Whether a name stands at a number, and behind it what may follow that of a variable.
+fn is_followed(w: &Within, head: bool, number: usize) -> bool
+    ensures { result ≡ specs.is_followed (within_of w.now) head number }
+{
+    is_name(w.items, number) && may_follow(w.items, head, number + 1)
+}
+
+fn is_declared_known(
+    w: &Within,
+    closings: &[usize],
+    variables: &[Sighted],
+    head: bool,
+    number: usize,
+) -> bool
+    ensures { result ≡ specs.is_declared_known (within_of w.now) closings.now variables.now head number }
+{
+    match variable_prefix_end(w.items, closings, number) {
+        Some(first) => is_spelled_known(w, variables, head, type_at(w, first)),
+        None => true,
+    }
+}
+
+fn is_standing_known(
+    w: &Within,
+    closings: &[usize],
+    variables: &[Sighted],
+    place: usize,
+    s: Standing,
+) -> bool
+    ensures { result ≡ specs.is_standing_known (within_of w.now) closings.now variables.now place s }
+{
+    !stands_before(place, s) || is_declared_known(w, closings, variables, false, s.statement.from)
+}
+
+fn are_standing_known(
+    w: &Within,
+    closings: &[usize],
+    variables: &[Sighted],
+    place: usize,
+    standing: &[Standing],
+) -> bool
+    ensures { result ≡ specs.are_standing_known (within_of w.now) closings.now variables.now place standing.now }
+{
+    for s in standing {
+        if !is_standing_known(w, closings, variables, place, *s) {
+            return false;
+        }
+    }
+    true
+}
+
+fn begins_for(items: &[Item], number: usize) -> bool
+    ensures value { result ≡ specs.begins_for items.now number }
+    ensures within { IsTrue result → number + 1 < length items.now }
+{
+    is_word("for", items, number) && is_sign("(", items, number + 1)
+}
+
+fn is_head_known(
+    w: &Within,
+    closings: &[usize],
+    variables: &[Sighted],
+    place: usize,
+    number: usize,
+) -> bool
+    ensures { result ≡ specs.is_head_known (within_of w.now) closings.now variables.now place number }
+{
+    if begins_for(w.items, number) && is_in_headed(w.items, closings, place, number + 1) {
+        is_declared_known(w, closings, variables, true, number + 2)
+    } else {
+        true
+    }
+}
+
+#[tactic(auto, using(view_shapes::proofs::Numbers::all_but, view_shapes::proofs::Numbers::all_next, view_shapes::proofs::Numbers::all_end))]
+fn are_heads_known(
+    w: &Within,
+    closings: &[usize],
+    variables: &[Sighted],
+    from: usize,
+    place: usize,
+) -> bool
+    ensures { result ≡ specs.are_heads_known (within_of w.now) closings.now variables.now from place }
+{
+    for number in from..place {
+        if !is_head_known(w, closings, variables, place, number) {
+            return false;
+        }
+    }
+    true
+}
+
+/// Whether each variable of a row or of a list of rows that is in sight at a place of a method's body is among these with its type: its
+/// parameters, what statements before the place declare in the same block or in one round it, of several variables of one the first, and what
+/// the heads of `for` round it do. Time goes with the items of the body and how deep they stand, and with these variables for each that is
+/// found.
+pub fn are_rows_known(
+    w: &Within,
+    closings: &[usize],
+    standing: &[Standing],
+    method: &Method,
+    place: usize,
+    variables: &[Sighted],
+) -> bool
+    ensures { result ≡ specs.are_rows_known (within_of w.now) closings.now standing.now method.now place variables.now }
+{
+    are_parameters_known(w, variables, method.parameters.as_slice())
+        && (are_standing_known(w, closings, variables, place, standing)
+            && are_heads_known(w, closings, variables, method.from, place))
 }
 
 fn is_tried_by(items: &[Item], closings: &[usize], place: usize, number: usize) -> bool

@@ -1,6 +1,6 @@
 use Rattle.view_scope.proofs.Flat.{flat_next, flat_end}
 use Rattle.view_scope.specs.Nulls.{tested_at}
-use Rattle.view_scope.proofs.nulls.tested_in.Goals as goal
+use Rattle.view_scope.proofs.nulls.add_all_tested.Goals as goal
 
 pub loop-number-preserved : goal.loop-number-preserved
 loop-number-preserved c =
