@@ -7,7 +7,7 @@ use Rattle.view_rules.specs.Options.{◌>>=◌}
 use Rattle.view_rules.specs.Tree.{PlainExpression}
 use Rattle.view_statements.specs.declared.frame.Place.{Place}
 use Rattle.view_statements.specs.Places.{Frame, inside, beside, in_loop, with_own}
-use Rattle.view_statements.specs.Statements.{Passed, with_sight, left, is_one, conditional, each_from, index_head, iterator_head, skip_head, past_brace, past_body, past_then, past_block, past_rest, past_else, other_from, statement_of, statements_of, body_of, other_of}
+use Rattle.view_statements.specs.Statements.{Passed, with_sight, left, conditional, each_from, index_head, iterator_head, skip_head, past_brace, past_body, past_then, past_block, past_rest, past_else, other_from, statement_of, statements_of, body_of, other_of}
 use Rattle.view_rules.specs.declared.expression.Expression.{Expression}
 use Rattle.view_rules.specs.Reading.{expression}
 use Rattle.view_statements.specs.declared.statement.Statement.{Statement}
@@ -79,21 +79,21 @@ turn_passed f p s mid new name java body begun r q declared last =
 
 pub if_passed : (f : Frame) (p : Place) (s mid new : List Sighted) (st : PlainStatement) (at : ℕ) (condition : PlainExpression) (close : ℕ) (braces : Bool)
     (body : PlainStatements) (end i len : ℕ) (begun r q : Option ℕ)
-    → st ≡ plain.If at condition close braces body end → begun ≡ conditional f s (codes "if") at condition close braces (is_one body) i → len ≡ length s
+    → st ≡ plain.If at condition close braces body end → begun ≡ conditional f s (codes "if") at condition close braces body i → len ≡ length s
     → with_sight mid r ≡ body_of f (inside p) s body begun → with_sight new q ≡ left len (past_then f braces end) (with_sight mid r)
     → with_sight new q ≡ statement_of f p s st i
 if_passed f p s mid new st at condition close braces body end i len begun r q is begins same inner last =
-    one_body (length s) len (past_then f braces end) mid new r q begun (conditional f s (codes "if") at condition close braces (is_one body) i)
+    one_body (length s) len (past_then f braces end) mid new r q begun (conditional f s (codes "if") at condition close braces body i)
     (λ b. statements_of f (inside p) s body b) begins same (inner ∙ body_is f (inside p) s body begun) last
     ∙ ap (λ (x : PlainStatement). statement_of f p s x i) (sym is)
 
 pub while_passed : (f : Frame) (p : Place) (s mid new : List Sighted) (st : PlainStatement) (at : ℕ) (condition : PlainExpression) (close : ℕ) (braces : Bool)
     (body : PlainStatements) (end i len : ℕ) (begun r q : Option ℕ)
-    → st ≡ plain.While at condition close braces body end → begun ≡ conditional f s (codes "while") at condition close braces (is_one body) i → len ≡ length s
+    → st ≡ plain.While at condition close braces body end → begun ≡ conditional f s (codes "while") at condition close braces body i → len ≡ length s
     → with_sight mid r ≡ body_of f (in_loop p false) s body begun → with_sight new q ≡ left len (past_body f braces end) (with_sight mid r)
     → with_sight new q ≡ statement_of f p s st i
 while_passed f p s mid new st at condition close braces body end i len begun r q is begins same inner last =
-    one_body (length s) len (past_body f braces end) mid new r q begun (conditional f s (codes "while") at condition close braces (is_one body) i)
+    one_body (length s) len (past_body f braces end) mid new r q begun (conditional f s (codes "while") at condition close braces body i)
     (λ b. statements_of f (in_loop p false) s body b) begins same (inner ∙ body_is f (in_loop p false) s body begun) last
     ∙ ap (λ (x : PlainStatement). statement_of f p s x i) (sym is)
 
@@ -110,11 +110,11 @@ skip_passed f p s mid new st at condition close braces body end i len begun r q 
 pub each_passed : (f : Frame) (p : Place) (s mid new : List Sighted) (st : PlainStatement) (at : ℕ) (by_var : Bool) (name : ℕ) (java : JavaType)
     (walked : PlainExpression) (close : ℕ) (braces : Bool) (body : PlainStatements) (end i len : ℕ) (begun r q : Option ℕ)
     → st ≡ plain.ForEach at by_var name java walked close braces body end
-    → begun ≡ each_from f s at by_var name java walked close braces (is_one body) i → len ≡ length s
+    → begun ≡ each_from f s at by_var name java walked close braces body i → len ≡ length s
     → with_sight mid r ≡ body_of f (in_loop p braces) (with_own f s name java) body begun
     → with_sight new q ≡ left len (past_body f braces end) (with_sight mid r) → with_sight new q ≡ statement_of f p s st i
 each_passed f p s mid new st at by_var name java walked close braces body end i len begun r q is begins same inner last =
-    one_body (length s) len (past_body f braces end) mid new r q begun (each_from f s at by_var name java walked close braces (is_one body) i)
+    one_body (length s) len (past_body f braces end) mid new r q begun (each_from f s at by_var name java walked close braces body i)
     (λ b. statements_of f (in_loop p braces) (with_own f s name java) body b) begins same (inner ∙ body_is f (in_loop p braces) (with_own f s name java) body begun) last
     ∙ ap (λ (x : PlainStatement). statement_of f p s x i) (sym is)
 
@@ -141,37 +141,37 @@ iterator_passed f p s mid new st at list name java body close end i len begun r 
 pub if_else_passed : (f : Frame) (p : Place) (s mid out within new : List Sighted) (st : PlainStatement) (at : ℕ) (condition : PlainExpression) (close : ℕ)
     (braces : Bool) (body : PlainStatements) (other_at : ℕ) (other_braces : Bool) (other : PlainStatements) (end i len : ℕ) (begun next r behind q last : Option ℕ)
     → st ≡ plain.IfElse at condition close braces body other_at other_braces other end
-    → begun ≡ conditional f s (codes "if") at condition close braces (is_one body) i → len ≡ length s
+    → begun ≡ conditional f s (codes "if") at condition close braces body i → len ≡ length s
     → with_sight mid r ≡ body_of f (inside p) s body begun → with_sight out behind ≡ left len (past_brace f braces) (with_sight mid r)
-    → next ≡ other_from f other_at other_braces (is_one other) behind → with_sight within q ≡ other_of f p out st next
+    → next ≡ other_from f other_at other_braces other behind → with_sight within q ≡ other_of f p out st next
     → with_sight new last ≡ left len (past_body f other_braces end) (with_sight within q) → with_sight new last ≡ statement_of f p s st i
 if_else_passed f p s mid out within new st at condition close braces body other_at other_braces other end i len begun next r behind q last
     is begins same first left_first goes_on second left_second =
     two_bodies (length s) len (past_brace f braces) (past_body f other_braces end) mid out within new r behind q last begun
-    (conditional f s (codes "if") at condition close braces (is_one body) i) next (λ b. statements_of f (inside p) s body b)
-    (λ e. past_else f other_at other_braces (is_one other) e) (λ v c. statements_of f (inside p) v other c)
+    (conditional f s (codes "if") at condition close braces body i) next (λ b. statements_of f (inside p) s body b)
+    (λ e. past_else f other_at other_braces other e) (λ v c. statements_of f (inside p) v other c)
     begins same (first ∙ body_is f (inside p) s body begun) left_first goes_on (second ∙ ap (λ (x : PlainStatement). other_of f p out x next) is ∙ body_is f (inside p) out other next) left_second
     ∙ ap (λ (x : PlainStatement). statement_of f p s x i) (sym is)
 
 -- ---- From what is lent to what it is of
 
-pub conditional_at : (f : Frame) (seen s : List Sighted) (word : List ℕ) (at : ℕ) (e condition : Expression) (close : ℕ) (braces one : Bool)
+pub conditional_at : (f : Frame) (seen s : List Sighted) (word : List ℕ) (at : ℕ) (e condition : Expression) (close : ℕ) (braces : Bool)
     (slice body : List Statement) (i : ℕ) (begun : Option ℕ)
-    → begun ≡ conditional f seen word at (expression e) close braces one i → seen ≡ s → e ≡ condition → one ≡ is_one (statements slice) → slice ≡ body
-    → begun ≡ conditional f s word at (expression condition) close braces (is_one (statements body)) i
-conditional_at f seen s word at e condition close braces one slice body i begun is sees same alone lent =
-    is ∙ ap (λ (v : List Sighted). conditional f v word at (expression e) close braces one i) sees
-    ∙ ap (λ (x : Expression). conditional f s word at (expression x) close braces one i) same
-    ∙ ap (λ (b : Bool). conditional f s word at (expression condition) close braces b i) (alone ∙ ap (λ (l : List Statement). is_one (statements l)) lent)
+    → begun ≡ conditional f seen word at (expression e) close braces (statements slice) i → seen ≡ s → e ≡ condition → slice ≡ body
+    → begun ≡ conditional f s word at (expression condition) close braces (statements body) i
+conditional_at f seen s word at e condition close braces slice body i begun is sees same lent =
+    is ∙ ap (λ (v : List Sighted). conditional f v word at (expression e) close braces (statements slice) i) sees
+    ∙ ap (λ (x : Expression). conditional f s word at (expression x) close braces (statements slice) i) same
+    ∙ ap (λ (l : List Statement). conditional f s word at (expression condition) close braces (statements l) i) lent
 
-pub each_at : (f : Frame) (seen s : List Sighted) (at : ℕ) (by_var : Bool) (name : ℕ) (java : JavaType) (e walked : Expression) (close : ℕ) (braces one : Bool)
+pub each_at : (f : Frame) (seen s : List Sighted) (at : ℕ) (by_var : Bool) (name : ℕ) (java : JavaType) (e walked : Expression) (close : ℕ) (braces : Bool)
     (slice body : List Statement) (i : ℕ) (begun : Option ℕ)
-    → begun ≡ each_from f seen at by_var name java (expression e) close braces one i → seen ≡ s → e ≡ walked → one ≡ is_one (statements slice) → slice ≡ body
-    → begun ≡ each_from f s at by_var name java (expression walked) close braces (is_one (statements body)) i
-each_at f seen s at by_var name java e walked close braces one slice body i begun is sees same alone lent =
-    is ∙ ap (λ (v : List Sighted). each_from f v at by_var name java (expression e) close braces one i) sees
-    ∙ ap (λ (x : Expression). each_from f s at by_var name java (expression x) close braces one i) same
-    ∙ ap (λ (b : Bool). each_from f s at by_var name java (expression walked) close braces b i) (alone ∙ ap (λ (l : List Statement). is_one (statements l)) lent)
+    → begun ≡ each_from f seen at by_var name java (expression e) close braces (statements slice) i → seen ≡ s → e ≡ walked → slice ≡ body
+    → begun ≡ each_from f s at by_var name java (expression walked) close braces (statements body) i
+each_at f seen s at by_var name java e walked close braces slice body i begun is sees same lent =
+    is ∙ ap (λ (v : List Sighted). each_from f v at by_var name java (expression e) close braces (statements slice) i) sees
+    ∙ ap (λ (x : Expression). each_from f s at by_var name java (expression x) close braces (statements slice) i) same
+    ∙ ap (λ (l : List Statement). each_from f s at by_var name java (expression walked) close braces (statements l) i) lent
 
 pub skip_at : (f : Frame) (p : Place) (seen s : List Sighted) (at : ℕ) (e condition : Expression) (close : ℕ) (braces : Bool) (i : ℕ) (begun : Option ℕ)
     → begun ≡ skip_head f p seen at (expression e) close braces i → seen ≡ s → e ≡ condition → begun ≡ skip_head f p s at (expression condition) close braces i
@@ -184,11 +184,10 @@ pub body_at : (f : Frame) (place p : Place) (s mid : List Sighted) (slice body :
 body_at f place p s mid slice body r begun is there lent =
     is ∙ ap (λ (x : Place). body_of f x s (statements slice) begun) there ∙ ap (λ (l : List Statement). body_of f p s (statements l) begun) lent
 
-pub further_at : (f : Frame) (other_at : ℕ) (braces one : Bool) (slice other : List Statement) (behind next : Option ℕ)
-    → next ≡ other_from f other_at braces one behind → one ≡ is_one (statements slice) → slice ≡ other
-    → next ≡ other_from f other_at braces (is_one (statements other)) behind
-further_at f other_at braces one slice other behind next is alone lent =
-    is ∙ ap (λ (b : Bool). other_from f other_at braces b behind) (alone ∙ ap (λ (l : List Statement). is_one (statements l)) lent)
+pub further_at : (f : Frame) (other_at : ℕ) (braces : Bool) (slice other : List Statement) (behind next : Option ℕ)
+    → next ≡ other_from f other_at braces (statements slice) behind → slice ≡ other → next ≡ other_from f other_at braces (statements other) behind
+further_at f other_at braces slice other behind next is lent =
+    is ∙ ap (λ (l : List Statement). other_from f other_at braces (statements l) behind) lent
 
 -- what stands behind `else`
 pub other_at : (f : Frame) (place p : Place) (s mid : List Sighted) (st : PlainStatement) (at : ℕ) (condition : PlainExpression) (close : ℕ) (braces : Bool)

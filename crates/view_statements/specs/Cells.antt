@@ -14,6 +14,8 @@ use Rattle.view_rules.specs.Tree as exprs
 use Rattle.view_statements.specs.declared.statement.Step.{Step}
 use Rattle.view_statements.specs.declared.statement.Step.TheVariants as counts
 use Rattle.view_statements.specs.declared.statement.SortKey.{SortKey}
+use Rattle.view_statements.specs.declared.statement.SortPart.{SortPart}
+use Rattle.view_statements.specs.declared.statement.SortPart.TheVariants as order
 use Rattle.view_statements.specs.Tree.{PlainStatement, PlainStatements, Nothing, Then}
 use Rattle.view_statements.specs.Tree as plain
 
@@ -67,36 +69,44 @@ extreme_cells w name greatest value end =
     ++ (made w name (extreme_sign greatest) ++ (item_cells w name
     ++ (made w name (codes ")") ++ in_braces w name end (set_cells w name name (codes "=") (expression_cells w value) end)))))
 
-abbrev pub reversed_words : Bool → List (List ℕ)
-reversed_words true = codes "." ∷ codes "reversed" ∷ codes "(" ∷ codes ")" ∷ []
-reversed_words false = []
-
 -- `x -> x . f` of a key in its call
 abbrev pub key_cells : Within → List ℕ → SortKey → List Cell
 key_cells w call key =
     all_made w key.at (call ∷ codes "(" ∷ codes "x" ∷ codes "->" ∷ codes "x" ∷ codes "." ∷ [])
-    ++ (made_of w key.at (column_name w key.class key.member) ++ (made w key.at (codes ")")
-    ++ all_made w key.at (reversed_words key.reversed)))
+    ++ (made_of w key.at (column_name w key.class key.member) ++ made w key.at (codes ")"))
 
 -- a key that is compared by where those before it are the same
 abbrev pub further_key : Within → SortKey → List Cell
 further_key w key = made w key.at (codes ".") ++ key_cells w (codes "thenComparing") key
 
-abbrev pub further_key_cells : Within → List SortKey → List Cell
-further_key_cells w [] = []
-further_key_cells w (key ∷ keys) = further_key w key ++ further_key_cells w keys
+-- both languages turn all that stands before it
+abbrev pub reversed_words : List (List ℕ)
+reversed_words = codes "." ∷ codes "reversed" ∷ codes "(" ∷ codes ")" ∷ []
+
+abbrev pub further_part : Within → SortPart → List Cell
+further_part w (order.Key key) = further_key w key
+further_part w (order.Reversed at) = all_made w at reversed_words
+
+abbrev pub further_cells : Within → List SortPart → List Cell
+further_cells w [] = []
+further_cells w (part ∷ parts) = further_part w part ++ further_cells w parts
 
 abbrev pub first_key : Within → SortKey → List Cell
 first_key w key = all_made w key.at (codes "Comparator" ∷ codes "." ∷ []) ++ key_cells w (codes "comparing") key
 
-abbrev pub comparator_cells : Within → List SortKey → List Cell
+-- a comparator begins with a key
+abbrev pub first_part : Within → SortPart → List Cell
+first_part w (order.Key key) = first_key w key
+first_part w (order.Reversed at) = []
+
+abbrev pub comparator_cells : Within → List SortPart → List Cell
 comparator_cells w [] = []
-comparator_cells w (key ∷ keys) = first_key w key ++ further_key_cells w keys
+comparator_cells w (part ∷ parts) = first_part w part ++ further_cells w parts
 
 -- `xs . sort ( C ) ;`
-abbrev pub sort_cells : Within → ℕ → ℕ → List SortKey → ℕ → List Cell
-sort_cells w at name keys end =
-    made w at (bytes_at w name) ++ (all_made w at (codes "." ∷ codes "sort" ∷ codes "(" ∷ []) ++ (comparator_cells w keys ++ all_made w end (codes ")" ∷ codes ";" ∷ [])))
+abbrev pub sort_cells : Within → ℕ → ℕ → List SortPart → ℕ → List Cell
+sort_cells w at name parts end =
+    made w at (bytes_at w name) ++ (all_made w at (codes "." ∷ codes "sort" ∷ codes "(" ∷ []) ++ (comparator_cells w parts ++ all_made w end (codes ")" ∷ codes ";" ∷ [])))
 
 -- `if ( c )` and the like
 abbrev pub head_cells : Within → ℕ → List ℕ → List Cell → ℕ → List Cell
@@ -135,7 +145,7 @@ abbrev mutual
   statement_cells w found (plain.Stepped at step name sign end) = stepped_cells w at step name sign end
   statement_cells w found (plain.Extreme name greatest variable_first value end) = extreme_cells w name greatest value end
   statement_cells w found (plain.Add name value close end) = added_cells w name (expression_cells w value) close end
-  statement_cells w found (plain.Sort at by_class list keys end) = sort_cells w at list keys end
+  statement_cells w found (plain.Sort at by_class list parts end) = sort_cells w at list parts end
   statement_cells w found (plain.If at condition close braces body end) =
       head_cells w at (codes "if") (expression_cells w condition) close ++ in_braces w close end (all_cells w found body)
   statement_cells w found (plain.IfElse at condition close braces body other_at other_braces other end) =

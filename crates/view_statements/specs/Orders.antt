@@ -19,6 +19,8 @@ use Rattle.view_shapes.specs.Found.{is_name}
 use Rattle.view_statements.specs.declared.statement.KeyForm.{KeyForm}
 use Rattle.view_statements.specs.declared.statement.KeyForm.TheVariants as forms
 use Rattle.view_statements.specs.declared.statement.SortKey.{SortKey}
+use Rattle.view_statements.specs.declared.statement.SortPart.{SortPart}
+use Rattle.view_statements.specs.declared.statement.SortPart.TheVariants as order
 use Rattle.view_statements.specs.Places.{Frame, is_new_name}
 
 -- the name of the row's class
@@ -73,27 +75,34 @@ abbrev pub past_key_in : Frame → List Sighted → SortKey → Member → ℕ �
 past_key_in f s key m i =
     past f.within (codes "(") i >>= λ j. here key.at j >>= λ k. past_key f s key m key.form k >>= λ l. past f.within (codes ")") l
 
-abbrev pub past_reversed : Frame → SortKey → ℕ → Option ℕ
-past_reversed f key i = if key.reversed then past_all f.within (codes "." ∷ codes "reversed" ∷ codes "(" ∷ codes ")" ∷ []) i else Some i
-
 -- `comparing(K)`, `comparingInt(K)`, or with `thenComparing`; the member is one of the row's class
 abbrev pub past_comparison : Frame → List Sighted → Bool → SortKey → ℕ → Option ℕ
 past_comparison f s first key i =
     member_of f.within key.class key.member >>= λ m. where_so (may_be_key f m && is_order_call f first m.java.kind i) i >>= λ h.
-    next f.within h >>= λ g. past_key_in f s key m g >>= λ j. past_reversed f key j
+    next f.within h >>= λ g. past_key_in f s key m g
 
--- further keys of the same class
-abbrev pub past_keys : Frame → List Sighted → ℕ → List SortKey → ℕ → Option ℕ
-past_keys f s class [] i = Some i
-past_keys f s class (key ∷ keys) i =
-    where_so (key.class == class) i >>= λ g. past f.within (codes ".") g >>= λ h. past_comparison f s false key h >>= λ k. past_keys f s class keys k
+-- `.thenComparing(K)` with a further key of the same class, or `.reversed()`, which turns all before it
+abbrev pub past_part : Frame → List Sighted → ℕ → SortPart → ℕ → Option ℕ
+past_part f s class (order.Key key) i =
+    where_so (key.class == class) i >>= λ g. past f.within (codes ".") g >>= λ h. past_comparison f s false key h
+past_part f s class (order.Reversed at) i =
+    here at i >>= λ h. past_all f.within (codes "." ∷ codes "reversed" ∷ codes "(" ∷ codes ")" ∷ []) h
+
+abbrev pub past_parts : Frame → List Sighted → ℕ → List SortPart → ℕ → Option ℕ
+past_parts f s class [] i = Some i
+past_parts f s class (part ∷ parts) i = past_part f s class part i >>= λ k. past_parts f s class parts k
+
+-- `Comparator.comparing(K)` with a key of this class
+abbrev pub past_first : Frame → List Sighted → ℕ → SortPart → ℕ → Option ℕ
+past_first f s class (order.Key key) i =
+    where_so (is_clear f.within (codes "Comparator") && (key.class == class)) i >>= λ g.
+    past_all f.within (codes "Comparator" ∷ codes "." ∷ []) g >>= λ h. past_comparison f s true key h
+past_first f s class (order.Reversed at) i = None
 
 -- a comparator of rows of this class, with at least one key
-abbrev pub past_comparator : Frame → List Sighted → ℕ → List SortKey → ℕ → Option ℕ
+abbrev pub past_comparator : Frame → List Sighted → ℕ → List SortPart → ℕ → Option ℕ
 past_comparator f s class [] i = None
-past_comparator f s class (key ∷ keys) i =
-    where_so (is_clear f.within (codes "Comparator") && (key.class == class)) i >>= λ g.
-    past_all f.within (codes "Comparator" ∷ codes "." ∷ []) g >>= λ h. past_comparison f s true key h >>= λ k. past_keys f s class keys k
+past_comparator f s class (part ∷ parts) i = past_first f s class part i >>= λ k. past_parts f s class parts k
 
 -- a list of rows
 abbrev pub class_of_rows : JavaType → Option ℕ
@@ -105,19 +114,19 @@ abbrev pub rows_at : Frame → List Sighted → ℕ → ℕ → Option ℕ
 rows_at f s list i = here list i >>= λ h. many_at f.within s h >>= λ java. class_of_rows java
 
 -- `xs.sort(C)` or `Collections.sort(xs, C)`, with a semicolon behind
-abbrev pub ordered_by_list : Frame → List Sighted → ℕ → List SortKey → ℕ → Option ℕ
-ordered_by_list f s list keys i =
+abbrev pub ordered_by_list : Frame → List Sighted → ℕ → List SortPart → ℕ → Option ℕ
+ordered_by_list f s list parts i =
     rows_at f s list i >>= λ class. next f.within i >>= λ h.
-    past_all f.within (codes "." ∷ codes "sort" ∷ codes "(" ∷ []) h >>= λ j. past_comparator f s class keys j >>= λ k.
+    past_all f.within (codes "." ∷ codes "sort" ∷ codes "(" ∷ []) h >>= λ j. past_comparator f s class parts j >>= λ k.
     past_all f.within (codes ")" ∷ codes ";" ∷ []) k
 
-abbrev pub ordered_by_class : Frame → List Sighted → ℕ → List SortKey → ℕ → Option ℕ
-ordered_by_class f s list keys i =
+abbrev pub ordered_by_class : Frame → List Sighted → ℕ → List SortPart → ℕ → Option ℕ
+ordered_by_class f s list parts i =
     where_so (is_clear f.within (codes "Collections")) i >>= λ h.
     past_all f.within (codes "Collections" ∷ codes "." ∷ codes "sort" ∷ codes "(" ∷ []) h >>= λ x.
     rows_at f s list x >>= λ class. next f.within x >>= λ g. past f.within (codes ",") g >>= λ j.
-    past_comparator f s class keys j >>= λ k. past_all f.within (codes ")" ∷ codes ";" ∷ []) k
+    past_comparator f s class parts j >>= λ k. past_all f.within (codes ")" ∷ codes ";" ∷ []) k
 
-abbrev pub ordered_by : Frame → List Sighted → Bool → ℕ → List SortKey → ℕ → Option ℕ
-ordered_by f s true list keys i = ordered_by_class f s list keys i
-ordered_by f s false list keys i = ordered_by_list f s list keys i
+abbrev pub ordered_by : Frame → List Sighted → Bool → ℕ → List SortPart → ℕ → Option ℕ
+ordered_by f s true list parts i = ordered_by_class f s list parts i
+ordered_by f s false list parts i = ordered_by_list f s list parts i

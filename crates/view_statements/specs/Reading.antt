@@ -17,7 +17,7 @@ abbrev mutual
   statement (stmts.Stepped at step name sign end) = plain.Stepped at step name sign end
   statement (stmts.Extreme name greatest variable_first value end) = plain.Extreme name greatest variable_first (expression value.value) end
   statement (stmts.Add name value close end) = plain.Add name (expression value.value) close end
-  statement (stmts.Sort at by_class list keys end) = plain.Sort at by_class list keys end
+  statement (stmts.Sort at by_class list parts end) = plain.Sort at by_class list parts end
   statement (stmts.If' at condition close braces _ body end) = plain.If at (expression condition.value) close braces (row body) end
   statement (stmts.IfElse' at condition close braces _ body other_at other_braces _ other end) =
       plain.IfElse at (expression condition.value) close braces (row body) other_at other_braces (row other) end

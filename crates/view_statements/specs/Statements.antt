@@ -16,7 +16,7 @@ use Rattle.view_rules.specs.Tree as exprs
 use Rattle.view_statements.specs.declared.frame.Place.{Place}
 use Rattle.view_statements.specs.declared.statement.Step.{Step}
 use Rattle.view_statements.specs.declared.statement.Step.TheVariants as counts
-use Rattle.view_statements.specs.declared.statement.SortKey.{SortKey}
+use Rattle.view_statements.specs.declared.statement.SortPart.{SortPart}
 use Rattle.view_statements.specs.Orders.{ordered_by}
 use Rattle.view_statements.specs.Places.{Frame, inside, beside, in_loop, is_new_name, with_own, with_column, own_from_here, name_at, is_hashed, may_be_hashed}
 use Rattle.view_statements.specs.Steps.{value_to, past_close, condition_in, declared_at, inferred_at, is_inferred, set_at, counted_at, walker, size_words, counted_words, get_words, iterator_words, next_words, are_unnamed}
@@ -173,8 +173,8 @@ added f s name value close i =
     past_all f.within (codes "." ∷ codes "add" ∷ codes "(" ∷ []) g >>= λ j. expression_of f.within s value j >>= λ e.
     where_so (may_be_added java e.1) e.0 >>= λ k. past_close f close k >>= λ l. past f.within (codes ";") l
 
-abbrev pub ordered : Frame → List Sighted → ℕ → Bool → ℕ → List SortKey → ℕ → Option ℕ
-ordered f s at by_class list keys i = here at i >>= λ h. ordered_by f s by_class list keys h
+abbrev pub ordered : Frame → List Sighted → ℕ → Bool → ℕ → List SortPart → ℕ → Option ℕ
+ordered f s at by_class list parts i = here at i >>= λ h. ordered_by f s by_class list parts h
 
 -- ---- Bodies
 
@@ -182,14 +182,14 @@ abbrev pub is_nothing : PlainStatements → Bool
 is_nothing Nothing = true
 is_nothing (Then st sts) = false
 
-abbrev pub is_one : PlainStatements → Bool
-is_one Nothing = false
-is_one (Then st sts) = is_nothing sts
+-- without braces one statement, or a semicolon, which is a statement that does nothing
+abbrev pub bare_from : Frame → PlainStatements → ℕ → Option ℕ
+bare_from f Nothing i = past f.within (codes ";") i
+bare_from f (Then st sts) i = where_so (is_nothing sts) i
 
--- a body in braces, or of one statement
-abbrev pub body_from : Frame → Bool → Bool → ℕ → Option ℕ
-body_from f true one i = past f.within (codes "{") i
-body_from f false one i = where_so one i
+abbrev pub body_from : Frame → Bool → PlainStatements → ℕ → Option ℕ
+body_from f true body i = past f.within (codes "{") i
+body_from f false body i = bare_from f body i
 
 abbrev pub past_brace : Frame → Bool → ℕ → Option ℕ
 past_brace f true i = past f.within (codes "}") i
@@ -203,12 +203,12 @@ abbrev pub past_then : Frame → Bool → ℕ → ℕ → Option ℕ
 past_then f braces end i = past_body f braces end i >>= λ j. where_so (not (is_at f.within j (codes "else"))) j
 
 -- `else`, and what begins its body
-abbrev pub past_else : Frame → ℕ → Bool → Bool → ℕ → Option ℕ
-past_else f other_at braces one i = here other_at i >>= λ h. past f.within (codes "else") h >>= λ j. body_from f braces one j
+abbrev pub past_else : Frame → ℕ → Bool → PlainStatements → ℕ → Option ℕ
+past_else f other_at braces other i = here other_at i >>= λ h. past f.within (codes "else") h >>= λ j. body_from f braces other j
 
 -- where the second body begins, from behind the first
-abbrev pub other_from : Frame → ℕ → Bool → Bool → Option ℕ → Option ℕ
-other_from f other_at braces one passed = passed >>= λ e. past_else f other_at braces one e
+abbrev pub other_from : Frame → ℕ → Bool → PlainStatements → Option ℕ → Option ℕ
+other_from f other_at braces other passed = passed >>= λ e. past_else f other_at braces other e
 
 -- the brace of a number that is named
 abbrev pub past_block : Frame → ℕ → ℕ → ℕ → Option ℕ
@@ -225,8 +225,8 @@ left n past (Some e) = with_sight (take n e.1) (past e.0)
 
 -- ---- Loops and conditions, up to their bodies
 
-abbrev pub conditional : Frame → List Sighted → List ℕ → ℕ → PlainExpression → ℕ → Bool → Bool → ℕ → Option ℕ
-conditional f s word at condition close braces one i = condition_in f s word condition at close i >>= λ j. body_from f braces one j
+abbrev pub conditional : Frame → List Sighted → List ℕ → ℕ → PlainExpression → ℕ → Bool → PlainStatements → ℕ → Option ℕ
+conditional f s word at condition close braces body i = condition_in f s word condition at close i >>= λ j. body_from f braces body j
 
 -- what is walked, with its type; the order of a hash set isn't known
 abbrev pub walked_to : Frame → List Sighted → ℕ → PlainExpression → Option Seen
@@ -239,9 +239,9 @@ each_head f s at inferred name java walked close i =
     here at i >>= λ h. past_all f.within (codes "for" ∷ codes "(" ∷ []) h >>= λ j. walked_to f s name walked >>= λ many.
     walker f s inferred name j many.1 >>= λ declared. where_so (same_type declared java) many.0 >>= λ k. past_close f close k
 
-abbrev pub each_from : Frame → List Sighted → ℕ → Bool → ℕ → JavaType → PlainExpression → ℕ → Bool → Bool → ℕ → Option ℕ
-each_from f s at inferred name java walked close braces one i =
-    each_head f s at inferred name java walked close i >>= λ j. body_from f braces one j
+abbrev pub each_from : Frame → List Sighted → ℕ → Bool → ℕ → JavaType → PlainExpression → ℕ → Bool → PlainStatements → ℕ → Option ℕ
+each_from f s at inferred name java walked close braces body i =
+    each_head f s at inferred name java walked close i >>= λ j. body_from f braces body j
 
 -- `T x` with the name at a number, up to the words behind it
 abbrev pub element_to : Frame → List Sighted → ℕ → JavaType → JavaType → List (List ℕ) → ℕ → Option ℕ
@@ -332,42 +332,50 @@ abbrev mutual
   statement_of f p s (plain.Inferred at name java value end) i = ending f end (with_own f s name java) (inferred f s at name java value i)
   -- from here on it is the slice's own, and nothing of the slice has named it before
   statement_of f p s (plain.FirstSet name java value end) i = ending f end (own_from_here (name_at f name) s) (first_set f p s name java value i)
+  -- the value is evaluated before the name is set, and Java widens an `int` to the same `long`
   statement_of f p s (plain.Assignment name value end) i = ending f end s (assignment f s name value i)
   -- Java narrows the sum to the variable's type, and it is within that
   statement_of f p s (plain.Added name value end) i = ending f end s (changed f s (codes "+=") name value i)
+  -- and so it does with the difference
   statement_of f p s (plain.Lessened name value end) i = ending f end s (changed f s (codes "-=") name value i)
+  -- nobody reads what a step gives as an expression, so before and behind the name it is the same
   statement_of f p s (plain.Stepped at step name sign end) i = ending f end s (stepped f s at step name sign i)
   -- the greater one is x where e isn't above x, and e has no effect
   statement_of f p s (plain.Extreme name greatest variable_first value end) i = ending f end s (extreme f s name greatest variable_first value i)
   -- a list puts it last, and a linked set keeps the first place
   statement_of f p s (plain.Add name value close end) i = ending f end s (added f s name value close i)
   -- both sorts are stable
-  statement_of f p s (plain.Sort at by_class list keys end) i = ending f end s (ordered f s at by_class list keys i)
+  statement_of f p s (plain.Sort at by_class list parts end) i = ending f end s (ordered f s at by_class list parts i)
+  -- the condition is evaluated once, and what the body declares is out of sight behind it
   statement_of f p s (plain.If at condition close braces body end) i =
-      conditional f s (codes "if") at condition close braces (is_one body) i >>= λ b.
+      conditional f s (codes "if") at condition close braces body i >>= λ b.
       left (length s) (past_then f braces end) (statements_of f (inside p) s body b)
+  -- one of both bodies runs, and the `else` is that of this `if`
   statement_of f p s (plain.IfElse at condition close braces body other_at other_braces other end) i =
-      conditional f s (codes "if") at condition close braces (is_one body) i >>= λ b.
+      conditional f s (codes "if") at condition close braces body i >>= λ b.
       left (length s) (past_brace f braces) (statements_of f (inside p) s body b) >>= λ e.
-      past_else f other_at other_braces (is_one other) e.0 >>= λ c.
+      past_else f other_at other_braces other e.0 >>= λ c.
       left (length s) (past_body f other_braces end) (statements_of f (inside p) e.1 other c)
   -- what is walked is evaluated once
   statement_of f p s (plain.ForEach at by_var name java walked close braces body end) i =
-      each_from f s at by_var name java walked close braces (is_one body) i >>= λ b.
+      each_from f s at by_var name java walked close braces body i >>= λ b.
       left (length s) (past_body f braces end) (statements_of f (in_loop p braces) (with_own f s name java) body b)
   -- each place from 0 to the size is come to once, since the body names neither the index nor the list
   statement_of f p s (plain.ForIndex at list first name java body close end) i =
       index_head f s at list first name java close i >>= λ b.
       left (length s) (past_block f close end) (statements_of f (in_loop p true) (with_own f s name java) body b)
+  -- each element is come to once, in order, since the body names neither the iterator nor the list
   statement_of f p s (plain.ForIterator at list name java body close end) i =
       iterator_head f s at list name java close i >>= λ b.
       left (length s) (past_block f close end) (statements_of f (in_loop p true) (with_own f s name java) body b)
   -- a member gives one value throughout the slice, which sets neither the name nor the row
   statement_of f p s (plain.Named at name java value end) i =
       with_named (with_columned f s name java (column_of f value)) (ended f end (named_column f p s at name java value i))
+  -- the condition is evaluated anew before each turn
   statement_of f p s (plain.While at condition close braces body end) i =
-      conditional f s (codes "while") at condition close braces (is_one body) i >>= λ b.
+      conditional f s (codes "while") at condition close braces body i >>= λ b.
       left (length s) (past_body f braces end) (statements_of f (in_loop p false) s body b)
+  -- it leaves the innermost loop, and there is one in the slice
   statement_of f p s (plain.Break at end) i = ending f end s (broken_off f p at i)
   -- the rest goes to the end of the block, so to skip it is to go on with the next turn
   statement_of f p s (plain.Skip at condition close braces rest end) i =

@@ -3,7 +3,7 @@ use Rattle.std.specs.Prelude.{ℕ, List, Bool}
 use Rattle.view_rules.specs.declared.java_type.JavaType.{JavaType}
 use Rattle.view_rules.specs.Tree.{PlainExpression}
 use Rattle.view_statements.specs.declared.statement.Step.{Step}
-use Rattle.view_statements.specs.declared.statement.SortKey.{SortKey}
+use Rattle.view_statements.specs.declared.statement.SortPart.{SortPart}
 
 -- The last number of each is that of its last item.
 mutual
@@ -17,7 +17,7 @@ mutual
     Stepped : ℕ → Step → ℕ → ℕ → ℕ → PlainStatement
     Extreme : ℕ → Bool → Bool → PlainExpression → ℕ → PlainStatement
     Add : ℕ → PlainExpression → ℕ → ℕ → PlainStatement
-    Sort : ℕ → Bool → ℕ → List SortKey → ℕ → PlainStatement
+    Sort : ℕ → Bool → ℕ → List SortPart → ℕ → PlainStatement
     If : ℕ → PlainExpression → ℕ → Bool → PlainStatements → ℕ → PlainStatement
     IfElse : ℕ → PlainExpression → ℕ → Bool → PlainStatements → ℕ → Bool → PlainStatements → ℕ → PlainStatement
     ForEach : ℕ → Bool → ℕ → JavaType → PlainExpression → ℕ → Bool → PlainStatements → ℕ → PlainStatement

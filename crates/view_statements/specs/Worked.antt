@@ -22,6 +22,9 @@ use Rattle.view_rules.specs.declared.sight.Sighted.{Sighted}
 use Rattle.view_rules.specs.Setting.{Within}
 use Rattle.view_rules.specs.Tree.{PlainExpression}
 use Rattle.view_rules.specs.Tree as exprs
+use Rattle.view_statements.specs.declared.statement.KeyForm.TheVariants as forms
+use Rattle.view_statements.specs.declared.statement.SortPart.{SortPart}
+use Rattle.view_statements.specs.declared.statement.SortPart.TheVariants as order
 use Rattle.view_statements.specs.declared.statement.Step.TheVariants as counts
 use Rattle.view_statements.specs.Cells.{statement_cells}
 use Rattle.view_statements.specs.Places.{Frame, at_top, own_from_here}
@@ -95,7 +98,7 @@ within source =
       constants = [];
       params = [];
       tested = [];
-      clear = codes "Math" ∷ [];
+      clear = codes "Math" ∷ codes "Comparator" ∷ [];
       gets = true;
     }
 
@@ -187,11 +190,31 @@ inner_else = plain.If 0 (exprs.Variable 2) 3 false (one (plain.IfElse 4 (exprs.V
 abbrev pub outer_else : PlainStatement
 outer_else = plain.IfElse 0 (exprs.Variable 2) 3 false (one (plain.If 4 (exprs.Variable 6) 7 false (one (counted 8)) 10)) 11 false (one (lessened 12)) 14
 
+-- with a semicolon in place of a statement, and with two statements behind it
+abbrev pub empty : List ℕ
+empty = codes "if (a) ; else n++;"
+
+abbrev pub empty_then : PlainStatement
+empty_then = plain.IfElse 0 (exprs.Variable 2) 3 false Nothing 5 false (one (counted 6)) 8
+
+abbrev pub empty_walk : List ℕ
+empty_walk = codes "for (UserAccount u : us) ; n++;"
+
+abbrev pub walking_nothing : PlainStatements → ℕ → PlainStatement
+walking_nothing body end = plain.ForEach 0 false 3 (types.Row 0) (exprs.Variable 5) 6 false body end
+
 -- an `else` belongs to the nearest `if`
 pub record WorkedElse : Type 0 where
   pub inner : seen either inner_else ≡ Some (15, sight)
   pub its_tokens : tokens either inner_else ≡ words (codes "if (a) { if (b) { n++; } else { n = n - 1; } }")
   pub outer : seen either outer_else ≡ None
+
+-- a semicolon is a body in which nothing is done, and what stands behind it isn't in it
+pub record WorkedEmpty : Type 0 where
+  pub branch : seen empty empty_then ≡ Some (9, sight)
+  pub its_tokens : tokens empty empty_then ≡ words (codes "if (a) { } else { n++; }")
+  pub walk : seen empty_walk (walking_nothing Nothing 7) ≡ Some (8, sight)
+  pub behind : seen empty_walk (walking_nothing (one (counted 8)) 10) ≡ None
 
 -- ---- Sets and lists
 
@@ -249,3 +272,20 @@ pub record WorkedCasts : Type 0 where
   pub as_long : seen (narrowed (codes "long")) (narrowing kinds.Long) ≡ None
   pub to_int : is_some (seen_of kinds.Int) ≡ true
   pub to_long : seen_of kinds.Long ≡ None
+
+-- ---- Orders that are turned
+
+abbrev pub sorted : List ℕ
+sorted = codes "us.sort(Comparator.comparing(u -> u.getAge()).reversed().thenComparing(u -> u.getId()).reversed().reversed());"
+
+abbrev key : ℕ → ℕ → SortPart
+key at member = order.Key (record { at = at; form = forms.Lambda; class = 0; member = member })
+
+abbrev pub sorting : List SortPart → PlainStatement
+sorting last = plain.Sort 0 false 0 (key 8 2 ∷ order.Reversed 16 ∷ key 23 0 ∷ order.Reversed 31 ∷ last) 40
+
+-- `.reversed()` turns all before it in both languages, as often as it stands there
+pub record WorkedOrders : Type 0 where
+  pub turned : seen sorted (sorting (order.Reversed 35 ∷ [])) ≡ Some (41, sight)
+  pub its_tokens : tokens sorted (sorting (order.Reversed 35 ∷ [])) ≡ words (codes "us.sort(Comparator.comparing(x -> x.age).reversed().thenComparing(x -> x.id).reversed().reversed());")
+  pub once_less : seen sorted (sorting []) ≡ None

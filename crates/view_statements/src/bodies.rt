@@ -24,26 +24,23 @@ fn is_nothing(body: &[Statement]) -> bool
     }
 }
 
-/// Whether there is one statement.
-pub fn is_one(body: &[Statement]) -> bool
-    ensures { result ≡ specs.is_one (statements body.now) }
+fn bare_from(f: &Frame, body: &[Statement], i: usize) -> Option<usize>
+    ensures { result ≡ specs.bare_from (frame_of f.now) (statements body.now) i }
 {
     match body {
-        [] => false,
-        [_st, rest @ ..] => is_nothing(rest),
+        [] => past(f.within, b";", i),
+        [_st, rest @ ..] => { if is_nothing(rest) { Some(i) } else { None } }
     }
 }
 
-/// Where the statements of a body begin.
-pub fn body_from(f: &Frame, braces: bool, one: bool, i: usize) -> Option<usize>
-    ensures { result ≡ specs.body_from (frame_of f.now) braces one i }
+/// Where the statements of a body begin; behind a semicolon that stands for none.
+pub fn body_from(f: &Frame, braces: bool, body: &[Statement], i: usize) -> Option<usize>
+    ensures { result ≡ specs.body_from (frame_of f.now) braces (statements body.now) i }
 {
     if braces {
         past(f.within, b"{", i)
-    } else if one {
-        Some(i)
     } else {
-        None
+        bare_from(f, body, i)
     }
 }
 
@@ -75,12 +72,18 @@ fn past_then(f: &Frame, braces: bool, end: usize, i: usize) -> Option<usize>
     }
 }
 
-fn past_else(f: &Frame, other_at: usize, braces: bool, one: bool, i: usize) -> Option<usize>
-    ensures { result ≡ specs.past_else (frame_of f.now) other_at braces one i }
+fn past_else(
+    f: &Frame,
+    other_at: usize,
+    braces: bool,
+    other: &[Statement],
+    i: usize,
+) -> Option<usize>
+    ensures { result ≡ specs.past_else (frame_of f.now) other_at braces (statements other.now) i }
 {
     let h = here(other_at, i)?;
     let j = past(f.within, b"else", h)?;
-    body_from(f, braces, one, j)
+    body_from(f, braces, other, j)
 }
 
 /// Where the statements behind `else` begin, behind the statements before it.
@@ -88,12 +91,12 @@ pub fn other_from(
     f: &Frame,
     other_at: usize,
     braces: bool,
-    one: bool,
+    other: &[Statement],
     passed: Option<usize>,
 ) -> Option<usize>
-    ensures { result ≡ specs.other_from (frame_of f.now) other_at braces one passed }
+    ensures { result ≡ specs.other_from (frame_of f.now) other_at braces (statements other.now) passed }
 {
-    past_else(f, other_at, braces, one, passed?)
+    past_else(f, other_at, braces, other, passed?)
 }
 
 fn past_block(f: &Frame, close: usize, end: usize, i: usize) -> Option<usize>

@@ -4,9 +4,7 @@ ghost use Rattle.view_statements.specs.Places.{frame_of, with_own};
 ghost use Rattle.view_statements.specs.Reading.{statement, statements};
 ghost use Rattle.view_statements.specs.Statements as specs;
 
-use crate::bodies::{
-    is_one, leave_block, leave_body, leave_brace, leave_rest, leave_then, other_from,
-};
+use crate::bodies::{leave_block, leave_body, leave_brace, leave_rest, leave_then, other_from};
 use crate::declared::{declaration, declare, ended, inferred, make_own, name_column, named_column};
 use crate::loops::{
     broken_off, conditional, each_from, found_at, index_head, iterator_head, skip_head,
@@ -116,7 +114,7 @@ pub fn check_statement(
             at,
             by_class,
             list,
-            keys,
+            parts,
             end,
         } => Ok(ended(
             f,
@@ -127,7 +125,7 @@ pub fn check_statement(
                 *at,
                 *by_class,
                 *list,
-                keys.as_slice(),
+                parts.as_slice(),
                 i,
             ),
         )),
@@ -147,7 +145,7 @@ pub fn check_statement(
                 condition,
                 *close,
                 *braces,
-                is_one(body.as_slice()),
+                body.as_slice(),
                 i,
             );
             let len = sight.len();
@@ -173,14 +171,13 @@ pub fn check_statement(
                 condition,
                 *close,
                 *braces,
-                is_one(body.as_slice()),
+                body.as_slice(),
                 i,
             );
             let len = sight.len();
             let first = check_body(alloc, f, inside(p), sight, body.as_slice(), begun)?;
             let behind = leave_brace(f, sight, len, *braces, first);
-            let one = is_one(other.as_slice());
-            let further = other_from(f, *other_at, *other_braces, one, behind);
+            let further = other_from(f, *other_at, *other_braces, other.as_slice(), behind);
             let second = check_other(alloc, f, p, sight, st, further)?;
             Ok(leave_body(f, sight, len, *other_braces, *end, second))
         }
@@ -205,7 +202,7 @@ pub fn check_statement(
                 walked,
                 *close,
                 *braces,
-                is_one(body.as_slice()),
+                body.as_slice(),
                 i,
             );
             let len = sight.len();
@@ -304,7 +301,7 @@ pub fn check_statement(
                 condition,
                 *close,
                 *braces,
-                is_one(body.as_slice()),
+                body.as_slice(),
                 i,
             );
             let len = sight.len();

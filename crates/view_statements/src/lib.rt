@@ -24,6 +24,6 @@ pub use loops::truth_word;
 pub use pushing::{put_statement, put_statements};
 pub use sights::{copied, is_no_word, is_seen_name, push_onto, push_own};
 pub use slice::{Ending, Group, Printed, Read, Slice, Sliced, Words};
-pub use statement::{KeyForm, SortKey, Statement, Step};
+pub use statement::{KeyForm, SortKey, SortPart, Statement, Step};
 pub use steps::is_handed;
 pub use words::{is_among, is_reserved};

@@ -2,13 +2,14 @@
 ghost use Rattle.std.specs.Prelude.{◌≡◌, map};
 ghost use Rattle.view_rules.specs.Reading.{expression};
 ghost use Rattle.view_statements.specs.Places.{frame_of};
+ghost use Rattle.view_statements.specs.Reading.{statements};
 ghost use Rattle.view_statements.specs.Statements as specs;
 ghost use Rattle.view_statements.specs.Steps as steps;
 
 use crate::bodies::body_from;
 use crate::sights::{is_hashed, is_new_name};
 use crate::steps::{are_unnamed, condition_in, past_close, walker};
-use crate::{Frame, Place};
+use crate::{Frame, Place, Statement};
 use view_rules::{
     Expression, JavaType, Sighted, argument_at, bytes_at, check_walked, here, is_clear, is_element,
     is_list, many_at, next, past, past_all, same_type,
@@ -23,13 +24,13 @@ pub fn conditional(
     condition: &Expression,
     close: usize,
     braces: bool,
-    one: bool,
+    body: &[Statement],
     i: usize,
 ) -> Option<usize>
-    ensures { result ≡ specs.conditional (frame_of f.now) sight.now word.now at (expression condition.now) close braces one i }
+    ensures { result ≡ specs.conditional (frame_of f.now) sight.now word.now at (expression condition.now) close braces (statements body.now) i }
 {
     let j = condition_in(f, sight, word, condition, at, close, i)?;
-    body_from(f, braces, one, j)
+    body_from(f, braces, body, j)
 }
 
 // ---- For-each
@@ -86,13 +87,13 @@ pub fn each_from(
     walked: &Expression,
     close: usize,
     braces: bool,
-    one: bool,
+    body: &[Statement],
     i: usize,
 ) -> Option<usize>
-    ensures { result ≡ specs.each_from (frame_of f.now) sight.now at inferred name java (expression walked.now) close braces one i }
+    ensures { result ≡ specs.each_from (frame_of f.now) sight.now at inferred name java (expression walked.now) close braces (statements body.now) i }
 {
     let j = each_head(f, sight, at, inferred, name, java, walked, close, i)?;
-    body_from(f, braces, one, j)
+    body_from(f, braces, body, j)
 }
 
 // ---- By an index or an iterator

@@ -1,10 +1,11 @@
 // Orders of lists by their columns.
 ghost use Rattle.std.specs.Prelude.{◌≡◌};
+ghost use Rattle.view_statements.specs.declared.statement.SortPart.TheVariants as order;
 ghost use Rattle.view_statements.specs.Orders as specs;
 ghost use Rattle.view_statements.specs.Places.{frame_of};
 
 use crate::sights::is_new_name;
-use crate::{Frame, KeyForm, SortKey};
+use crate::{Frame, KeyForm, SortKey, SortPart};
 use view_map::{Member, ScalarKind};
 use view_rules::{
     JavaType, Sighted, bytes_at, here, is_at, is_clear, is_text_kind, many_at, member_of, next,
@@ -109,16 +110,6 @@ fn past_key_in(f: &Frame, sight: &[Sighted], key: SortKey, m: &Member, i: usize)
     past(f.within, b")", l)
 }
 
-fn past_reversed(f: &Frame, key: SortKey, i: usize) -> Option<usize>
-    ensures { result ≡ specs.past_reversed (frame_of f.now) key i }
-{
-    if key.reversed {
-        past_all(f.within, &[b".", b"reversed", b"(", b")"], i)
-    } else {
-        Some(i)
-    }
-}
-
 fn past_comparison(
     f: &Frame,
     sight: &[Sighted],
@@ -131,27 +122,70 @@ fn past_comparison(
     let m = member_of(f.within, key.class, key.member)?;
     if may_be_key(f, m) && is_order_call(f, first, m.java.kind, i) {
         let g = next(f.within, i)?;
-        let j = past_key_in(f, sight, key, m, g)?;
-        past_reversed(f, key, j)
+        past_key_in(f, sight, key, m, g)
     } else {
         None
     }
 }
 
-fn past_keys(f: &Frame, sight: &[Sighted], class: u32, keys: &[SortKey], i: usize) -> Option<usize>
-    ensures { result ≡ specs.past_keys (frame_of f.now) sight.now class keys.now i }
+fn past_further(f: &Frame, sight: &[Sighted], class: u32, key: SortKey, i: usize) -> Option<usize>
+    ensures { result ≡ specs.past_part (frame_of f.now) sight.now class (order.Key key) i }
 {
-    match keys {
-        [] => Some(i),
-        [key, keys @ ..] => {
-            if key.class == class {
-                let h = past(f.within, b".", i)?;
-                let k = past_comparison(f, sight, false, *key, h)?;
-                past_keys(f, sight, class, keys, k)
-            } else {
-                None
-            }
+    if key.class == class {
+        let h = past(f.within, b".", i)?;
+        past_comparison(f, sight, false, key, h)
+    } else {
+        None
+    }
+}
+
+fn past_part(f: &Frame, sight: &[Sighted], class: u32, part: SortPart, i: usize) -> Option<usize>
+    ensures { result ≡ specs.past_part (frame_of f.now) sight.now class part i }
+{
+    match part {
+        SortPart::Key(key) => past_further(f, sight, class, key, i),
+        SortPart::Reversed(at) => {
+            let h = here(at, i)?;
+            past_all(f.within, &[b".", b"reversed", b"(", b")"], h)
         }
+    }
+}
+
+fn past_parts(
+    f: &Frame,
+    sight: &[Sighted],
+    class: u32,
+    parts: &[SortPart],
+    i: usize,
+) -> Option<usize>
+    ensures { result ≡ specs.past_parts (frame_of f.now) sight.now class parts.now i }
+{
+    match parts {
+        [] => Some(i),
+        [part, parts @ ..] => {
+            let k = past_part(f, sight, class, *part, i)?;
+            past_parts(f, sight, class, parts, k)
+        }
+    }
+}
+
+fn past_first_key(f: &Frame, sight: &[Sighted], class: u32, key: SortKey, i: usize) -> Option<usize>
+    ensures { result ≡ specs.past_first (frame_of f.now) sight.now class (order.Key key) i }
+{
+    if is_clear(f.within, b"Comparator") && key.class == class {
+        let h = past_all(f.within, &[b"Comparator", b"."], i)?;
+        past_comparison(f, sight, true, key, h)
+    } else {
+        None
+    }
+}
+
+fn past_first(f: &Frame, sight: &[Sighted], class: u32, part: SortPart, i: usize) -> Option<usize>
+    ensures { result ≡ specs.past_first (frame_of f.now) sight.now class part i }
+{
+    match part {
+        SortPart::Key(key) => past_first_key(f, sight, class, key, i),
+        SortPart::Reversed(_) => None,
     }
 }
 
@@ -159,21 +193,16 @@ fn past_comparator(
     f: &Frame,
     sight: &[Sighted],
     class: u32,
-    keys: &[SortKey],
+    parts: &[SortPart],
     i: usize,
 ) -> Option<usize>
-    ensures { result ≡ specs.past_comparator (frame_of f.now) sight.now class keys.now i }
+    ensures { result ≡ specs.past_comparator (frame_of f.now) sight.now class parts.now i }
 {
-    match keys {
+    match parts {
         [] => None,
-        [key, keys @ ..] => {
-            if is_clear(f.within, b"Comparator") && key.class == class {
-                let h = past_all(f.within, &[b"Comparator", b"."], i)?;
-                let k = past_comparison(f, sight, true, *key, h)?;
-                past_keys(f, sight, class, keys, k)
-            } else {
-                None
-            }
+        [part, parts @ ..] => {
+            let k = past_first(f, sight, class, *part, i)?;
+            past_parts(f, sight, class, parts, k)
         }
     }
 }
@@ -199,15 +228,15 @@ fn ordered_by_list(
     f: &Frame,
     sight: &[Sighted],
     list: usize,
-    keys: &[SortKey],
+    parts: &[SortPart],
     i: usize,
 ) -> Option<usize>
-    ensures { result ≡ specs.ordered_by_list (frame_of f.now) sight.now list keys.now i }
+    ensures { result ≡ specs.ordered_by_list (frame_of f.now) sight.now list parts.now i }
 {
     let class = rows_at(f, sight, list, i)?;
     let h = next(f.within, i)?;
     let j = past_all(f.within, &[b".", b"sort", b"("], h)?;
-    let k = past_comparator(f, sight, class, keys, j)?;
+    let k = past_comparator(f, sight, class, parts, j)?;
     past_all(f.within, &[b")", b";"], k)
 }
 
@@ -215,10 +244,10 @@ fn ordered_by_class(
     f: &Frame,
     sight: &[Sighted],
     list: usize,
-    keys: &[SortKey],
+    parts: &[SortPart],
     i: usize,
 ) -> Option<usize>
-    ensures { result ≡ specs.ordered_by_class (frame_of f.now) sight.now list keys.now i }
+    ensures { result ≡ specs.ordered_by_class (frame_of f.now) sight.now list parts.now i }
 {
     if !is_clear(f.within, b"Collections") {
         return None;
@@ -227,7 +256,7 @@ fn ordered_by_class(
     let class = rows_at(f, sight, list, x)?;
     let g = next(f.within, x)?;
     let j = past(f.within, b",", g)?;
-    let k = past_comparator(f, sight, class, keys, j)?;
+    let k = past_comparator(f, sight, class, parts, j)?;
     past_all(f.within, &[b")", b";"], k)
 }
 
@@ -237,14 +266,14 @@ pub fn ordered_by(
     sight: &[Sighted],
     by_class: bool,
     list: usize,
-    keys: &[SortKey],
+    parts: &[SortPart],
     i: usize,
 ) -> Option<usize>
-    ensures { result ≡ specs.ordered_by (frame_of f.now) sight.now by_class list keys.now i }
+    ensures { result ≡ specs.ordered_by (frame_of f.now) sight.now by_class list parts.now i }
 {
     if by_class {
-        ordered_by_class(f, sight, list, keys, i)
+        ordered_by_class(f, sight, list, parts, i)
     } else {
-        ordered_by_list(f, sight, list, keys, i)
+        ordered_by_list(f, sight, list, parts, i)
     }
 }

@@ -79,9 +79,9 @@ pub fn put_statement(
             at,
             by_class: _,
             list,
-            keys,
+            parts,
             end,
-        } => put_sort(alloc, w, *at, *list, keys.as_slice(), *end, cells),
+        } => put_sort(alloc, w, *at, *list, parts.as_slice(), *end, cells),
         Statement::If {
             at,
             condition,

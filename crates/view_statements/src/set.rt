@@ -8,7 +8,7 @@ use crate::declared::{assigned_to, is_narrowed_well};
 use crate::orders::ordered_by;
 use crate::sights::is_hashed;
 use crate::steps::{counted_at, past_close, set_at, value_to};
-use crate::{Frame, Place, SortKey, Step};
+use crate::{Frame, Place, SortPart, Step};
 use view_rules::{
     Expression, JavaType, Sighted, bytes_at, check_expression, here, is_clear, is_int, is_many,
     is_number, many_at, may_be_added, may_be_assigned, next, past, past_all, same_type,
@@ -265,11 +265,11 @@ pub fn ordered(
     at: usize,
     by_class: bool,
     list: usize,
-    keys: &[SortKey],
+    parts: &[SortPart],
     i: usize,
 ) -> Option<usize>
-    ensures { result ≡ specs.ordered (frame_of f.now) sight.now at by_class list keys.now i }
+    ensures { result ≡ specs.ordered (frame_of f.now) sight.now at by_class list parts.now i }
 {
     let h = here(at, i)?;
-    ordered_by(f, sight, by_class, list, keys, h)
+    ordered_by(f, sight, by_class, list, parts, h)
 }

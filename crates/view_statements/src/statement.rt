@@ -23,14 +23,21 @@ pub enum KeyForm {
     TypedLambda,
 }
 
-/// A key of an order, the number of its first item behind the parenthesis, and whether `.reversed()` stands behind.
+/// A key of an order, and the number of its first item behind the parenthesis.
 #[derive(Clone, Copy)]
 pub struct SortKey {
     pub at: usize,
     pub form: KeyForm,
     pub class: u32,
     pub member: u32,
-    pub reversed: bool,
+}
+
+/// A part of an order: a key, by which what is the same so far is compared, or `.reversed()`, from the number of its dot on, which turns all
+/// before it.
+#[derive(Clone, Copy)]
+pub enum SortPart {
+    Key(SortKey),
+    Reversed(usize),
 }
 
 /// How a statement of a file is seen. `at` is the number of its first item, `name` that of the variable's name, `java` its type, `close` the
@@ -107,7 +114,7 @@ pub enum Statement {
         at: usize,
         by_class: bool,
         list: usize,
-        keys: Items<SortKey>,
+        parts: Items<SortPart>,
         end: usize,
     },
     /// `if (c) B`

@@ -5,7 +5,7 @@ ghost use Rattle.view_rules.specs.Reading.{expression};
 ghost use Rattle.view_rules.specs.Setting.{within_of};
 ghost use Rattle.view_statements.specs.Cells as specs;
 
-use crate::{SortKey, Step};
+use crate::{SortKey, SortPart, Step};
 use qbs_base::NoMemory;
 use std::alloc::Global;
 use view_items::Cells;
@@ -175,22 +175,6 @@ pub fn put_added(
 
 // ---- Orders
 
-fn put_reversed(
-    alloc: Global,
-    w: &Within,
-    at: usize,
-    reversed: bool,
-    cells: &mut Cells,
-) -> Result<(), NoMemory>
-    ensures { OnOk result (cells.new ≡ cells.old ++ exprs.all_made (within_of w.now) at (specs.reversed_words reversed)) }
-{
-    if reversed {
-        push_all_made(alloc, w, at, &[b".", b"reversed", b"(", b")"], cells)
-    } else {
-        Ok(())
-    }
-}
-
 fn put_key(
     alloc: Global,
     w: &Within,
@@ -214,8 +198,7 @@ fn put_key(
         column_name(w, key.class, key.member),
         cells,
     )?;
-    push_made(alloc, w, key.at, b")", cells)?;
-    put_reversed(alloc, w, key.at, key.reversed, cells)
+    push_made(alloc, w, key.at, b")", cells)
 }
 
 fn put_further_key(
@@ -230,19 +213,35 @@ fn put_further_key(
     put_key(alloc, w, b"thenComparing", key, cells)
 }
 
-fn put_further_keys(
+fn put_further_part(
     alloc: Global,
     w: &Within,
-    keys: &[SortKey],
+    part: SortPart,
     cells: &mut Cells,
 ) -> Result<(), NoMemory>
-    ensures { OnOk result (cells.new ≡ cells.old ++ specs.further_key_cells (within_of w.now) keys.now) }
+    ensures { OnOk result (cells.new ≡ cells.old ++ specs.further_part (within_of w.now) part) }
 {
-    match keys {
+    match part {
+        SortPart::Key(key) => put_further_key(alloc, w, key, cells),
+        SortPart::Reversed(at) => {
+            push_all_made(alloc, w, at, &[b".", b"reversed", b"(", b")"], cells)
+        }
+    }
+}
+
+fn put_further_parts(
+    alloc: Global,
+    w: &Within,
+    parts: &[SortPart],
+    cells: &mut Cells,
+) -> Result<(), NoMemory>
+    ensures { OnOk result (cells.new ≡ cells.old ++ specs.further_cells (within_of w.now) parts.now) }
+{
+    match parts {
         [] => Ok(()),
-        [key, keys @ ..] => {
-            put_further_key(alloc, w, *key, cells)?;
-            put_further_keys(alloc, w, keys, cells)
+        [part, parts @ ..] => {
+            put_further_part(alloc, w, *part, cells)?;
+            put_further_parts(alloc, w, parts, cells)
         }
     }
 }
@@ -254,19 +253,33 @@ fn put_first_key(alloc: Global, w: &Within, key: SortKey, cells: &mut Cells) -> 
     put_key(alloc, w, b"comparing", key, cells)
 }
 
+fn put_first_part(
+    alloc: Global,
+    w: &Within,
+    part: SortPart,
+    cells: &mut Cells,
+) -> Result<(), NoMemory>
+    ensures { OnOk result (cells.new ≡ cells.old ++ specs.first_part (within_of w.now) part) }
+{
+    match part {
+        SortPart::Key(key) => put_first_key(alloc, w, key, cells),
+        SortPart::Reversed(_) => Ok(()),
+    }
+}
+
 fn put_comparator(
     alloc: Global,
     w: &Within,
-    keys: &[SortKey],
+    parts: &[SortPart],
     cells: &mut Cells,
 ) -> Result<(), NoMemory>
-    ensures { OnOk result (cells.new ≡ cells.old ++ specs.comparator_cells (within_of w.now) keys.now) }
+    ensures { OnOk result (cells.new ≡ cells.old ++ specs.comparator_cells (within_of w.now) parts.now) }
 {
-    match keys {
+    match parts {
         [] => Ok(()),
-        [key, keys @ ..] => {
-            put_first_key(alloc, w, *key, cells)?;
-            put_further_keys(alloc, w, keys, cells)
+        [part, parts @ ..] => {
+            put_first_part(alloc, w, *part, cells)?;
+            put_further_parts(alloc, w, parts, cells)
         }
     }
 }
@@ -277,15 +290,15 @@ pub fn put_sort(
     w: &Within,
     at: usize,
     list: usize,
-    keys: &[SortKey],
+    parts: &[SortPart],
     end: usize,
     cells: &mut Cells,
 ) -> Result<(), NoMemory>
-    ensures { OnOk result (cells.new ≡ cells.old ++ specs.sort_cells (within_of w.now) at list keys.now end) }
+    ensures { OnOk result (cells.new ≡ cells.old ++ specs.sort_cells (within_of w.now) at list parts.now end) }
 {
     push_made(alloc, w, at, bytes_at(w, list), cells)?;
     push_all_made(alloc, w, at, &[b".", b"sort", b"("], cells)?;
-    put_comparator(alloc, w, keys, cells)?;
+    put_comparator(alloc, w, parts, cells)?;
     push_all_made(alloc, w, end, &[b")", b";"], cells)
 }
 

@@ -3,8 +3,10 @@ ghost use Rattle.view_statements.specs.Worked.{
   WorkedCasts,
   WorkedDifferences,
   WorkedElse,
+  WorkedEmpty,
   WorkedExtremes,
   WorkedLists,
+  WorkedOrders,
   WorkedSets,
   WorkedSkips,
 };
@@ -33,6 +35,12 @@ pub fn else_belongs_to_the_nearest_if()
     ensures { WorkedElse }
 {}
 
+/// A semicolon is a body in which nothing is done.
+#[tactic(auto, using(crate::proofs::Computed::empty))]
+pub fn semicolons_are_bodies()
+    ensures { WorkedEmpty }
+{}
+
 /// A hash set isn't walked, in parentheses neither, since its order isn't known.
 #[tactic(auto, using(crate::proofs::Computed::sets))]
 pub fn hash_sets_are_not_walked()
@@ -49,4 +57,10 @@ pub fn lists_from_outside_are_set_first()
 #[tactic(auto, using(crate::proofs::Computed::casts))]
 pub fn queries_are_narrowed_for_ints()
     ensures { WorkedCasts }
+{}
+
+/// `.reversed()` turns all before it, as often as it stands there.
+#[tactic(auto, using(crate::proofs::Computed::orders))]
+pub fn orders_are_turned_as_often()
+    ensures { WorkedOrders }
 {}

@@ -18,8 +18,8 @@ check_statement-returns-in_ok-passed-in-If t c =
     c.conditional-begun.result c.in_ok-passed-in-If.passed c.leave_then.result
     (if_is c.args.st.now c.in-If.at c.in-If.condition c.in-If.close c.in-If.braces c.in-If.body c.in-If.end c.in-If.is)
     (conditional_at (frame_of c.args.f.now) c.as_slice-in-If.result.now s (codes "if") c.in-If.at c.deref-in-If.result.now c.in-If.condition.value
-    c.in-If.close c.in-If.braces c.is_one.result c.as_slice-in-If-2.result.now c.in-If.body.items c.args.i c.conditional-begun.result
-    c.conditional-begun.ensures (search rules) (search rules) c.is_one.ensures (search rules))
+    c.in-If.close c.in-If.braces c.as_slice-in-If-2.result.now c.in-If.body.items c.args.i c.conditional-begun.result
+    c.conditional-begun.ensures (search rules) (search rules) (search rules))
     (omega (arith, c.args.sight.now.ok.0))
     (body_at (frame_of c.args.f.now) c.inside.result (inside c.args.p) s c.check_body.new.sight.items c.as_slice-in-If-3.result.now c.in-If.body.items
     c.in_ok-passed-in-If.passed c.conditional-begun.result c.in_ok-passed-in-If.ensures c.inside.ensures (search rules))
@@ -33,8 +33,8 @@ check_statement-returns-in_ok-passed-in-While t c =
     c.conditional-begun-in-While.result c.in_ok-passed-in-While.passed c.leave_body-in-While.result
     (while_is c.args.st.now c.in-While.at c.in-While.condition c.in-While.close c.in-While.braces c.in-While.body c.in-While.end c.in-While.is)
     (conditional_at (frame_of c.args.f.now) c.as_slice-in-While.result.now s (codes "while") c.in-While.at c.deref-in-While.result.now c.in-While.condition.value
-    c.in-While.close c.in-While.braces c.is_one-in-While.result c.as_slice-in-While-2.result.now c.in-While.body.items c.args.i c.conditional-begun-in-While.result
-    c.conditional-begun-in-While.ensures (search rules) (search rules) c.is_one-in-While.ensures (search rules))
+    c.in-While.close c.in-While.braces c.as_slice-in-While-2.result.now c.in-While.body.items c.args.i c.conditional-begun-in-While.result
+    c.conditional-begun-in-While.ensures (search rules) (search rules) (search rules))
     (omega (arith, c.args.sight.now.ok.0))
     (body_at (frame_of c.args.f.now) c.in_loop-in-While.result (in_loop c.args.p false) s c.check_body-in-While.new.sight.items c.as_slice-in-While-3.result.now c.in-While.body.items
     c.in_ok-passed-in-While.passed c.conditional-begun-in-While.result c.in_ok-passed-in-While.ensures c.in_loop-in-While.ensures (search rules))
@@ -64,9 +64,9 @@ check_statement-returns-in_ok-passed-in-ForEach t c =
     (for_each_is c.args.st.now c.in-ForEach.at c.in-ForEach.inferred c.in-ForEach.name c.in-ForEach.java c.in-ForEach.walked c.in-ForEach.close c.in-ForEach.braces
     c.in-ForEach.body c.in-ForEach.end c.in-ForEach.is)
     (each_at (frame_of c.args.f.now) c.as_slice-in-ForEach.result.now s c.in-ForEach.at c.in-ForEach.inferred c.in-ForEach.name c.in-ForEach.java
-    c.deref-in-ForEach.result.now c.in-ForEach.walked.value c.in-ForEach.close c.in-ForEach.braces c.is_one-in-ForEach.result
+    c.deref-in-ForEach.result.now c.in-ForEach.walked.value c.in-ForEach.close c.in-ForEach.braces
     c.as_slice-in-ForEach-2.result.now c.in-ForEach.body.items c.args.i c.each_from-begun.result
-    c.each_from-begun.ensures (search rules) (search rules) c.is_one-in-ForEach.ensures (search rules))
+    c.each_from-begun.ensures (search rules) (search rules) (search rules))
     (omega (arith, c.args.sight.now.ok.0))
     (body_at (frame_of c.args.f.now) c.in_loop.result (in_loop c.args.p c.in-ForEach.braces) (with_own (frame_of c.args.f.now) s c.in-ForEach.name c.in-ForEach.java)
     c.check_turn.new.sight.items c.as_slice-in-ForEach-3.result.now c.in-ForEach.body.items
@@ -118,15 +118,15 @@ check_statement-returns-in_ok-second-in-IfElse t c =
     (if_else_is c.args.st.now c.in-IfElse.at c.in-IfElse.condition c.in-IfElse.close c.in-IfElse.braces c.in-IfElse.body c.in-IfElse.other_at
     c.in-IfElse.other_braces c.in-IfElse.other c.in-IfElse.end c.in-IfElse.is)
     (conditional_at (frame_of c.args.f.now) c.as_slice-in-IfElse.result.now s (codes "if") c.in-IfElse.at c.deref-in-IfElse.result.now
-    c.in-IfElse.condition.value c.in-IfElse.close c.in-IfElse.braces c.is_one-in-IfElse.result c.as_slice-in-IfElse-2.result.now c.in-IfElse.body.items
-    c.args.i c.conditional-begun-in-IfElse.result c.conditional-begun-in-IfElse.ensures (search rules) (search rules) c.is_one-in-IfElse.ensures (search rules))
+    c.in-IfElse.condition.value c.in-IfElse.close c.in-IfElse.braces c.as_slice-in-IfElse-2.result.now c.in-IfElse.body.items
+    c.args.i c.conditional-begun-in-IfElse.result c.conditional-begun-in-IfElse.ensures (search rules) (search rules) (search rules))
     (omega (arith, c.args.sight.now.ok.0))
     (body_at (frame_of c.args.f.now) c.inside-in-IfElse.result (inside c.args.p) s c.check_body-in-IfElse.new.sight.items c.as_slice-in-IfElse-3.result.now
     c.in-IfElse.body.items c.in_ok-first-in-IfElse.first c.conditional-begun-in-IfElse.result c.in_ok-first-in-IfElse.ensures c.inside-in-IfElse.ensures
     (search rules))
     c.leave_brace-behind.ensures
-    (further_at (frame_of c.args.f.now) c.in-IfElse.other_at c.in-IfElse.other_braces c.is_one-one.result c.as_slice-in-IfElse-4.result.now c.in-IfElse.other.items
-    c.leave_brace-behind.result c.other_from-further.result c.other_from-further.ensures c.is_one-one.ensures (search rules))
+    (further_at (frame_of c.args.f.now) c.in-IfElse.other_at c.in-IfElse.other_braces c.as_slice-in-IfElse-4.result.now c.in-IfElse.other.items
+    c.leave_brace-behind.result c.other_from-further.result c.other_from-further.ensures (search rules))
     c.in_ok-second-in-IfElse.ensures c.leave_body.ensures
 
 pub check_other-returns-in-IfElse : goal.check_other-returns-in-IfElse
