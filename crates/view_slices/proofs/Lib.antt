@@ -2,4 +2,5 @@ pub mod Computed
 pub mod Got
 pub mod Knowing
 pub mod Members
+mod Numbered
 mod Once

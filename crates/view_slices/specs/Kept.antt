@@ -1,12 +1,14 @@
 -- What is written in place of a slice: statements of the source as they stand there, some of them left out, and statements that ask. What is
 -- seen has no widths of numbers and no `final`, so it alone doesn't tell what Java makes of a statement.
-use Rattle.std.specs.Prelude.{ℕ, zero, suc, ◌-◌, Bool, true, false, ◌&&◌, ◌==◌, not, List, [], ◌∷◌, take, drop, codes, Option, Some, None, slice_get, if◌then◌else◌}
+use Rattle.std.specs.Prelude.{ℕ, zero, suc, ◌-◌, Bool, true, false, ◌&&◌, ◌||◌, ◌==◌, not, List, [], ◌∷◌, take, drop, codes, Option, Some, slice_get, if◌then◌else◌}
 use Rattle.std.specs.Str.{bytes_eq}
 use Rattle.view_items.specs.declared.item.Item.{Item}
 use Rattle.view_shapes.specs.declared.members.Stretch.{Stretch}
 use Rattle.view_shapes.specs.Mentions.{is_named}
 use Rattle.view_rules.specs.declared.java_type.JavaType.{JavaType}
+use Rattle.view_rules.specs.declared.java_type.JavaType.TheVariants as types
 use Rattle.view_rules.specs.Decisions.{is_scalar}
+use Rattle.view_rules.specs.Spelled.{kind_word}
 use Rattle.view_rules.specs.Tree.{PlainExpression, PlainArguments}
 use Rattle.view_rules.specs.Tree as exprs
 use Rattle.view_scope.specs.Obscured.{word_at}
@@ -138,18 +140,71 @@ abbrev pub other_of : PlainStatement → PlainStatements
 other_of (plain.IfElse at condition close braces body other_at other_braces other end) = other
 other_of st = Nothing
 
-abbrev pub is_front : Beside → PlainStatement → PlainStatement → Bool
-is_front b s t = (shape_of s == shape_of t) && same_items b (head_of s) (head_of t)
-
 -- A `final` variable of one value may be a constant for Java, so that what stands behind the slice is typed by it: it isn't left out where it is
--- printed.
+-- printed. What a query gives is no constant, and where it stays it is one of those that ask.
 abbrev pub is_needed : Beside → ℕ → ℕ → JavaType → Bool
 is_needed b at name java = is_scalar java && (is_named b.items (codes "final") at name && is_printed b.prints (word_at b.items name) java)
 
 abbrev pub may_be_left_out : Beside → PlainStatement → Bool
-may_be_left_out b (plain.Declaration at name java value end) = not (is_needed b at name java)
+may_be_left_out b (plain.Declaration at name java value end) = is_asked value || not (is_needed b at name java)
 may_be_left_out b (plain.Inferred at name java value end) = not (is_needed b at name java)
 may_be_left_out b st = true
+
+-- ---- Heads of declarations that ask
+
+-- with `var` in the source a query of a boxed type would make another type of the variable, so the word of its type stands in its place
+abbrev pub is_word_for : JavaType → List ℕ → Bool
+is_word_for (types.Scalar t) word = bytes_eq word (kind_word t.kind)
+is_word_for java word = false
+
+abbrev pub ends_with_type : Beside → Stretch → Stretch → JavaType → Bool
+ends_with_type b s t java = bytes_eq (word_at b.items (s.to - 1)) (codes "var") && is_word_for java (word_at b.written (t.to - 1))
+
+-- the items of a declaration up to the name of its variable have the bytes of others, but for `var`
+abbrev pub is_inferred_head : Beside → Stretch → Stretch → JavaType → Bool
+is_inferred_head b s t java =
+    ((s.to - s.from) == (t.to - t.from)) && (ends_with_type b s t java
+    && (begin_alike (take ((s.to - 1) - s.from) (drop s.from b.items)) (drop t.from b.written)
+    && same_word (slice_get b.items s.to) (slice_get b.written t.to)))
+
+abbrev pub up_to : ℕ → ℕ → Stretch
+up_to from to = record { from = from; to = to }
+
+-- the statement declares the variable with the items from a number to its name
+abbrev pub has_head : Beside → Stretch → PlainStatement → Bool
+has_head b t (plain.Declaration at name java value end) = same_items b (up_to at name) t
+has_head b t (plain.Inferred at name java value end) = is_inferred_head b (up_to at name) t java
+has_head b t st = false
+
+abbrev pub is_head_among : Beside → Stretch → PlainStatements → Bool
+is_head_among b t Nothing = false
+is_head_among b t (Then s ss) = has_head b t s || is_head_among b t ss
+
+-- `boolean` and the variable of a group
+abbrev pub is_head_of_group : Beside → List ℕ → Stretch → Bool
+is_head_of_group b variable t =
+    ((t.to - t.from) == 1) && (bytes_eq (word_at b.written t.from) (codes "boolean") && bytes_eq (word_at b.written t.to) variable)
+
+-- A declaration that asks begins as one of the source does in the same block, or declares the variable of a group there.
+abbrev pub is_headed : Beside → List ℕ → PlainStatements → PlainStatement → Bool
+is_headed b variable ss (plain.Declaration at name java value end) =
+    not (is_asked value) || (is_head_among b (up_to at name) ss || is_head_of_group b variable (up_to at name))
+is_headed b variable ss t = true
+
+abbrev pub are_headed : Beside → List ℕ → PlainStatements → PlainStatements → Bool
+are_headed b variable ss Nothing = true
+are_headed b variable ss (Then t ts) = is_headed b variable ss t && are_headed b variable ss ts
+
+-- inside of a statement there is no group
+abbrev pub are_bodies_headed : Beside → PlainStatement → PlainStatement → Bool
+are_bodies_headed b s t = are_headed b [] (body_of s) (body_of t) && are_headed b [] (other_of s) (other_of t)
+
+-- two statements are alike before what they hold, and what they hold declares variables as the source does
+abbrev pub are_fronts_alike : Beside → PlainStatement → PlainStatement → Bool
+are_fronts_alike b s t = (shape_of s == shape_of t) && same_items b (head_of s) (head_of t)
+
+unfoldable pub is_front : Beside → PlainStatement → PlainStatement → Bool
+is_front b s t = are_fronts_alike b s t && are_bodies_headed b s t
 
 -- ---- One behind the other
 
@@ -190,8 +245,14 @@ is_ending_kept b n s t = true
 abbrev pub levels_of : PlainSlice → ℕ
 levels_of s = s.to - s.from
 
+abbrev pub group_variable : PlainEnding → List ℕ
+group_variable (Grouped g) = g.variable
+group_variable ending = []
+
 abbrev pub is_all_kept : Beside → PlainSlice → PlainSlice → Bool
-is_all_kept b s t = are_kept b (levels_of s) s.statements t.statements && is_ending_kept b (levels_of s) s.ending t.ending
+is_all_kept b s t =
+    are_headed b (group_variable s.ending) s.statements t.statements
+    && (are_kept b (levels_of s) s.statements t.statements && is_ending_kept b (levels_of s) s.ending t.ending)
 
 abbrev pub beside : List Item → List Item → PlainSlice → Beside
 beside items written s = record { items = items; written = written; prints = s.prints }

@@ -1,5 +1,5 @@
 -- Which sequences of statements are seen as methods, and what has to be so round them.
-use Rattle.std.specs.Prelude.{ℕ, ◌+◌, ◌-◌, Bool, true, false, ◌&&◌, ◌||◌, ◌==◌, not, List, [], ◌∷◌, ◌++◌, codes, Option, Some, None, slice_get, is_some, if◌then◌else◌}
+use Rattle.std.specs.Prelude.{ℕ, ◌-◌, Bool, true, false, ◌&&◌, ◌||◌, ◌==◌, not, List, [], ◌∷◌, ◌++◌, codes, Option, Some, None, slice_get, is_some, if◌then◌else◌}
 use Rattle.std.specs.List.{list_any, list_all}
 use Rattle.std.specs.Str.{bytes_eq}
 use Rattle.qbs_base.specs.declared.columns.Table.{Table}
@@ -31,7 +31,7 @@ use Rattle.view_shapes.specs.declared.method.Method.{Method}
 use Rattle.view_scope.specs.declared.standing.Standing.{Standing}
 use Rattle.view_scope.specs.Guards.{is_guarded_by}
 use Rattle.view_scope.specs.Nulls.{is_tested_by, tested_in}
-use Rattle.view_scope.specs.Outside.{is_in_sight_by, is_inside_try, body_of}
+use Rattle.view_scope.specs.Outside.{is_in_sight_by, are_rows_known, is_inside_try, body_of}
 use Rattle.view_scope.specs.Standing.{standing_of}
 use Rattle.view_shapes.specs.declared.file.File as code
 use Rattle.view_statements.specs.declared.slice.Printed.{Printed}
@@ -285,11 +285,15 @@ seen_to f file s = seen_from f file s.outside s
 abbrev pub is_last : Method → PlainSlice → Bool
 is_last method s = method.gives_truth && (s.to == s.block.to)
 
--- the variable of a group is fresh, and no parameter
-abbrev pub is_ending_there : ViewMap → File → Method → PlainSlice → PlainEnding → Bool
-is_ending_there m file method s Open = true
-is_ending_there m file method s (Grouped g) = is_last method s && (is_fresh m file method g.variable && not (has_param_name g.variable s.params))
-is_ending_there m file method s (Returned variable) = is_last method s
+-- the slice has no such name: what is seen of it has its items, its parameters and words of the language
+abbrev pub is_unnamed : File → PlainSlice → List ℕ → Bool
+is_unnamed file s name = is_no_word name && (not (is_word_in file name s.from s.to) && not (has_param_name name s.params))
+
+-- the variable of a group is none of the slice's names; that another slice of the method declares it where its group gave way is no obstacle
+abbrev pub is_ending_there : File → Method → PlainSlice → PlainEnding → Bool
+is_ending_there file method s Open = true
+is_ending_there file method s (Grouped g) = is_last method s && is_unnamed file s g.variable
+is_ending_there file method s (Returned variable) = is_last method s
 
 -- ---- What is printed
 
@@ -380,16 +384,17 @@ is_each_fresh m file method s = is_fresh m file method s.each && not (has_param_
 
 -- ---- All of it
 
--- what is so round the slice
+-- what is so round the slice: what is from outside is declared, and of rows in sight it names all, so that what meets them is told
 abbrev pub is_placed : Frame → File → List Standing → List Stretch → Method → PlainSlice → Bool
 is_placed f file standing tested method s =
-    stands standing s && (are_declared f standing method s.from s.outside s.declared && (are_safe file standing tested method s s.outside s.declared
-    && (not s.gets || not (is_inside_try file.items file.closings method s.from))))
+    stands standing s && (are_declared f standing method s.from s.outside s.declared
+    && (are_rows_known f.within f.closings standing method s.from s.outside && (are_safe file standing tested method s s.outside s.declared
+    && (not s.gets || not (is_inside_try file.items file.closings method s.from)))))
 
 -- the names that it has in what is seen
 abbrev pub is_named_well : ViewMap → File → Method → PlainSlice → Bool
 is_named_well m file method s =
-    are_parameters m file method s s.params s.kinds && (is_ending_there m file method s s.ending && is_each_fresh m file method s)
+    are_parameters m file method s s.params s.kinds && (is_ending_there file method s s.ending && is_each_fresh m file method s)
 
 abbrev pub is_seen_and_printed : Frame → File → Method → PlainSlice → Bool
 is_seen_and_printed f file method s = are_prints f.within method s (seen_to f file s)

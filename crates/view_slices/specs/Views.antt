@@ -1,5 +1,5 @@
 -- What is seen of a file: its methods with their slices, and the class that these are seen as.
-use Rattle.std.specs.Prelude.{◌≡◌, ℕ, ◌+◌, Bool, true, false, ◌&&◌, not, ◌==◌, nat_le, List, [], ◌∷◌, ◌++◌, length, codes, Option, Some, None, if◌then◌else◌}
+use Rattle.std.specs.Prelude.{◌≡◌, ℕ, ◌+◌, Bool, true, false, ◌&&◌, not, ◌==◌, nat_le, List, [], ◌∷◌, ◌++◌, length, codes, Option, Some, None, is_some, if◌then◌else◌}
 use Rattle.std.specs.Fmt.{decimal}
 use Rattle.std.specs.List.{list_all}
 use Rattle.std.specs.Str.{bytes_eq}
@@ -33,11 +33,12 @@ use Rattle.view_scope.specs.Standing.{standing_of}
 use Rattle.view_statements.specs.declared.slice.Printed.{Printed}
 use Rattle.view_statements.specs.declared.slice.Read.{Read}
 use Rattle.view_statements.specs.declared.slice.Words.{Words}
+use Rattle.view_slices.specs.Bounds.{is_bounded}
 use Rattle.view_slices.specs.Kept.{keeps_statements}
 use Rattle.view_slices.specs.Shown.{method_cells}
 pub use Rattle.view_statements.specs.Slices.{PlainSliced}
-use Rattle.view_slices.specs.Slices.{File, PlainSlice, within, is_slice_by, is_print_of, returned}
-use Rattle.view_slices.specs.Words.{class_name, members, are_words}
+use Rattle.view_slices.specs.Slices.{File, PlainSlice, PlainEnding, Grouped, within, is_fresh, is_slice_by, is_print_of, returned}
+use Rattle.view_slices.specs.Words.{class_name, members, are_words, same_sign}
 
 pub record View : Type 0 where
   pub file : File
@@ -98,9 +99,18 @@ is_param_named items s p = is_named items p.variable s.from s.to
 abbrev pub are_params_named : List Item → PlainSlice → Bool
 are_params_named items s = list_all (is_param_named items s) s.params
 
+-- The variable of a group has a name that neither the method nor the map has, since it is declared where the loop gives way.
+abbrev pub is_ending_fresh : ViewMap → File → Method → PlainEnding → Bool
+is_ending_fresh m file method (Grouped g) = is_fresh m file method g.variable
+is_ending_fresh m file method ending = true
+
+-- what is asked of a slice of the source alone
+abbrev pub is_of_source : ViewMap → File → Method → PlainSlice → Bool
+is_of_source m file method s = are_params_named file.items s && (is_ending_fresh m file method s.ending && is_bounded s)
+
 abbrev pub is_one : ViewMap → List Table → File → Read → List Standing → List Stretch → PlainSlice → Bool
 is_one m tables file read standing tested s =
-    are_params_named file.items s && is_slice_by m tables file read.words read.method standing tested s
+    is_of_source m file read.method s && is_slice_by m tables file read.words read.method standing tested s
 
 -- with the statements of the method's blocks, and where its body tests variables for null
 abbrev pub are_slices_by : ViewMap → List Table → File → Read → List Standing → List Stretch → List PlainSlice → Bool
@@ -218,11 +228,18 @@ is_sighted_in outside v = has_type v (in_sight outside v.name)
 abbrev pub are_sighted_in : List Sighted → List Sighted → Bool
 are_sighted_in outside vs = list_all (is_sighted_in outside) vs
 
+-- what it prints is from outside in both, or its own in both: a list that the source sets isn't declared anew
+abbrev pub is_outside_alike : PlainSlice → PlainSlice → Printed → Bool
+is_outside_alike s t p = same_sign (is_some (in_sight s.outside p.name)) (is_some (in_sight t.outside p.name))
+
+abbrev pub are_outside_alike : PlainSlice → PlainSlice → List Printed → Bool
+are_outside_alike s t ps = list_all (is_outside_alike s t) ps
+
 -- it is handed the same, prints the same and returns the same, and the variables in sight before it were so before
 abbrev pub has_same_ends : PlainSlice → PlainSlice → Bool
 has_same_ends s t =
     same_params s.params t.params && (same_kinds s.kinds t.kinds && (same_prints s.prints t.prints && (bytes_eq s.each t.each
-    && (same_name (returned s.ending) (returned t.ending) && are_sighted_in s.outside t.outside))))
+    && (same_name (returned s.ending) (returned t.ending) && (are_sighted_in s.outside t.outside && are_outside_alike s t s.prints)))))
 
 -- A slice of another file, with these items, is one again: what comes in and goes out is the same, and it is made of statements of the first one and
 -- of ones that ask.

@@ -1,5 +1,5 @@
 -- What may be read in a method: all that means there what the map and Java say.
-use Rattle.std.specs.Prelude.{ℕ, Bool, true, false, ◌&&◌, ◌||◌, not, List, [], ◌∷◌, ◌++◌, map, codes, Option, Some, None, slice_get, if◌then◌else◌}
+use Rattle.std.specs.Prelude.{ℕ, ◌+◌, Bool, true, false, ◌&&◌, ◌||◌, ◌==◌, not, List, [], ◌∷◌, ◌++◌, map, codes, Option, Some, None, slice_get, if◌then◌else◌}
 use Rattle.std.specs.List.{list_all, flat_map}
 use Rattle.std.specs.Str.{bytes_eq}
 use Rattle.view_items.specs.declared.item.Item.{Item}
@@ -59,10 +59,22 @@ clear_among items names = flat_map (clear_one items) names
 abbrev pub clear_names : ViewMap → File → List (List ℕ)
 clear_names m file = clear_among file.items java_names ++ clear_among file.items (names_of m.classes)
 
+-- the numbers of all classes that are there in a file of a class, from a number on
+abbrev pub class_at : List ℕ → ℕ → RowClass → List ℕ
+class_at class n c = if is_there class c.within then n ∷ [] else []
+
+abbrev pub classes_from : List ℕ → ℕ → List RowClass → List ℕ
+classes_from class n [] = []
+classes_from class n (c ∷ cs) = class_at class n c ++ classes_from class (n + 1) cs
+
+abbrev pub classes_there : ViewMap → File → List ℕ
+classes_there m file = classes_from (class_name file) 0 m.classes
+
 -- what is asked once for a file
 abbrev pub known_in : ViewMap → File → Known
 known_in m file =
     record {
+      classes = classes_there m file;
       kept = map (is_kept m file) m.fetches;
       templates = map (is_template_kept m file) m.templates;
       free = map (is_unhidden file) m.constants;
@@ -71,10 +83,6 @@ known_in m file =
     }
 
 -- ---- In a method
-
-abbrev pub is_class_there : List ℕ → Option RowClass → Bool
-is_class_there class None = false
-is_class_there class (Some c) = is_there class c.within
 
 abbrev pub is_fetch_there : ViewMap → File → Method → Option FetchPattern → Bool
 is_fetch_there m file method None = false
@@ -91,10 +99,7 @@ is_constant_there file method (Some c) = is_constant_read file.items file.closin
 abbrev pub is_constant_free : File → Method → ClassConstant → Bool
 is_constant_free file method c = is_free_in file.items file.closings file.rounds method c.name
 
--- the classes, fetch patterns, templates and constants of these numbers
-abbrev pub is_class_of : ViewMap → File → ℕ → Bool
-is_class_of m file n = is_class_there (class_name file) (slice_get m.classes n)
-
+-- the fetch patterns, templates and constants of these numbers
 abbrev pub is_fetch_of : ViewMap → File → Method → ℕ → Bool
 is_fetch_of m file method n = is_fetch_there m file method (slice_get m.fetches n)
 
@@ -103,9 +108,6 @@ is_template_of m file method n = is_template_there m file method (slice_get m.te
 
 abbrev pub is_constant_of : ViewMap → File → Method → ℕ → Bool
 is_constant_of m file method n = is_constant_there file method (slice_get m.constants n)
-
-abbrev pub are_classes_there : ViewMap → File → List ℕ → Bool
-are_classes_there m file ns = list_all (is_class_of m file) ns
 
 abbrev pub are_fetches_there : ViewMap → File → Method → List ℕ → Bool
 are_fetches_there m file method ns = list_all (is_fetch_of m file method) ns
@@ -146,11 +148,17 @@ are_names_among ns [] = is_no_name ns
 are_names_among [] (o ∷ os) = true
 are_names_among (n ∷ ns) (o ∷ os) = if bytes_eq n o then are_names_among ns os else are_names_among (n ∷ ns) os
 
--- All that is listed may be read in the method: classes that are there in the file; fetch patterns, templates and constants of the map that mean
--- there what it says; constants of the class that are free; and names of classes that nothing obscures.
+abbrev pub same_numbers : List ℕ → List ℕ → Bool
+same_numbers [] [] = true
+same_numbers (m ∷ ms) (n ∷ ns) = (m == n) && same_numbers ms ns
+same_numbers _ _ = false
+
+-- All that is listed may be read in the method: the classes that are there in the file, each of them, so that no row in sight is passed over; fetch
+-- patterns, templates and constants of the map that mean there what it says; constants of the class that are free; and names of classes that nothing
+-- obscures.
 abbrev pub are_words : ViewMap → File → Method → Words → Bool
 are_words m file method words =
-    are_classes_there m file words.classes
+    same_numbers words.classes (classes_there m file)
     && (are_fetches_there m file method words.fetches
     && (are_templates_there m file method words.templates
     && (are_constants_there m file method words.map_constants

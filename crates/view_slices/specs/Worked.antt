@@ -27,7 +27,7 @@ use Rattle.view_shapes.specs.declared.method.Method.{Method}
 use Rattle.view_shapes.specs.declared.method.Parameter.{Parameter}
 use Rattle.view_statements.specs.declared.slice.Printed.{Printed}
 use Rattle.view_statements.specs.declared.slice.Words.{Words}
-use Rattle.view_slices.specs.Slices.{File, PlainSlice, PlainEnding, Open, Grouped, Returned}
+use Rattle.view_slices.specs.Slices.{File, PlainSlice, PlainEnding, Open, Grouped, Returned, is_slice}
 use Rattle.view_slices.specs.Views.{PlainSliced, file_in, is_view, is_again, class_cells}
 use Rattle.view_statements.specs.declared.statement.Step.TheVariants as counts
 use Rattle.view_statements.specs.Tree.{PlainStatement, PlainStatements, Nothing, Then}
@@ -144,8 +144,8 @@ column_at at number = exprs.Column (exprs.Variable at) (at + 1) 0 number
 abbrev pub counting : List ℕ
 counting = codes "class D { void f(int n) { while (g(n)) { n = 0; for (UserAccount u : users.findAll()) { n++; } } } }"
 
-abbrev counting_slice : List Printed → PlainSlice
-counting_slice prints =
+abbrev counting_slice : List ℕ → List Printed → PlainSlice
+counting_slice each prints =
     record {
       from = 18;
       to = 38;
@@ -157,13 +157,16 @@ counting_slice prints =
       tested = [];
       gets = true;
       prints = prints;
-      each = codes "each";
+      each = each;
       statements = Then (plain.Assignment 18 (exprs.Literal 20) 21) (one (each_account 22 25 32 (one (plain.Stepped 34 counts.Up 34 35 36)) 37));
       ending = Open;
     }
 
+abbrev counting_method : Method
+counting_method = method (record { ty = 6; name = 7 } ∷ []) false 10 39
+
 abbrev counting_with : List Printed → PlainSliced
-counting_with prints = sliced (method (record { ty = 6; name = 7 } ∷ []) false 10 39) (counting_slice prints)
+counting_with prints = sliced counting_method (counting_slice (codes "each") prints)
 
 abbrev pub printed : PlainSliced
 printed = counting_with (print (codes "n") (scalar kinds.Int false) ∷ [])
@@ -188,16 +191,17 @@ is_younger =
     exprs.Binary signs.And (exprs.Equals 41 false (column_at 41 3) 46 (exprs.OuterColumn 49 0 3 0) 54) 55
     (exprs.Binary signs.Less (column_at 56 2) 61 (exprs.OuterColumn 62 0 2 1))
 
-abbrev reporting_slice : PlainSlice
-reporting_slice =
+-- with further parameters
+abbrev reporting_slice : List Param → List ScalarKind → PlainSlice
+reporting_slice params scalars =
     record {
       from = 22;
       to = 74;
       block = record { from = 22; to = 83 };
       outside = outer (codes "chief") (types.Row 0) ∷ [];
       declared = 13 ∷ [];
-      params = param (codes "chief") (Some 3) (codes "chief_role_id") ∷ param (codes "chief") (Some 2) (codes "chief_age") ∷ [];
-      kinds = kinds.Long ∷ kinds.Int ∷ [];
+      params = param (codes "chief") (Some 3) (codes "chief_role_id") ∷ param (codes "chief") (Some 2) (codes "chief_age") ∷ params;
+      kinds = kinds.Long ∷ kinds.Int ∷ scalars;
       tested = [];
       gets = true;
       prints = print (codes "younger") (scalar kinds.Int false) ∷ [];
@@ -208,8 +212,11 @@ reporting_slice =
       ending = Open;
     }
 
+abbrev reported_with : List Param → List ScalarKind → PlainSliced
+reported_with params scalars = sliced (method (record { ty = 6; name = 7 } ∷ []) false 10 84) (reporting_slice params scalars)
+
 abbrev pub reported : PlainSliced
-reported = sliced (method (record { ty = 6; name = 7 } ∷ []) false 10 84) reporting_slice
+reported = reported_with [] []
 
 -- columns of a row from outside are parameters
 pub record WorkedColumns : Type 0 where
@@ -242,11 +249,16 @@ asking_slice to statements ending =
       ending = ending;
     }
 
-abbrev walk : PlainStatement
-walk = each_account 8 11 18 (one (plain.If 20 (column_at 22 1) 27 true (one (plain.Found 29 30 31)) 32)) 33
+abbrev walk_at : ℕ → PlainStatement
+walk_at at =
+    each_account at (at + 3) (at + 10)
+    (one (plain.If (at + 12) (column_at (at + 14) 1) (at + 19) true (one (plain.Found (at + 21) (at + 22) (at + 23))) (at + 24))) (at + 25)
+
+abbrev group_at : ℕ → PlainEnding
+group_at at = Grouped (record { variable = codes "found"; value = true; walk = walk_at at })
 
 abbrev pub group_slice : PlainSlice
-group_slice = asking_slice 37 Nothing (Grouped (record { variable = codes "found"; value = true; walk = walk }))
+group_slice = asking_slice 37 Nothing (group_at 8)
 
 abbrev pub query_slice : PlainSlice
 query_slice =
@@ -271,6 +283,54 @@ pub record WorkedGroups : Type 0 where
   pub without_return : is_again (items_of asking) group_slice (items_of asked) unreturned ≡ false
   pub tokens_before : tokens asking grouped ≡ words_of (codes "class D { void s1() { boolean found = false; for (user_account u : db.fetch(user_account.class)) { if (u.enabled) { found = true; } } System.out.println(found); } }")
   pub tokens_behind : tokens asked queried ≡ words_of (codes "class D { void s1() { boolean found = db.queryBoolean(\"q\"); System.out.println(found); } }")
+
+-- ---- Two groups of a method, of which one gave way
+
+abbrev pub searching : List ℕ
+searching =
+    codes "class D { boolean h(boolean c) { if (c) { for (UserAccount u : users.findAll()) { if (u.isEnabled()) { return true; } } return false; } for (UserAccount u : users.findAll()) { if (u.isEnabled()) { return true; } } return false; } }"
+
+abbrev pub searched : List ℕ
+searched =
+    codes "class D { boolean h(boolean c) { if (c) { boolean found = db.queryBoolean(\"q\"); return found; } for (UserAccount u : users.findAll()) { if (u.isEnabled()) { return true; } } return false; } }"
+
+abbrev pub search_slice : ℕ → ℕ → PlainSlice
+search_slice from block =
+    record {
+      from = from;
+      to = from + 29;
+      block = record { from = block; to = from + 29 };
+      outside = [];
+      declared = [];
+      params = [];
+      kinds = [];
+      tested = [];
+      gets = true;
+      prints = print (codes "found") (scalar kinds.Boolean false) ∷ [];
+      each = codes "each";
+      statements = Nothing;
+      ending = group_at from;
+    }
+
+abbrev search_method : ℕ → Method
+search_method to = method (record { ty = 6; name = 7 } ∷ []) true 10 to
+
+abbrev pub both_searches : PlainSliced
+both_searches = record { read = record { method = search_method 74; words = words }; slices = search_slice 15 15 ∷ search_slice 45 10 ∷ [] }
+
+abbrev pub kept_search : PlainSliced
+kept_search = sliced (search_method 58) (search_slice 29 10)
+
+abbrev slice_in : Option File → Method → PlainSlice → Bool
+slice_in None m s = false
+slice_in (Some file) m s = is_slice accounts_map (accounts ∷ []) file words m s
+
+-- a group that is kept is a slice again beside one that gave way, which has its variable in the method; a view asks that of the source alone
+pub record WorkedSearches : Type 0 where
+  pub both : is_seen searching both_searches ≡ true
+  pub kept : slice_in (file_in accounts_map searched) (search_method 58) (search_slice 29 10) ≡ true
+  pub again : is_again (items_of searching) (search_slice 45 10) (items_of searched) (search_slice 29 10) ≡ true
+  pub no_source : is_seen searched kept_search ≡ false
 
 -- ---- Parameters that a slice doesn't name
 
@@ -431,3 +491,117 @@ pub record WorkedNested : Type 0 where
   pub behind : is_seen nested_query (counted_in 53 nested_query_slice) ≡ true
   pub again : is_again (items_of nested) nested_slice (items_of nested_query) nested_query_slice ≡ true
   pub without_query : is_again (items_of nested_query) nested_query_slice (items_of nested) nested_slice ≡ false
+
+-- ---- Declarations that ask
+
+abbrev pub asked_constant : List ℕ
+asked_constant = codes "class D { void f(int k) { final boolean n = db.queryBoolean(\"q\"); for (UserAccount u : users.findAll()) { k++; } g(k, n); } }"
+
+abbrev pub asked_changing : List ℕ
+asked_changing = codes "class D { void f(int k) { boolean n = db.queryBoolean(\"q\"); for (UserAccount u : users.findAll()) { k++; } g(k, n); } }"
+
+-- where the declaration begins at 10, and its name is behind so many items
+abbrev asked_slice : ℕ → PlainSlice
+asked_slice front =
+    counted (codes "k") (scalar kinds.Int false) kinds.Int (front + 25) (front + 32)
+    (print (codes "n") (scalar kinds.Boolean false) ∷ print (codes "k") (scalar kinds.Int false) ∷ [])
+    (Then (plain.Declaration 10 front (scalar kinds.Boolean false) (exprs.Query (front + 2) false 0 (front + 6) (scalar kinds.Boolean false) exprs.End) (front + 8))
+    (one (each_account (front + 9) (front + 12) (front + 19) (one (plain.Stepped (front + 21) counts.Up (front + 21) (front + 22) (front + 23))) (front + 24))))
+
+-- a declaration that asks is one again where it stands, `final` or not, and not without the source's `final`
+pub record WorkedHeads : Type 0 where
+  pub seen : is_seen asked_constant (counted_in 44 (asked_slice 12)) ≡ true
+  pub itself : is_again (items_of asked_constant) (asked_slice 12) (items_of asked_constant) (asked_slice 12) ≡ true
+  pub seen_without : is_seen asked_changing (counted_in 43 (asked_slice 11)) ≡ true
+  pub without : is_again (items_of asked_constant) (asked_slice 12) (items_of asked_changing) (asked_slice 11) ≡ false
+
+-- ---- Rows in sight
+
+abbrev pub beside_row : List ℕ
+beside_row = codes "class D { void f(int k, UserAccount a) { for (UserAccount u : users.findAll()) { k++; } g(k, a); } }"
+
+abbrev beside_row_slice : List Sighted → List ℕ → PlainSlice
+beside_row_slice outside declared =
+    record {
+      from = 13;
+      to = 29;
+      block = record { from = 13; to = 36 };
+      outside = outside;
+      declared = declared;
+      params = param (codes "k") None (codes "k") ∷ [];
+      kinds = kinds.Int ∷ [];
+      tested = [];
+      gets = true;
+      prints = print (codes "k") (scalar kinds.Int false) ∷ [];
+      each = codes "each";
+      statements = one (each_account 13 16 23 (one (plain.Stepped 25 counts.Up 25 26 27)) 28);
+      ending = Open;
+    }
+
+abbrev beside_row_method : Method
+beside_row_method = method (record { ty = 6; name = 7 } ∷ record { ty = 9; name = 10 } ∷ []) false 13 36
+
+abbrev pub with_row : PlainSliced
+with_row =
+    sliced beside_row_method
+    (beside_row_slice (outer (codes "k") (scalar kinds.Int false) ∷ outer (codes "a") (types.Row 0) ∷ []) (7 ∷ 10 ∷ []))
+
+abbrev pub without_row : PlainSliced
+without_row = sliced beside_row_method (beside_row_slice (outer (codes "k") (scalar kinds.Int false) ∷ []) (7 ∷ []))
+
+-- what is from outside names each row in sight, though the slice doesn't
+pub record WorkedRows : Type 0 where
+  pub named : is_seen beside_row with_row ≡ true
+  pub unnamed : is_seen beside_row without_row ≡ false
+
+-- ---- Slices without a bound
+
+abbrev prints_twice : List Printed
+prints_twice = print (codes "n") (scalar kinds.Int false) ∷ print (codes "n") (scalar kinds.Int false) ∷ []
+
+abbrev pub printed_twice : PlainSlice
+printed_twice = counting_slice (codes "each") prints_twice
+
+-- of 97 bytes
+abbrev pub named_long : PlainSlice
+named_long =
+    counting_slice (codes "e123456789012345678901234567890123456789012345678901234567890123456789012345678901234567890123456")
+    (print (codes "n") (scalar kinds.Int false) ∷ [])
+
+abbrev pub handed_twice : PlainSliced
+handed_twice = reported_with (param (codes "chief") (Some 2) (codes "chief_age2") ∷ []) (kinds.Int ∷ [])
+
+-- behind `n = 0;`, before the loop
+abbrev pub without_items : PlainSlice
+without_items =
+    record {
+      from = 22;
+      to = 22;
+      block = record { from = 18; to = 38 };
+      outside = [];
+      declared = [];
+      params = [];
+      kinds = [];
+      tested = [];
+      gets = true;
+      prints = [];
+      each = codes "each";
+      statements = Nothing;
+      ending = Open;
+    }
+
+abbrev pub is_counting_slice : PlainSlice → Bool
+is_counting_slice s = slice_in (file_in accounts_map counting) counting_method s
+
+abbrev pub is_counting_seen : PlainSlice → Bool
+is_counting_seen s = is_seen counting (sliced counting_method s)
+
+-- what prints or is handed a value twice, holds no item, or has a long name is none of the source, since any number or length would do
+pub record WorkedBounds : Type 0 where
+  pub twice : is_counting_slice printed_twice ≡ true
+  pub seen_twice : is_counting_seen printed_twice ≡ false
+  pub long : is_counting_slice named_long ≡ true
+  pub seen_long : is_counting_seen named_long ≡ false
+  pub empty : is_counting_slice without_items ≡ true
+  pub seen_empty : is_counting_seen without_items ≡ false
+  pub handed : is_seen reporting handed_twice ≡ false

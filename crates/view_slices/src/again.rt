@@ -1,10 +1,12 @@
 // Slices that stand where others stood.
-ghost use Rattle.std.specs.Prelude.{◌≡◌, option_copied};
+ghost use Rattle.std.specs.Prelude.{◌≡◌, is_some, option_copied};
+ghost use Rattle.view_rules.specs.Sights.{in_sight};
 ghost use Rattle.view_slices.specs.Reading.{slice as plain};
 ghost use Rattle.view_slices.specs.Views as specs;
 
 use crate::kept::keeps_statements;
 use crate::prints::{is_print_of, returned};
+use crate::words::same_sign;
 use view_items::Item;
 use view_map::ScalarKind;
 use view_rules::{Param, Sighted, find_sighted, same_kind, same_type};
@@ -103,6 +105,36 @@ fn are_sighted_in(outside: &[Sighted], others: &[Sighted]) -> bool
     others.iter().all(|v| is_sighted_in(outside, v))
 }
 
+fn is_known(v: Option<&Sighted>) -> bool
+    ensures { result ≡ is_some (option_copied v.entry) }
+{
+    match v {
+        Some(_) => true,
+        None => false,
+    }
+}
+
+fn is_known_in(outside: &[Sighted], p: &Printed) -> bool
+    ensures { result ≡ is_some (in_sight outside.now p.now.name) }
+{
+    is_known(find_sighted(outside, p.name.as_slice()))
+}
+
+fn is_outside_alike(slice: &Slice, again: &Slice, p: &Printed) -> bool
+    ensures { result ≡ specs.is_outside_alike (plain slice.now) (plain again.now) p.now }
+{
+    same_sign(
+        is_known_in(slice.outside.as_slice(), p),
+        is_known_in(again.outside.as_slice(), p),
+    )
+}
+
+fn are_outside_alike(slice: &Slice, again: &Slice, prints: &[Printed]) -> bool
+    ensures { result ≡ specs.are_outside_alike (plain slice.now) (plain again.now) prints.now }
+{
+    prints.iter().all(|p| is_outside_alike(slice, again, p))
+}
+
 fn has_same_ends(slice: &Slice, again: &Slice) -> bool
     ensures { result ≡ specs.has_same_ends (plain slice.now) (plain again.now) }
 {
@@ -111,12 +143,13 @@ fn has_same_ends(slice: &Slice, again: &Slice) -> bool
             && (same_prints(slice.prints.as_slice(), again.prints.as_slice())
                 && (slice.each.as_slice() == again.each.as_slice()
                     && (same_name(returned(&slice.ending), returned(&again.ending))
-                        && are_sighted_in(slice.outside.as_slice(), again.outside.as_slice())))))
+                        && (are_sighted_in(slice.outside.as_slice(), again.outside.as_slice())
+                            && are_outside_alike(slice, again, slice.prints.as_slice()))))))
 }
 
 /// Whether a slice of another file, with the items `written`, is one again: it is handed the same, prints the same and returns the same, the
-/// variables in sight before it were so before, and it is made of statements of the first one, item for item, and of ones that ask. Time goes
-/// with the items of both.
+/// variables in sight before it were so before, what it prints is from outside in both or in none, and it is made of statements of the first one,
+/// item for item, and of ones that ask. Time goes with the items of both.
 pub fn is_again(items: &[Item], slice: &Slice, written: &[Item], again: &Slice) -> bool
     ensures { result ≡ specs.is_again items.now (plain slice.now) written.now (plain again.now) }
 {

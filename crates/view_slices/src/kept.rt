@@ -1,7 +1,6 @@
 // What is written in place of a slice: statements of the source as they stand there, and statements that ask.
 ghost use Rattle.std.specs.Prelude.{◌≡◌, take, drop, option_copied};
 ghost use Rattle.view_rules.specs.Reading.{expression, arguments_of};
-ghost use Rattle.view_scope.specs.Obscured.{word_at as word_in};
 ghost use Rattle.view_slices.specs.Kept as specs;
 ghost use Rattle.view_slices.specs.Kept.{beside_of};
 ghost use Rattle.view_slices.specs.Reading.{slice as plain, ending as plain_ending};
@@ -11,7 +10,7 @@ use crate::file::word_at;
 use crate::prints::is_printed;
 use crate::words::same_sign;
 use view_items::Item;
-use view_rules::{Arguments, Expression, JavaType, is_scalar};
+use view_rules::{Arguments, Expression, JavaType, is_scalar, kind_word};
 use view_shapes::{Stretch, is_named};
 use view_statements::{Ending, Printed, Slice, Statement};
 
@@ -235,12 +234,6 @@ fn other_of(st: &Statement) -> &[Statement]
     }
 }
 
-fn is_front(b: &Beside, s: &Statement, t: &Statement) -> bool
-    ensures { result ≡ specs.is_front (beside_of b.now) (statement s.now) (statement t.now) }
-{
-    shape_of(s) == shape_of(t) && same_items(b, head_of(s), head_of(t))
-}
-
 fn is_needed(b: &Beside, at: usize, name: usize, java: JavaType) -> bool
     ensures { result ≡ specs.is_needed (beside_of b.now) at name java }
 {
@@ -253,10 +246,132 @@ fn may_be_left_out(b: &Beside, st: &Statement) -> bool
     ensures { result ≡ specs.may_be_left_out (beside_of b.now) (statement st.now) }
 {
     match st {
-        Statement::Declaration { at, name, java, .. }
-        | Statement::Inferred { at, name, java, .. } => !is_needed(b, *at, *name, *java),
+        Statement::Declaration {
+            at,
+            name,
+            java,
+            value,
+            ..
+        } => is_asked(value) || !is_needed(b, *at, *name, *java),
+        Statement::Inferred { at, name, java, .. } => !is_needed(b, *at, *name, *java),
         _ => true,
     }
+}
+
+// ---- Heads of declarations that ask
+
+fn is_word_for(java: JavaType, word: &[u8]) -> bool
+    ensures { result ≡ specs.is_word_for java word.now }
+{
+    match java {
+        JavaType::Scalar(t) => word == kind_word(t.kind),
+        _ => false,
+    }
+}
+
+fn ends_with_type(b: &Beside, s: Stretch, t: Stretch, java: JavaType) -> bool
+    ensures { result ≡ specs.ends_with_type (beside_of b.now) s t java }
+{
+    word_at(b.items, s.to.saturating_sub(1)) == b"var".as_slice()
+        && is_word_for(java, word_at(b.written, t.to.saturating_sub(1)))
+}
+
+fn is_inferred_head(b: &Beside, s: Stretch, t: Stretch, java: JavaType) -> bool
+    ensures { result ≡ specs.is_inferred_head (beside_of b.now) s t java }
+{
+    let count = s.to.saturating_sub(1).saturating_sub(s.from);
+    s.to.saturating_sub(s.from) == t.to.saturating_sub(t.from)
+        && (ends_with_type(b, s, t, java)
+            && (begin_alike(
+                up_to_item(from_item(b.items, s.from), count),
+                from_item(b.written, t.from),
+            ) && same_word(b.items.get(s.to), b.written.get(t.to))))
+}
+
+fn up_to(from: usize, to: usize) -> Stretch
+    ensures { result ≡ specs.up_to from to }
+{
+    Stretch { from, to }
+}
+
+fn has_head(b: &Beside, t: Stretch, st: &Statement) -> bool
+    ensures { result ≡ specs.has_head (beside_of b.now) t (statement st.now) }
+{
+    match st {
+        Statement::Declaration { at, name, .. } => same_items(b, up_to(*at, *name), t),
+        Statement::Inferred { at, name, java, .. } => {
+            is_inferred_head(b, up_to(*at, *name), t, *java)
+        }
+        _ => false,
+    }
+}
+
+fn is_head_among(b: &Beside, t: Stretch, sts: &[Statement]) -> bool
+    ensures { result ≡ specs.is_head_among (beside_of b.now) t (statements sts.now) }
+{
+    for st in sts {
+        if has_head(b, t, st) {
+            return true;
+        }
+    }
+    false
+}
+
+fn is_head_of_group(b: &Beside, variable: &[u8], t: Stretch) -> bool
+    ensures { result ≡ specs.is_head_of_group (beside_of b.now) variable.now t }
+{
+    t.to.saturating_sub(t.from) == 1
+        && (word_at(b.written, t.from) == b"boolean".as_slice()
+            && word_at(b.written, t.to) == variable)
+}
+
+fn is_headed(b: &Beside, variable: &[u8], source: &[Statement], t: &Statement) -> bool
+    ensures { result ≡ specs.is_headed (beside_of b.now) variable.now (statements source.now) (statement t.now) }
+{
+    match t {
+        Statement::Declaration {
+            at,
+            name,
+            value,
+            ..
+        } => {
+            !is_asked(value)
+                || (is_head_among(b, up_to(*at, *name), source)
+                    || is_head_of_group(b, variable, up_to(*at, *name)))
+        }
+        _ => true,
+    }
+}
+
+/// Whether each declaration that asks begins as one of the source does in the same block.
+fn are_headed(b: &Beside, variable: &[u8], source: &[Statement], written: &[Statement]) -> bool
+    ensures { result ≡ specs.are_headed (beside_of b.now) variable.now (statements source.now) (statements written.now) }
+{
+    for t in written {
+        if !is_headed(b, variable, source, t) {
+            return false;
+        }
+    }
+    true
+}
+
+fn are_bodies_headed(b: &Beside, s: &Statement, t: &Statement) -> bool
+    ensures { result ≡ specs.are_bodies_headed (beside_of b.now) (statement s.now) (statement t.now) }
+{
+    are_headed(b, &[], body_of(s), body_of(t)) && are_headed(b, &[], other_of(s), other_of(t))
+}
+
+fn are_fronts_alike(b: &Beside, s: &Statement, t: &Statement) -> bool
+    ensures { result ≡ specs.are_fronts_alike (beside_of b.now) (statement s.now) (statement t.now) }
+{
+    shape_of(s) == shape_of(t) && same_items(b, head_of(s), head_of(t))
+}
+
+#[tactic(auto, unfolding(crate::specs::Kept::is_front))]
+fn is_front(b: &Beside, s: &Statement, t: &Statement) -> bool
+    ensures { result ≡ specs.is_front (beside_of b.now) (statement s.now) (statement t.now) }
+{
+    are_fronts_alike(b, s, t) && are_bodies_headed(b, s, t)
 }
 
 // ---- One behind the other
@@ -330,7 +445,17 @@ fn is_ending_kept(b: &Beside, levels: usize, s: &Ending, t: &Ending) -> bool
     }
 }
 
-/// Whether what stands in place of a slice is made of its statements, item for item, and of ones that ask. Time goes with the items of both.
+fn group_variable(ending: &Ending) -> &[u8]
+    ensures { result.now ≡ specs.group_variable (plain_ending ending.now) }
+{
+    match ending {
+        Ending::Grouped(g) => g.variable.as_slice(),
+        _ => &[],
+    }
+}
+
+/// Whether what stands in place of a slice is made of its statements, item for item, and of ones that ask. Time goes with the items of both,
+/// and with the declarations that ask for each statement of their block.
 pub fn keeps_statements(items: &[Item], slice: &Slice, written: &[Item], again: &Slice) -> bool
     ensures { result ≡ specs.keeps_statements items.now (plain slice.now) written.now (plain again.now) }
 {
@@ -340,10 +465,9 @@ pub fn keeps_statements(items: &[Item], slice: &Slice, written: &[Item], again: 
         prints: slice.prints.as_slice(),
     };
     let levels = slice.to.saturating_sub(slice.from);
-    are_kept(
-        &b,
-        levels,
-        slice.statements.as_slice(),
-        again.statements.as_slice(),
-    ) && is_ending_kept(&b, levels, &slice.ending, &again.ending)
+    let source = slice.statements.as_slice();
+    let other = again.statements.as_slice();
+    are_headed(&b, group_variable(&slice.ending), source, other)
+        && (are_kept(&b, levels, source, other)
+            && is_ending_kept(&b, levels, &slice.ending, &again.ending))
 }

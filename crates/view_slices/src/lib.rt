@@ -2,6 +2,7 @@
 #![tactic(auto)]
 
 mod again;
+mod bounds;
 mod file;
 mod kept;
 mod params;
@@ -18,5 +19,5 @@ pub use again::is_again;
 pub use file::{class_name, looked_at, open_file};
 pub use shown::put_method;
 pub use slices::{is_slice, within};
-pub use view::{is_view, put_class, slice_name};
+pub use view::{is_member, is_view, put_class, slice_name};
 pub use words::{Known, are_words, known_in};

@@ -3,6 +3,7 @@ ghost use Rattle.std.specs.Prelude.{◌≡◌, option_copied};
 ghost use Rattle.view_slices.specs.Reading.{slice as plain, ending as plain_ending};
 ghost use Rattle.view_slices.specs.Slices as specs;
 ghost use Rattle.view_slices.specs.Slices.{file_of};
+ghost use Rattle.view_slices.specs.Views as views;
 
 use view_map::{FetchPattern, Member, Part, PatternItem, RowClass, ScalarKind, Template, ViewMap};
 use view_rules::{JavaType, Param, Sighted, find_sighted, same_kind};
@@ -213,23 +214,33 @@ fn is_last(method: &Method, slice: &Slice) -> bool
     method.gives_truth && slice.to == slice.block.to
 }
 
-fn is_ending_there(
-    map: &ViewMap,
-    file: &File,
-    method: &Method,
-    slice: &Slice,
-    ending: &Ending,
-) -> bool
-    ensures { result ≡ specs.is_ending_there map.now (file_of file.now) method.now (plain slice.now) (plain_ending ending.now) }
+fn is_unnamed(file: &File, slice: &Slice, name: &[u8]) -> bool
+    ensures { result ≡ specs.is_unnamed (file_of file.now) (plain slice.now) name.now }
+{
+    is_no_word(name)
+        && (!is_word_in(file, name, slice.from, slice.to)
+            && !has_param_name(name, slice.params.as_slice()))
+}
+
+fn is_ending_there(file: &File, method: &Method, slice: &Slice, ending: &Ending) -> bool
+    ensures { result ≡ specs.is_ending_there (file_of file.now) method.now (plain slice.now) (plain_ending ending.now) }
 {
     match ending {
         Ending::Open => true,
         Ending::Grouped(g) => {
-            is_last(method, slice)
-                && (is_fresh(map, file, method, g.variable.as_slice())
-                    && !has_param_name(g.variable.as_slice(), slice.params.as_slice()))
+            is_last(method, slice) && is_unnamed(file, slice, g.variable.as_slice())
         }
         Ending::Returned(_) => is_last(method, slice),
+    }
+}
+
+/// Whether the variable of a group has a name that neither the method nor the map has. Time goes with the items of both.
+pub fn is_ending_fresh(map: &ViewMap, file: &File, method: &Method, ending: &Ending) -> bool
+    ensures { result ≡ views.is_ending_fresh map.now (file_of file.now) method.now (plain_ending ending.now) }
+{
+    match ending {
+        Ending::Grouped(g) => is_fresh(map, file, method, g.variable.as_slice()),
+        Ending::Open | Ending::Returned(_) => true,
     }
 }
 
@@ -252,6 +263,6 @@ pub fn is_named_well(map: &ViewMap, file: &File, method: &Method, slice: &Slice)
         slice,
         slice.params.as_slice(),
         slice.kinds.as_slice(),
-    ) && (is_ending_there(map, file, method, slice, &slice.ending)
+    ) && (is_ending_there(file, method, slice, &slice.ending)
         && is_each_fresh(map, file, method, slice))
 }

@@ -7,7 +7,7 @@ ghost use Rattle.view_scope.specs.Outside.{body_of as body_in};
 ghost use Rattle.view_statements.specs.Places.{frame_of};
 
 use view_rules::{JavaType, Sighted, is_name_among};
-use view_scope::{Standing, is_guarded, is_in_sight_at, is_inside_try, is_tested};
+use view_scope::{Standing, are_rows_known, is_guarded, is_in_sight_at, is_inside_try, is_tested};
 use view_shapes::{File, Method, Stretch, has_name};
 use view_statements::{Frame, Slice, is_seen_name};
 
@@ -160,7 +160,8 @@ fn are_safe(
     }
 }
 
-/// Whether what is so round a slice is so: it stands in a block, and what comes from outside is declared and not null.
+/// Whether what is so round a slice is so: it stands in a block, what comes from outside is declared and not null,
+/// and rows in sight are all among it.
 pub fn is_placed(
     f: &Frame,
     file: &File,
@@ -179,6 +180,13 @@ pub fn is_placed(
             slice.from,
             slice.outside.as_slice(),
             slice.declared.as_slice(),
+        ) && (are_rows_known(
+            f.within,
+            f.closings,
+            standing,
+            method,
+            slice.from,
+            slice.outside.as_slice(),
         ) && (are_safe(
             file,
             standing,
@@ -187,5 +195,5 @@ pub fn is_placed(
             slice,
             slice.outside.as_slice(),
             slice.declared.as_slice(),
-        ) && (!slice.gets || !is_inside_try(file.items, file.closings, method, slice.from))))
+        ) && (!slice.gets || !is_inside_try(file.items, file.closings, method, slice.from)))))
 }

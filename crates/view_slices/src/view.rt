@@ -7,7 +7,9 @@ ghost use Rattle.view_slices.specs.Slices.{file_of};
 ghost use Rattle.view_slices.specs.Views as specs;
 ghost use Rattle.view_slices.specs.Words.{known_in as all_known};
 
+use crate::bounds::is_bounded;
 use crate::file::class_name;
+use crate::params::is_ending_fresh;
 use crate::shown::put_method;
 use crate::slices::{is_slice, within};
 use crate::words::{Known, are_words, known_in};
@@ -54,8 +56,13 @@ fn same_method(a: &Method, b: &Method) -> bool
                     && same_parameters(a.parameters.as_slice(), b.parameters.as_slice()))))
 }
 
-/// Whether a member of the class is this method. Time goes with the items of the member.
-fn is_member(alloc: Global, file: &File, member: Stretch, method: &Method) -> Result<bool, NoMemory>
+/// Whether a member of the class is this method. Time goes with the items of the member. It fails only by want of memory.
+pub fn is_member(
+    alloc: Global,
+    file: &File,
+    member: Stretch,
+    method: &Method,
+) -> Result<bool, NoMemory>
     ensures { IfOk result (λ b. b ≡ specs.is_member (file_of file.now) member method.now) }
 {
     match method_of(alloc, file.items, file.closings, member)? {
@@ -94,6 +101,14 @@ fn are_params_named(items: &[Item], s: &Slice) -> bool
         .all(|p| is_param_named(items, s, p))
 }
 
+/// Whether what is asked of a slice of the source alone is so.
+fn is_of_source(map: &ViewMap, file: &File, method: &Method, s: &Slice) -> bool
+    ensures { result ≡ specs.is_of_source map.now (file_of file.now) method.now (plain s.now) }
+{
+    are_params_named(file.items, s)
+        && (is_ending_fresh(map, file, method, &s.ending) && is_bounded(s))
+}
+
 fn is_one_of(
     alloc: Global,
     map: &ViewMap,
@@ -106,7 +121,7 @@ fn is_one_of(
 ) -> Result<bool, NoMemory>
     ensures { IfOk result (λ b. b ≡ specs.is_one map.now tables.now (file_of file.now) read.now standing.now tested.now (plain s.now)) }
 {
-    if are_params_named(file.items, s) {
+    if is_of_source(map, file, &read.method, s) {
         is_slice(
             alloc,
             map,

@@ -1,5 +1,5 @@
 // What may be read in a method.
-ghost use Rattle.std.specs.Prelude.{◌≡◌, ◌++◌, [], IfOk, OnOk, map, option_copied, option_map};
+ghost use Rattle.std.specs.Prelude.{◌≡◌, ◌+◌, ◌++◌, [], IfOk, OnOk, map, option_copied, option_map};
 ghost use Rattle.view_slices.specs.Slices.{file_of};
 ghost use Rattle.view_slices.specs.Words as specs;
 
@@ -16,10 +16,12 @@ use view_scope::{
 use view_shapes::{File, Method, Stretch};
 use view_statements::{Words, copied};
 
-/// What is asked once for a file: which fetch patterns and which templates mean in its class what the map says, which constants of the map no
-/// field hides, the constants of the class, and the names of classes that nothing obscures.
+/// What is asked once for a file: the numbers of the map's classes that are there in it, which fetch patterns and which templates mean in its
+/// class what the map says, which constants of the map no field hides, the constants of the class, and the names of classes that nothing
+/// obscures.
 #[derive(Drop)]
 pub struct Known {
+    pub classes: Items<u32>,
     pub kept: Items<bool>,
     pub templates: Items<bool>,
     pub free: Items<bool>,
@@ -28,6 +30,39 @@ pub struct Known {
 }
 
 // ---- Of the class, whatever the method
+
+/// Pushes the number of a class, if it is there in a file of a class.
+fn add_class(class: &[u8], number: u32, c: &RowClass, list: &mut Items<u32>) -> Result<(), NoMemory>
+    ensures { OnOk result (list.new ≡ list.old ++ specs.class_at class.now number c.now) }
+{
+    if is_there(class, &c.within) {
+        list.push(number)
+    } else {
+        Ok(())
+    }
+}
+
+/// The next number, unless so many things are more than fit into memory.
+fn next_number(number: u32) -> Result<u32, NoMemory>
+    ensures { IfOk result (λ n. n ≡ number + 1) }
+{
+    match number.checked_add(1) {
+        Some(n) => Ok(n),
+        None => Err(NoMemory),
+    }
+}
+
+fn classes_from(alloc: Global, class: &[u8], classes: &[RowClass]) -> Result<Items<u32>, NoMemory>
+    ensures { IfOk result (λ list. list ≡ specs.classes_from class.now 0 classes.now) }
+{
+    let mut list = Items::new(alloc);
+    let mut number = 0u32;
+    for c in classes {
+        add_class(class, number, c, &mut list)?;
+        number = next_number(number)?;
+    }
+    Ok(list)
+}
 
 fn all_kept(
     alloc: Global,
@@ -167,6 +202,7 @@ pub fn known_in(
     ensures { IfOk result (λ known. known ≡ specs.known_in map.now (file_of file.now)) }
 {
     Ok(Known {
+        classes: classes_from(alloc, class_name(file), map.classes.as_slice())?,
         kept: all_kept(alloc, map, file, members, map.fetches.as_slice())?,
         templates: all_templates_kept(alloc, map, file, members, map.templates.as_slice())?,
         free: all_unhidden(alloc, file, map.constants.as_slice())?,
@@ -176,28 +212,6 @@ pub fn known_in(
 }
 
 // ---- In a method
-
-fn is_class_there(class: &[u8], c: Option<&RowClass>) -> bool
-    ensures { result ≡ specs.is_class_there class.now (option_copied c.entry) }
-{
-    match c {
-        Some(c) => is_there(class, &c.within),
-        None => false,
-    }
-}
-
-fn is_class_of(map: &ViewMap, file: &File, number: u32) -> bool
-    ensures { result ≡ specs.is_class_of map.now (file_of file.now) number }
-{
-    let c = map.classes.as_slice().get(number as usize);
-    is_class_there(class_name(file), c)
-}
-
-fn are_classes_there(map: &ViewMap, file: &File, numbers: &[u32]) -> bool
-    ensures { result ≡ specs.are_classes_there map.now (file_of file.now) numbers.now }
-{
-    numbers.iter().all(|n| is_class_of(map, file, *n))
-}
 
 fn is_fetch_kept(
     map: &ViewMap,
@@ -434,12 +448,39 @@ fn are_names_among(names: &[Bytes], all: &[Bytes]) -> bool
     is_no_name(rest)
 }
 
+fn is_no_number(numbers: &[u32]) -> bool
+    ensures { result ≡ specs.same_numbers [] numbers.now }
+{
+    match numbers {
+        [] => true,
+        [_, ..] => false,
+    }
+}
+
+fn same_numbers(numbers: &[u32], others: &[u32]) -> bool
+    ensures { result ≡ specs.same_numbers numbers.now others.now }
+{
+    let mut rest = others;
+    for m in numbers {
+        match rest {
+            [] => return false,
+            [n, behind @ ..] => {
+                if !(*m == *n) {
+                    return false;
+                }
+                rest = behind;
+            }
+        }
+    }
+    is_no_number(rest)
+}
+
 /// Whether all that is listed may be read in a method, by what is known of its file. Time goes with the items of the method for each name.
 pub fn are_words(map: &ViewMap, file: &File, known: &Known, method: &Method, words: &Words) -> bool
     requires { known.now ≡ specs.known_in map.now (file_of file.now) }
     ensures { result ≡ specs.are_words map.now (file_of file.now) method.now words.now }
 {
-    are_classes_there(map, file, words.classes.as_slice())
+    same_numbers(words.classes.as_slice(), known.classes.as_slice())
         && (are_fetches_there(map, file, known, method, words.fetches.as_slice())
             && (are_templates_there(map, file, known, method, words.templates.as_slice())
                 && (are_constants_there(map, file, known, method, words.map_constants.as_slice())

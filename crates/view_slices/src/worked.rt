@@ -1,5 +1,5 @@
 //! Worked views, as laws that compute. They do nothing.
-ghost use Rattle.view_slices.specs.Worked.{WorkedColumns, WorkedConstants, WorkedGroups, WorkedLoops, WorkedNested, WorkedParameters, WorkedWidths};
+ghost use Rattle.view_slices.specs.Worked.{WorkedBounds, WorkedColumns, WorkedConstants, WorkedGroups, WorkedHeads, WorkedLoops, WorkedNested, WorkedParameters, WorkedRows, WorkedSearches, WorkedWidths};
 
 /// What a slice in the block of a loop sets is printed, since the loop's condition names it before.
 #[tactic(auto, using(crate::proofs::Computed::loops))]
@@ -41,4 +41,28 @@ pub fn constants_stay()
 #[tactic(auto, using(crate::proofs::Computed::nested))]
 pub fn what_gave_way_inside_is_read_again()
     ensures { WorkedNested }
+{}
+
+/// A declaration that asks begins as the source's does.
+#[tactic(auto, using(crate::proofs::Computed::heads))]
+pub fn declarations_that_ask_keep_their_heads()
+    ensures { WorkedHeads }
+{}
+
+/// What is from outside names each row in sight.
+#[tactic(auto, using(crate::proofs::Computed::rows))]
+pub fn rows_in_sight_are_named()
+    ensures { WorkedRows }
+{}
+
+/// A group that is kept is a slice again beside one that gave way.
+#[tactic(auto, using(crate::proofs::Computed::searches))]
+pub fn kept_groups_are_read_again()
+    ensures { WorkedSearches }
+{}
+
+/// A slice that is empty, prints or is handed a value twice, or has a long name isn't of the source.
+#[tactic(auto, using(crate::proofs::Computed::bounds))]
+pub fn slices_of_the_source_have_a_bound()
+    ensures { WorkedBounds }
 {}
