@@ -1,5 +1,5 @@
 -- Patches that lie apart.
-use Rattle.std.proofs.Common.{◌≡◌, ℕ, ◌≤◌, ◌<◌, zero, suc, true, ◌&&◌, List, [], ◌∷◌, ◌++◌, set, length, sym, subst, append_assoc, rules, arith}
+use Rattle.std.proofs.Common.{◌≡◌, ℕ, ◌≤◌, ◌<◌, zero, suc, true, ◌&&◌, List, [], ◌∷◌, ◌++◌, set, length, sym, append_assoc, rules, arith}
 use Rattle.std.specs.Prelude.{nat_le}
 use Rattle.std.proofs.lemmas.Bool.{and_parts, and_from, leb-true, le-leb}
 use Rattle.text_patches.specs.declared.patch.TextPatch.{TextPatch}

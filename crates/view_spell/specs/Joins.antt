@@ -1,5 +1,5 @@
 -- Queries that list no row twice: each table in FROM is bound to one row for each row that is listed.
-use Rattle.std.specs.Prelude.{ℕ, zero, suc, ◌+◌, Bool, true, false, ◌&&◌, ◌||◌, not, ◌==◌, List, [], ◌∷◌, length, Option, Some, None, Result, Ok, Err, slice_get}
+use Rattle.std.specs.Prelude.{ℕ, zero, suc, Bool, true, false, ◌&&◌, ◌||◌, not, ◌==◌, List, [], ◌∷◌, Option, Some, None, Result, Ok, Err, slice_get}
 use Rattle.std.specs.List.{list_any, list_all}
 use Rattle.qbs_base.specs.declared.columns.Column.{Column}
 use Rattle.qbs_base.specs.Columns.{columns_at}
@@ -7,7 +7,6 @@ use Rattle.qbs_base.specs.Values.{Schema}
 use Rattle.sql_ast.specs.declared.rule.SqlRule.{SqlRule}
 use Rattle.sql_ast.specs.declared.tree.Cmp.TheVariants as cmps
 use Rattle.sql_ast.specs.declared.tree.FromItem.{FromItem}
-use Rattle.sql_ast.specs.declared.tree.SqlCol.{SqlCol}
 use Rattle.sql_ast.specs.declared.tree.SqlColumn.{SqlColumn}
 use Rattle.sql_ast.specs.declared.tree.SqlColumn.TheVariants as columns
 use Rattle.sql_ast.specs.declared.tree.SqlItem.{SqlItem}

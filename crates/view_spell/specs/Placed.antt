@@ -3,7 +3,6 @@ use Rattle.std.specs.Prelude.{◌≡◌, ℕ, suc, Bool, true, false, ◌&&◌, 
 use Rattle.std.specs.List.{prefix_len}
 use Rattle.java_stretches.specs.Patches.{PlainPatch}
 use Rattle.text_patches.specs.declared.patch.TextPatch.{TextPatch}
-use Rattle.view_items.specs.declared.item.Item.{Item}
 use Rattle.view_shapes.specs.declared.method.Method.{Method}
 use Rattle.view_statements.specs.Slices.{PlainSlice, PlainSliced}
 use Rattle.view_spell.specs.declared.origins.Origin.{Origin}

@@ -1,6 +1,6 @@
 -- Rows that are objects. In the file the rows of two lists may be the same objects, since they came from one fetch; a query has rows of its own. And
 -- a list of a join holds one object as often as a row is met, a query as many objects.
-use Rattle.std.specs.Prelude.{ℕ, Bool, true, false, ◌&&◌, ◌||◌, not, ◌==◌, List, [], ◌∷◌, Option, Some, None, slice_get, if◌then◌else◌}
+use Rattle.std.specs.Prelude.{ℕ, Bool, true, false, ◌&&◌, ◌||◌, not, ◌==◌, List, Option, Some, None, slice_get, if◌then◌else◌}
 use Rattle.std.specs.List.{list_any, list_all}
 use Rattle.std.specs.Str.{bytes_eq}
 use Rattle.qbs_base.specs.Columns.{table_number}

@@ -1,7 +1,6 @@
 -- Worked patches, marks and queries.
 use Rattle.std.specs.Prelude.{ℕ, Bool, true, false, List, [], ◌∷◌, codes, None}
 use Rattle.qbs_base.specs.declared.columns.Column.{Column}
-use Rattle.qbs_base.specs.declared.columns.Table.{Table}
 use Rattle.qbs_base.specs.declared.scalar.Ty.TheVariants as types
 use Rattle.qbs_base.specs.Values.{Schema}
 use Rattle.sql_ast.specs.declared.tree.Cmp.TheVariants as cmps

@@ -7,7 +7,7 @@ use crate::origins::{Origin, Taken, bytes_of, origin_through};
 use crate::starts::{Start, StartForm, find_start, type_before};
 use crate::templates::{Filling, push_filled, template_for};
 use java_ast::{Expr, ExprNode, Stmt, StmtNode};
-use qbs_base::{Name, NoMemory, Text};
+use qbs_base::{Name, Text};
 use std::alloc::Global;
 use view_items::Item;
 use view_map::{QueryKind, RowClass, ScalarKind};

@@ -1,5 +1,5 @@
 // Queries that list no row twice.
-ghost use Rattle.std.specs.Prelude.{◌≡◌, ◌+◌, ◌<◌, ◌^◌, ◌++◌, length, OnOk, IfOk, box_value, option_copied};
+ghost use Rattle.std.specs.Prelude.{◌≡◌, ◌+◌, ◌<◌, ◌^◌, ◌++◌, length, OnOk, IfOk, box_value};
 ghost use Rattle.std.specs.Option.{option_map};
 ghost use Rattle.sql_ast.specs.Reader.{query_of_text};
 ghost use Rattle.sql_ast.specs.Reading.{condition, filter_of, listing, query};

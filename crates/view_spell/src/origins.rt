@@ -1,5 +1,5 @@
 // Where in the file what is seen comes from.
-ghost use Rattle.std.specs.Prelude.{◌≡◌, suc, option_copied};
+ghost use Rattle.std.specs.Prelude.{◌≡◌, option_copied};
 ghost use Rattle.view_statements.specs.Slices.{slice as plain, group as plain_group, ending as plain_ending};
 ghost use Rattle.view_statements.specs.Reading.{statement};
 ghost use Rattle.view_text.specs.Layout.{stretches_of};
