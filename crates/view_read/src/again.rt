@@ -1,15 +1,15 @@
 // Statements of a file that was written, where a slice stood.
-use crate::file::Class;
 use crate::reader::{Reader, Trust};
 use crate::slices::copy_all;
 use crate::statements::LEVELS;
+use crate::words::Class;
 use indexmap::IndexMap;
 use qbs_base::{Bytes, Fail, Items, NoMemory};
 use std::alloc::Global;
 use view_rules::{Param, Sighted};
 use view_scope::{Standing, is_in_sight_at, is_inside_try, standing_of};
 use view_shapes::{Stretch, blocks_of, end_of};
-use view_statements::{Ending, Printed, Read, Slice, Statement, at_top};
+use view_statements::{Ending, Group, Printed, Read, Slice, Statement, at_top};
 
 fn copy_bytes(alloc: Global, bytes: &[u8]) -> Result<Bytes, NoMemory> {
     let copy = bytes.to_vec(alloc)?;
@@ -81,6 +81,21 @@ impl<'b> Places<'b> {
             *slot = Some(place);
         }
     }
+}
+
+/// A slice of another file, the block in which statements stand in its place, and whether the result of the method is one truth value.
+#[derive(Clone, Copy)]
+struct Seen<'b> {
+    slice: &'b Slice,
+    block: Stretch,
+    gives_truth: bool,
+}
+
+/// Statements, and the group with which they end.
+#[derive(Drop)]
+struct Statements {
+    list: Items<Statement>,
+    group: Option<Group>,
 }
 
 impl<'a> Reader<'a> {
@@ -163,53 +178,77 @@ impl<'a> Reader<'a> {
         Ok(())
     }
 
-    /// The statements from the next item up to a number, if all are read.
-    fn statements_to(&mut self, to: usize) -> Result<Option<Items<Statement>>, NoMemory> {
+    /// The group that begins with the next item, where the slice that stood there ended with one.
+    fn kept_group(&mut self, seen: Seen, end: Option<usize>) -> Result<Option<Group>, NoMemory> {
+        match (&seen.slice.ending, end) {
+            (Ending::Grouped(group), Some(end)) => {
+                let at = Stretch {
+                    from: self.at,
+                    to: end,
+                };
+                self.read_group_again(seen.gives_truth, at, seen.block, &group.variable)
+            }
+            _ => Ok(None),
+        }
+    }
+
+    /// The statements from the next item up to a number, and the group with which they end, if all are read.
+    fn statements_to(&mut self, seen: Seen, to: usize) -> Result<Option<Statements>, NoMemory> {
         let mut list = Vec::new(self.alloc);
         for _ in self.at..to {
             if self.at >= to {
                 break;
             }
             let end = end_of(self.method.items, self.method.closings, self.at);
+            if let Some(group) = self.kept_group(seen, end)? {
+                return Ok(self.ended_by(Items::from_vec(list), Some(group), to));
+            }
             match self.statement(at_top(), LEVELS, &mut list) {
                 Ok(()) if end == Some(self.at) => {}
                 Err(Fail::NoMemory) => return Err(NoMemory),
                 _ => return Ok(None),
             }
         }
-        if self.at == to {
-            Ok(Some(Items::from_vec(list)))
-        } else {
-            Ok(None)
-        }
+        Ok(self.ended_by(Items::from_vec(list), None, to))
     }
 
-    /// The name behind the `return` that stands where a group gave way.
-    fn returned(&self, slice: &Slice, to: usize) -> Option<usize> {
-        let name = to.saturating_sub(2);
-        if matches!(slice.ending, Ending::Grouped(_))
-            && self.is(name.saturating_sub(1), b"return")
-            && self.is(name.saturating_add(1), b";")
-        {
-            Some(name)
+    /// Statements that were read, and the group behind them, where they end at a number.
+    fn ended_by(
+        &self,
+        list: Items<Statement>,
+        group: Option<Group>,
+        to: usize,
+    ) -> Option<Statements> {
+        if self.at == to {
+            Some(Statements { list, group })
         } else {
             None
         }
     }
 
-    fn ending(&self, returned: Option<usize>) -> Result<Ending, NoMemory> {
-        match returned {
-            Some(name) => Ok(Ending::Returned(self.copy(self.bytes(name))?)),
-            None => Ok(Ending::Open),
+    /// The name behind the `return` that stands where a group gave way: that of the group's variable.
+    fn returned(&self, slice: &Slice, to: usize) -> Option<usize> {
+        let name = to.saturating_sub(2);
+        let first = name.saturating_sub(1);
+        match &slice.ending {
+            Ending::Grouped(group)
+                if self.are(first, &[b"return", group.variable.as_slice(), b";"]) => { Some(name) }
+            _ => None,
         }
     }
 
-    fn read_slice(
-        &mut self,
-        block: Stretch,
-        slice: &Slice,
-        to: usize,
-    ) -> Result<Option<Slice>, NoMemory> {
+    fn ending(&self, returned: Option<usize>, group: Option<Group>) -> Result<Ending, NoMemory> {
+        match group {
+            Some(group) => Ok(Ending::Grouped(group)),
+            None => match returned {
+                Some(name) => Ok(Ending::Returned(self.copy(self.bytes(name))?)),
+                None => Ok(Ending::Open),
+            },
+        }
+    }
+
+    fn read_slice(&mut self, seen: Seen, to: usize) -> Result<Option<Slice>, NoMemory> {
+        let Seen { slice, block, .. } = seen;
         let from = self.at;
         let outer = self.sight.len();
         let returned = self.returned(slice, to);
@@ -218,10 +257,10 @@ impl<'a> Reader<'a> {
         } else {
             to
         };
-        let Some(statements) = self.statements_to(end)? else {
+        let Some(statements) = self.statements_to(seen, end)? else {
             return Ok(None);
         };
-        let ending = self.ending(returned)?;
+        let ending = self.ending(returned, statements.group)?;
         let (outside, declared) = self.outside(outer, Stretch { from, to })?;
         let params = std::mem::replace(&mut self.params, Vec::new(self.alloc));
         let kinds = std::mem::replace(&mut self.kinds, Vec::new(self.alloc));
@@ -237,7 +276,7 @@ impl<'a> Reader<'a> {
             gets: self.gets,
             prints: copy_prints(self.alloc, slice.prints.as_slice())?,
             each: copy_bytes(self.alloc, slice.each.as_slice())?,
-            statements,
+            statements: statements.list,
             ending,
         }))
     }
@@ -251,8 +290,8 @@ pub struct Again {
     standing: Items<Standing>,
 }
 
-/// The method of a file in which items stand from one up to another. None where they stand in no method that is seen. Time goes with the number
-/// of members and the items of the method. It fails only by want of memory.
+/// The method of a file in which items stand from one up to another. None where they stand in no method that is seen. Time goes with the
+/// items of the method. It fails only by want of memory.
 pub fn method_again(
     alloc: Global,
     known: &Class,
@@ -260,13 +299,14 @@ pub fn method_again(
     to: usize,
 ) -> Result<Option<Again>, NoMemory> {
     let file = known.file();
-    let member = known
-        .members()
-        .iter()
-        .find(|member| member.from <= from && to <= member.to);
-    let Some(member) = member else {
+    let members = known.members();
+    let number = members.partition_point(|member| member.to < to);
+    let Some(member) = members.get(number) else {
         return Ok(None);
     };
+    if from < member.from {
+        return Ok(None);
+    }
     let Some(read) = known.read(alloc, *member)? else {
         return Ok(None);
     };
@@ -301,5 +341,10 @@ pub fn read_again(
     let mut reader = known.reader(alloc, read, from);
     reader.gets = !is_inside_try(file.items, file.closings, &read.method, from);
     reader.put_slice(&read.method, again.standing.as_slice(), slice)?;
-    reader.read_slice(block, slice, to)
+    let seen = Seen {
+        slice,
+        block,
+        gives_truth: read.method.gives_truth,
+    };
+    reader.read_slice(seen, to)
 }

@@ -4,12 +4,12 @@ use crate::reader::{Mark, Reader, Trust};
 use crate::reason::{Reason, Unseen};
 use crate::setting::Declared;
 use crate::slices::holds_loop;
-use crate::statements::{LEVELS, in_group};
+use crate::statements::LEVELS;
 use qbs_base::{Fail, Items, NoMemory};
 use view_rules::{JavaType, Sighted, is_many, type_at};
 use view_scope::{Standing, is_guarded, is_tested};
 use view_shapes::{Form, Stretch, end_of, form_of, head, inner_blocks, is_named, is_word};
-use view_statements::{Ending, Group, Slice, Statement, at_top, truth_word};
+use view_statements::{Ending, Group, Slice, Statement, at_top};
 
 /// A stretch of the file in which loops aren't seen, unless a stretch inside of it says another reason or they stand in a slice.
 #[derive(Clone, Copy)]
@@ -273,90 +273,6 @@ impl<'a> Reader<'a> {
 
     // ---- Sequences
 
-    /// Reads the last two statements of a block as a group, if they are one.
-    fn read_group(
-        &mut self,
-        around: &Around,
-        at: Stretch,
-        block: Stretch,
-    ) -> Result<Option<Group>, NoMemory> {
-        let Some(value) = self.grouped(around, at, block) else {
-            return Ok(None);
-        };
-        let mark = self.mark();
-        let mut list = Vec::new(self.alloc);
-        match self.statement(in_group(value), LEVELS, &mut list) {
-            Ok(()) => {}
-            Err(Fail::NoMemory) => return Err(NoMemory),
-            Err(Fail::Fault(_)) => {
-                self.take_back(mark);
-                self.at = at.from;
-                return Ok(None);
-            }
-        }
-        let variable = self.found_name()?;
-        match list.pop() {
-            Some(walk) if self.at == at.to => {
-                self.at = block.to;
-                Ok(Some(Group {
-                    variable,
-                    value,
-                    walk,
-                }))
-            }
-            _ => {
-                self.take_back(mark);
-                self.at = at.from;
-                Ok(None)
-            }
-        }
-    }
-
-    /// The literal that a group would return in its for-each.
-    fn grouped(&self, around: &Around, at: Stretch, block: Stretch) -> Option<bool> {
-        if !around.source.gives_truth || !self.is(at.from, b"for") {
-            return None;
-        }
-        if at.to.saturating_add(3) != block.to {
-            return None;
-        }
-        let value = if self.are(at.to, &[b"return", truth_word(false), b";"]) {
-            true
-        } else if self.are(at.to, &[b"return", truth_word(true), b";"]) {
-            false
-        } else {
-            return None;
-        };
-        if self.has_effects(at) || self.returns(at) != 1 {
-            return None;
-        }
-        Some(value)
-    }
-
-    fn has_effects(&self, at: Stretch) -> bool {
-        (at.from..at.to).any(|k| {
-            matches!(
-                self.bytes(k),
-                b"=" | b"+="
-                    | b"-="
-                    | b"++"
-                    | b"--"
-                    | b"+"
-                    | b"-"
-                    | b"*"
-                    | b"get"
-                    | b"add"
-                    | b"break"
-                    | b"while"
-                    | b"do"
-            )
-        })
-    }
-
-    fn returns(&self, at: Stretch) -> usize {
-        (at.from..at.to).filter(|k| self.is(*k, b"return")).count()
-    }
-
     /// Reads a statement that ends before a number.
     fn whole_statement(
         &mut self,
@@ -400,7 +316,7 @@ impl<'a> Reader<'a> {
             let at = Stretch { from: to, to: end };
             self.look_for_guards(around, from, at)?;
             self.at = to;
-            group = self.read_group(around, at, block)?;
+            group = self.read_group(around.source.gives_truth, at, block)?;
             if group.is_some() {
                 to = block.to;
                 break;
@@ -524,11 +440,13 @@ impl<'a> Reader<'a> {
                 at: from,
             };
             finding.hidden.push(Hidden { from, to, unseen })?;
-            if self.asks && !refused && self.pay_for_slice() {
+            if self.asks && !refused {
                 let ending = ending_of(group);
                 let slice = self.slice(block, outer, from, to, statements, ending)?;
-                finding.slices.push(slice)?;
-                finding.places.push(Stretch { from, to })?;
+                if self.pay_for_slice(slice.outside.len()) {
+                    finding.slices.push(slice)?;
+                    finding.places.push(Stretch { from, to })?;
+                }
             }
         }
         self.take_back(Mark {

@@ -9,6 +9,7 @@ mod deciding;
 mod expressions;
 mod file;
 mod fresh;
+mod groups;
 mod lists;
 mod loops;
 mod names;
@@ -20,7 +21,9 @@ mod reason;
 mod setting;
 mod slices;
 mod statements;
+mod words;
 
 pub use again::{Again, method_again, read_again};
-pub use file::{Class, Loop, Parts, View, find_view, known_of, parts_of};
+pub use file::{Loop, View, find_view};
 pub use reason::{Reason, Unseen};
+pub use words::{Class, Parts, known_of, parts_of};

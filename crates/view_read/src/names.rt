@@ -15,6 +15,18 @@ pub struct Found {
     pub to: usize,
 }
 
+/// How many bytes of a column's name stand in that of a parameter: names that the source doesn't have are short.
+const MOST_BYTES: usize = 64;
+
+/// The front of a name, of so many bytes at most.
+fn front_of(name: &[u8], most: usize) -> &[u8] {
+    if most < name.len() {
+        &name[..most]
+    } else {
+        name
+    }
+}
+
 impl<'a> Reader<'a> {
     fn members(&self, class: u32) -> &'a [Member] {
         match self.method.map.classes.as_slice().get(class as usize) {
@@ -93,11 +105,11 @@ impl<'a> Reader<'a> {
         }
     }
 
-    /// The name of the parameter for a column of a row: the row's, `_`, and the column's.
+    /// The name of the parameter for a column of a row: the row's, `_`, and the front of the column's.
     fn column_param(&self, row: &[u8], class: u32, column: u32) -> Result<Bytes, NoMemory> {
         let mut name = row.to_vec(self.alloc)?;
         name.push(b'_')?;
-        name.extend_from_slice(self.column_name(class, column))?;
+        name.extend_from_slice(front_of(self.column_name(class, column), MOST_BYTES))?;
         self.fresh_name(name.as_slice())
     }
 

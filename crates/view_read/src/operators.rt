@@ -156,8 +156,30 @@ impl<'a> Reader<'a> {
         })
     }
 
-    /// The test that stands at a number, and the number behind it.
+    /// The test that stands at a number, in parentheses or without, and the number behind it.
     fn test_at(&self, all: bool, at: usize) -> Option<(NullTest, usize)> {
+        let wrapped = self.is(at, b"(");
+        let (test, behind) = self.bare_test_at(all, wrapped, at)?;
+        let to = if wrapped {
+            behind.saturating_add(1)
+        } else {
+            behind
+        };
+        let closes = !wrapped || self.is(behind, b")");
+        if closes && self.ends_part(all, to) {
+            Some((test, to))
+        } else {
+            None
+        }
+    }
+
+    /// The test at a number, behind a parenthesis there where it is wrapped.
+    fn bare_test_at(&self, all: bool, wrapped: bool, first: usize) -> Option<(NullTest, usize)> {
+        let at = if wrapped {
+            first.saturating_add(1)
+        } else {
+            first
+        };
         let null_first = self.is(at, b"null");
         let tested = if null_first {
             if !self.is(at.saturating_add(1), null_sign(all)) {
@@ -177,16 +199,13 @@ impl<'a> Reader<'a> {
             tested.to.saturating_add(2)
         };
         let test = NullTest {
-            at,
+            at: first,
+            wrapped,
             null_first,
             class: tested.class,
             member: tested.member,
         };
-        if self.ends_part(all, to) {
-            Some((test, to))
-        } else {
-            None
-        }
+        Some((test, to))
     }
 
     /// Whether a part of `&&`, where `all`, or of `||` ends before an item.
@@ -207,6 +226,9 @@ impl<'a> Reader<'a> {
                 return Ok(tests);
             };
             if !self.is(to, joined_sign(all)) {
+                if test.wrapped {
+                    return Ok(tests);
+                }
                 return Err(miss(Reason::Null, first));
             }
             tests.push(test)?;

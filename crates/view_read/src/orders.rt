@@ -4,7 +4,7 @@ use crate::reason::{Reason, miss};
 use qbs_base::Items;
 use view_map::{Member, ScalarKind};
 use view_rules::JavaType;
-use view_statements::{KeyForm, SortKey, Statement};
+use view_statements::{KeyForm, SortKey, SortPart, Statement};
 
 /// A key of an order: how it is written, the number of its member, and the number of the item behind it.
 #[derive(Clone, Copy)]
@@ -94,7 +94,7 @@ impl<'a> Reader<'a> {
         Err(miss(Reason::Expression, at))
     }
 
-    /// `comparing(K)` and the like, and `.reversed()` behind it.
+    /// `comparing(K)` and the like.
     fn sort_key(&mut self, class: u32, call: &[u8]) -> Result<SortKey, Fault> {
         let word = self.at;
         self.step();
@@ -113,36 +113,42 @@ impl<'a> Reader<'a> {
         }
         self.at = key.to;
         self.expect(b")", Reason::Expression)?;
-        let reversed = self.are(self.at, &[b".", b"reversed", b"(", b")"]);
-        if reversed {
-            self.at = self.at.saturating_add(4);
-        }
         Ok(SortKey {
             at,
             form: key.form,
             class,
             member: key.member,
-            reversed,
         })
     }
 
+    /// `.reversed()`, or a further key.
+    fn sort_part(&mut self, class: u32) -> Result<SortPart, Fault> {
+        let at = self.at;
+        if self.are(at, &[b".", b"reversed", b"(", b")"]) {
+            self.at = at.saturating_add(4);
+            return Ok(SortPart::Reversed(at));
+        }
+        self.step();
+        Ok(SortPart::Key(self.sort_key(class, b"thenComparing")?))
+    }
+
     /// A comparator of rows of a class.
-    fn comparator(&mut self, class: u32) -> Result<Items<SortKey>, Fault> {
+    fn comparator(&mut self, class: u32) -> Result<Items<SortPart>, Fault> {
         let at = self.at;
         if !self.is_clear(b"Comparator") {
             return Err(miss(Reason::Name, at));
         }
         self.expect(b"Comparator", Reason::Expression)?;
         self.expect(b".", Reason::Expression)?;
-        let mut keys = Items::new(self.alloc);
-        keys.push(self.sort_key(class, b"comparing")?)?;
+        let mut parts = Items::new(self.alloc);
+        parts.push(SortPart::Key(self.sort_key(class, b"comparing")?))?;
         for _ in self.at..self.method.items.len() {
-            if !self.take(b".") {
-                return Ok(keys);
+            if !self.is_next(b".") {
+                return Ok(parts);
             }
-            keys.push(self.sort_key(class, b"thenComparing")?)?;
+            parts.push(self.sort_part(class)?)?;
         }
-        Ok(keys)
+        Ok(parts)
     }
 
     /// The class of the rows of the slice's own list that an item names.
@@ -161,14 +167,14 @@ impl<'a> Reader<'a> {
         class: u32,
         out: &mut Vec<Statement>,
     ) -> Result<(), Fault> {
-        let keys = self.comparator(class)?;
+        let parts = self.comparator(class)?;
         self.expect(b")", Reason::Expression)?;
         let end = self.expect(b";", Reason::Expression)?;
         out.push(Statement::Sort {
             at,
             by_class,
             list,
-            keys,
+            parts,
             end,
         })?;
         Ok(())

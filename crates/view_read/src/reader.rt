@@ -28,7 +28,7 @@ pub const MOST_IN_SIGHT: usize = 256;
 /// another are read anew at each level, which takes at most as many once more.
 const LOOKS: usize = 8_388_608;
 
-/// How many items what checks slices may go through, where it goes through the method for each.
+/// How many items what checks slices may go through, where it goes through the method for each, and for each variable that it has from outside.
 const CHECKS: usize = 67_108_864;
 
 /// Less by a count, where there is so much.
@@ -168,10 +168,11 @@ impl<'a> Reader<'a> {
         spend(&mut self.tries, count)
     }
 
-    /// Whether there may be one more slice.
-    pub fn pay_for_slice(&mut self) -> bool {
+    /// Whether there may be one more slice, with so many variables from outside.
+    pub fn pay_for_slice(&mut self, outside: usize) -> bool {
         let count = self.method.end.saturating_sub(self.method.name);
-        spend(&mut self.checks, count)
+        let walks = outside.saturating_add(1);
+        spend(&mut self.checks, count.saturating_mul(walks))
     }
 
     // ---- Items

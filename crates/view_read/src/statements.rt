@@ -26,7 +26,7 @@ pub struct Condition {
     pub close: usize,
 }
 
-/// A body, in braces or of one statement, and the number of its last item.
+/// A body, in braces, of one statement, or a semicolon, and the number of its last item.
 #[derive(Drop)]
 pub struct Body {
     pub braces: bool,
@@ -103,9 +103,11 @@ impl<'a> Reader<'a> {
                 end,
             });
         }
-        let mark = self.mark();
-        self.statement(place, room, &mut statements)?;
-        self.leave(mark);
+        if !self.take(b";") {
+            let mark = self.mark();
+            self.statement(place, room, &mut statements)?;
+            self.leave(mark);
+        }
         Ok(Body {
             braces: false,
             statements,
