@@ -25,3 +25,15 @@ unseen_lined at rule because loop cause is of =
     unseen_joined loop rule cause
     ∙ ap (λ (text : List ℕ). line (codes "loop " ++ text ++ codes " unseen V" ++ decimal rule ++ codes " at " ++ cause)) is
     ∙ ap (λ (text : List ℕ). line (codes "loop " ++ place_text at ++ codes " unseen V" ++ decimal rule ++ codes " at " ++ text)) of
+
+shared_joined : (place : List ℕ) → codes "loop " ++ (place ++ codes " shared\n") ≡ line (codes "loop " ++ place ++ codes " shared")
+shared_joined place = simp append_assoc
+
+pub shared_lined : (at : Span) (place : List ℕ) → place ≡ place_text at → codes "loop " ++ (place ++ codes " shared\n") ≡ view_line (lines.Shared at)
+shared_lined at place is = shared_joined place ∙ ap (λ (text : List ℕ). line (codes "loop " ++ text ++ codes " shared")) is
+
+unlike_joined : (place : List ℕ) → codes "loop " ++ (place ++ codes " unlike\n") ≡ line (codes "loop " ++ place ++ codes " unlike")
+unlike_joined place = simp append_assoc
+
+pub unlike_lined : (at : Span) (place : List ℕ) → place ≡ place_text at → codes "loop " ++ (place ++ codes " unlike\n") ≡ view_line (lines.Unlike at)
+unlike_lined at place is = unlike_joined place ∙ ap (λ (text : List ℕ). line (codes "loop " ++ text ++ codes " unlike")) is

@@ -1,6 +1,6 @@
-//! The report on a Java file that is viewed: its slices, and the loops that aren't seen.
+//! The reports on a Java file that is viewed: its slices, its loops that were tried, and those that aren't seen.
 #![tactic(auto)]
 
 mod lines;
 
-pub use lines::{ViewLine, view_report};
+pub use lines::{ViewLine, rewrite_report, view_report};
