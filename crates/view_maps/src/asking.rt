@@ -128,8 +128,13 @@ fn put_lists(
     Ok(())
 }
 
+/// Twice, since `(int)` alone compiles for an `Object` too, which is cast to `Integer` then, and a `long` alone for a `Long`, which can't be cast.
 fn put_whole(out: &mut Vec<u8>, template: &Template, arguments: usize) -> Result<(), NoMemory> {
-    put(out, "        int number")?;
+    put(out, "        long number")?;
+    put_number(out, arguments)?;
+    put(out, " = ")?;
+    put_filled(out, template, b"", arguments)?;
+    put(out, ";\n        int cut")?;
     put_number(out, arguments)?;
     put(out, " = (int) ")?;
     put_filled(out, template, b"", arguments)?;
@@ -170,7 +175,7 @@ pub fn put_method(out: &mut Vec<u8>, map: &ViewMap, class: &[u8]) -> Result<(), 
     let most = out.len().saturating_add(MOST_BYTES);
     put(
         out,
-        "    @SuppressWarnings({\"unchecked\", \"unused\"})\n    private void checksTheMap() {\n",
+        "    @SuppressWarnings(\"unused\")\n    private void checksTheMap() {\n",
     )?;
     put_fetches(out, map, class, most)?;
     if let Some(template) = template_of(map, QueryKind::List) {

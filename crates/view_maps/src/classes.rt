@@ -11,7 +11,7 @@ use view_shapes::{
 /// Where a class or a record stands: the number of its name, its components, none for a class, the name behind `extends`, and its body from the
 /// first item to the closing brace.
 #[derive(Clone, Copy)]
-pub struct Place {
+pub struct ClassPlace {
     pub is_record: bool,
     pub name: usize,
     pub components: Stretch,
@@ -22,7 +22,7 @@ pub struct Place {
 /// A class or a record: where it stands, the name of the class round it, and its annotations.
 #[derive(Drop)]
 pub struct Class {
-    pub place: Place,
+    pub place: ClassPlace,
     pub outer: Option<usize>,
     pub annotations: Items<Annotation>,
 }
@@ -66,10 +66,10 @@ fn place_behind(
     is_record: bool,
     components: Stretch,
     to: usize,
-) -> Option<Place> {
+) -> Option<ClassPlace> {
     let (brace, parent) = brace_behind(source, components.to, to)?;
     let closing = closing_at(source.items, source.closings, brace)?;
-    Some(Place {
+    Some(ClassPlace {
         is_record,
         name,
         components,
@@ -82,7 +82,7 @@ fn place_behind(
 }
 
 /// The class or record whose word has this number, if one does, before another number. A record with arguments of types is none.
-fn place_at(source: Source, number: usize, to: usize) -> Option<Place> {
+fn place_at(source: Source, number: usize, to: usize) -> Option<ClassPlace> {
     if !begins_class(source, number) {
         return None;
     }
@@ -158,7 +158,7 @@ fn inner_class(
 fn put_inner(
     alloc: Global,
     source: Source,
-    outer: Place,
+    outer: ClassPlace,
     classes: &mut Items<Class>,
 ) -> Result<(), NoMemory> {
     let members = members_of(alloc, source.items, source.closings, outer.body.from)?;

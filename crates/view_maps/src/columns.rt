@@ -10,8 +10,9 @@ use view_map::ScalarType;
 use view_shapes::{Stretch, is_one_of_words, is_word};
 
 /// Annotations of fields that aren't one column of their type.
-const BARS: [&str; 12] = [
+const BARS: [&str; 13] = [
     "Convert",
+    "ColumnTransformer",
     "Enumerated",
     "Formula",
     "ManyToOne",
@@ -31,6 +32,7 @@ pub enum Reason {
     /// An annotation: the number of its name.
     Annotated(usize),
     Typed,
+    OtherTable,
     NoLiteral,
     NoWord,
     Unsaid,
@@ -157,6 +159,17 @@ fn is_said_not_null(source: Source, column: Option<Annotation>) -> bool {
     }
 }
 
+/// Whether the column of a field may stand in another table than that of its class.
+fn is_elsewhere(source: Source, column: Option<Annotation>) -> bool {
+    let Some(column) = column else {
+        return false;
+    };
+    match value_of(source, column, "table") {
+        Said::Nothing => false,
+        Said::Item(_) | Said::More => true,
+    }
+}
+
 fn is_primitive(java: Option<ScalarType>) -> bool {
     match java {
         Some(java) => !java.boxed,
@@ -182,6 +195,7 @@ pub fn column_of(source: Source, field: &Field, accessors: &[Accessor]) -> Field
     let reason = match bar_of(source, field, accessors) {
         Some(bar) => Some(Reason::Annotated(bar)),
         None if java.is_none() => Some(Reason::Typed),
+        None if is_elsewhere(source, column) => Some(Reason::OtherTable),
         None => unnamed,
     };
     FieldColumn {
@@ -226,6 +240,7 @@ pub fn put_reason(
             put_type(out, source, field.ty)?;
             put(out, " is no type of columns")
         }
+        Reason::OtherTable => put(out, "@Column names a table"),
         Reason::NoLiteral => put(out, "the column's name is no literal"),
         Reason::NoWord => put(out, "the column's name is no plain word"),
         Reason::Unsaid => put(out, "no @Column says how its column is called"),

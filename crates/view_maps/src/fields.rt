@@ -1,5 +1,5 @@
 // The fields of a class or record, and its accessors.
-use crate::classes::Place;
+use crate::classes::ClassPlace;
 use crate::fronts::{Annotation, Front, front_of};
 use crate::links::{Places, link, mark_replaced};
 use crate::source::Source;
@@ -192,7 +192,12 @@ impl Owned {
         Ok(())
     }
 
-    fn put_members(&mut self, alloc: Global, source: Source, place: Place) -> Result<(), NoMemory> {
+    fn put_members(
+        &mut self,
+        alloc: Global,
+        source: Source,
+        place: ClassPlace,
+    ) -> Result<(), NoMemory> {
         let members = members_of(alloc, source.items, source.closings, place.body.from)?;
         for member in members.as_slice() {
             self.put_member(alloc, source, place.is_record, *member)?;
@@ -225,7 +230,7 @@ fn link_all(
 }
 
 /// What a class or record has of its own. It fails only by want of memory.
-pub fn owned_by(alloc: Global, source: Source, place: Place) -> Result<Owned, NoMemory> {
+pub fn owned_by(alloc: Global, source: Source, place: ClassPlace) -> Result<Owned, NoMemory> {
     let mut owned = Owned::nothing(alloc);
     owned.put_components(alloc, source, place.components)?;
     owned.put_members(alloc, source, place)?;

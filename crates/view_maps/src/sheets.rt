@@ -86,6 +86,23 @@ fn put_made(
     put(out, " makes stand in no source, so they are not listed\n")
 }
 
+/// Appends that an annotation of a class says what isn't drawn of its columns, if the class has it.
+fn put_said(
+    out: &mut Vec<u8>,
+    mark: &str,
+    source: Source,
+    class: &Class,
+    name: &str,
+) -> Result<(), NoMemory> {
+    if !has_annotation(source, class.annotations.as_slice(), name) {
+        return Ok(());
+    }
+    put_front(out, mark, source, class)?;
+    put(out, "what @")?;
+    put(out, name)?;
+    put(out, " says of its columns is not looked at\n")
+}
+
 fn put_several(
     out: &mut Vec<u8>,
     mark: &str,
@@ -112,6 +129,7 @@ pub fn put_remarks(
     let annotations = class.annotations.as_slice();
     if has_annotation(source, annotations, "Inheritance")
         || has_annotation(source, annotations, "SecondaryTable")
+        || has_annotation(source, annotations, "SecondaryTables")
     {
         put_remark(
             out,
@@ -121,6 +139,10 @@ pub fn put_remarks(
             "rows of it stand in several tables",
         )?;
     }
+    put_said(out, mark, source, class, "Convert")?;
+    put_said(out, mark, source, class, "Converts")?;
+    put_said(out, mark, source, class, "AttributeOverride")?;
+    put_said(out, mark, source, class, "AttributeOverrides")?;
     put_parent(out, mark, source, class)?;
     put_made(out, mark, source, class, "Data")?;
     put_made(out, mark, source, class, "Getter")?;
