@@ -63,7 +63,7 @@ pub store_there : (told later : List ℕ → Option (List ℕ)) (after rose : Li
 store_there told later after rose None read same is = is
 store_there told later after rose (Some name) read same is = (is.0, read_there told later after rose name most_store is.0 same is.1, is.2)
 
-store_not_there : (told later : List ℕ → Option (List ℕ)) (after rose : List ℕ → Type 0) (name : Option (List ℕ)) (plan : Plan) → later ≡ told → ((name : List ℕ) → after name → rose name) →
+pub store_not_there : (told later : List ℕ → Option (List ℕ)) (after rose : List ℕ → Type 0) (name : Option (List ℕ)) (plan : Plan) → later ≡ told → ((name : List ℕ) → after name → rose name) →
     IsStoreUnread (record { told = later; failed = after }) name plan → IsStoreUnread (record { told = told; failed = rose }) name plan
 store_not_there told later after rose None plan same f h = h
 store_not_there told later after rose (Some name) plan same f h = not_read_there told later after rose name most_store (codes "store") plan same f h

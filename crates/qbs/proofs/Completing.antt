@@ -1,7 +1,6 @@
 -- Where all that a command reads is right, it goes on to its end.
 use Rattle.std.proofs.Common.{◌≡◌, ℕ, ◌≤◌, ◌-◌, ◌⊎◌, inl, inr, Bool, true, false, List, [], ◌∷◌, ◌++◌, length, Option, Some, None, IfSome, subst, sym, refl, ap, ◌∙◌, codes}
 use Rattle.std.specs.Prelude.{IsSome}
-use Rattle.qbs_base.specs.declared.columns.Table.{Table}
 use Rattle.qbs_base.specs.declared.status.Status.{Status}
 use Rattle.qbs_base.specs.declared.status.Status.TheVariants as statuses
 use Rattle.qbs_base.specs.Values.{Schema, Database}
@@ -22,7 +21,7 @@ use Rattle.words.specs.declared.command.Options.{Options}
 use Rattle.words.specs.Plain.{HasWords}
 use Rattle.words.specs.Reading.{plain}
 use Rattle.words.proofs.Exact.{reads_plain_words}
-use Rattle.deliveries.specs.Limits.{most_map, most_schema, most_source, most_bundle, most_tables, most_dump, most_store}
+use Rattle.deliveries.specs.Limits.{most_map, most_schema, most_source, most_bundle, most_tables, most_dump, most_entities, most_store}
 use Rattle.deliveries.specs.declared.plan.Plan.{Plan}
 use Rattle.plans.specs.Calls.{Call, Called, Calls, CallsNothing, arguments, word_refusal}
 use Rattle.plans.specs.Opening.{BreaksBundle, bundle_refusal, has_bundle, IsSchemaOf, BreaksSchema, schema_refusal, IsMapOf, BreaksMap, map_refusal, has_map, IsProgramOf, HasNoProgram, has_schema, has_program, HasLeast, type_refusal}
@@ -30,10 +29,12 @@ use Rattle.deliveries.specs.Deliver.{Change}
 use Rattle.deliveries.specs.Plan.{Given}
 use Rattle.plans.specs.Results.{names_of}
 use Rattle.deliveries.specs.Steps.{Ends, refused, IsRead, IsNotRead, reads}
-use Rattle.plans.specs.Tables.{table_file, AreRead, AreNotRead, reads_tables, IsFileOf, HasRows, LacksRows, data_refusal, has_rows}
-use Rattle.qbs.specs.Check.{tells, checks, check_of, check}
-use Rattle.qbs.specs.Commands.{is_built, built, where_built, command, IsDue}
-use Rattle.qbs.specs.Complete.{HasFile, HaveTexts, HasStoreFile, HasSchema, HasSource, HasTables, HasCall, HasWhole, IsRight, IsEnd, IsEndWhere, IsListed, IsComplete}
+use Rattle.deliveries.specs.Named.{AreFilesRead, AreFilesUnread, reads_files, IsNamed, AreHeld}
+use Rattle.plans.specs.Tables.{table_files, reads_tables, HasRows, LacksRows, data_refusal, has_rows}
+use Rattle.qbs.specs.Check.{tells, checks, check_of, check, reads_evidence}
+use Rattle.qbs.specs.Commands.{is_built, built, where_built, command, IsDue, by_view}
+use Rattle.qbs.specs.Complete.{HasFile, HaveTexts, HaveEntities, HasStoreFile, HasSourceFile, HasSchema, HasSource, HasTables, HasCall, HasWhole, IsRight, IsEnd, IsEndWhere, IsListed, IsComplete, HasSourceBy, IsDoneBy}
+use Rattle.qbs.specs.CheckByView.{seen_program, check_by_view_of, check_by_view}
 use Rattle.call_rules.specs.Faults.{IsFaultOf}
 use Rattle.inlining.specs.Inlined.{IsWhole}
 use Rattle.java_mean.specs.WellTyped.{IsWellTyped}
@@ -41,22 +42,27 @@ use Rattle.qbs.specs.Draw.{Draws, draw}
 use Rattle.qbs.specs.Inline.{IsProgramWithCallsOf, HasNoProgramWithCalls, has_program_with_calls, helper_refusal, has_no_calls_left, types_and_writes, Inlines, inline_of, inline}
 use Rattle.qbs.specs.Narrow.{Narrows, narrow_of, narrow}
 use Rattle.qbs.specs.Unnest.{Unnests, unnest_of, unnest}
-use Rattle.qbs.specs.View.{views, view_of, view}
+use Rattle.qbs.specs.View.{Seen, sees, views, view_of, view}
 use Rattle.view_map.specs.declared.model.ViewMap.{ViewMap}
+use Rattle.qbs.specs.Maps.{IsText, draws, checks_of, checks_source, checks_map}
 use Rattle.qbs.specs.Make.{IsNotDone, method_text, outcome_over, runs, make}
 use Rattle.qbs.specs.Gather.{GathersStore, gather_of, gather}
 use Rattle.qbs.specs.Opened.{reads_all, has_all}
+use Rattle.qbs.specs.OpenedByView.{reads_by_view, sees_all}
 use Rattle.qbs.specs.Pruners.{May, with_bank}
 use Rattle.qbs.specs.Prove.{Proves, prove}
+use Rattle.qbs.specs.ProveByView.{ProvesSeen, prove_by_view}
 use Rattle.qbs.specs.Rewrite.{size_of, budget_of, Rewrites, rewrite}
+use Rattle.qbs.specs.RewriteByView.{WritesBack, rewrite_by_view}
 use Rattle.qbs.specs.Run.{IsChosen, chooses, comes_to, comes, call_of, run_of, run, turns_of}
 use Rattle.qbs.specs.Sql.{IsAsked, AsksNothing, answer_plan, answers, sql_of, sql}
 use Rattle.qbs.specs.Store.{IsStoreRead, IsStoreUnread, reads_store, IsBankOf, HasNoBank, has_store}
 use Rattle.qbs.specs.Top.{IsDone}
 use Rattle.qbs.proofs.AlikeRuns.{kept_named, some_named}
+use Rattle.qbs.proofs.ByView.{proves_well}
 use Rattle.qbs.proofs.Inlining.{calls_one, whole_one, typed_one}
 use Rattle.qbs.proofs.OneFound.{schema_one, map_one, program_one, bundle_one, rows_one, call_one, query_one}
-use Rattle.qbs.proofs.OneRead.{read_one, tables_one}
+use Rattle.qbs.proofs.OneRead.{read_one, files_one}
 use Rattle.qbs.proofs.OneStep.{goes}
 use Rattle.qbs.proofs.OneStore.{store_read_one, bank_one}
 
@@ -73,30 +79,34 @@ module _ (files : Given) (calm : (name : List ℕ) → files.failed name → ⊥
       goes (IsRead files name limit) (IsNotRead files name limit label) next (read_one files name limit label (some_is (files.told name) bytes e) calm) bytes
       (within, subst (λ (o : Option (List ℕ)). IfSome o (λ all. bytes ≡ all)) (sym e) refl) plan h
 
-  are_read : (folder : List ℕ) (tables : List Table) (left : ℕ) (texts : List (List ℕ)) → HaveTexts files.told folder tables left texts → AreRead files folder tables left texts
-  are_read folder [] left [] h = tt
-  are_read folder [] left (text ∷ texts) h = absurd h
-  are_read folder (table ∷ tables) left [] h = absurd h
-  are_read folder (table ∷ tables) left (text ∷ texts) h =
-      ((h.1, subst (λ (o : Option (List ℕ)). IfSome o (λ all. text ≡ all)) (sym h.0) refl), are_read folder tables (left - length text) texts h.2)
+  are_read : (names : List (List ℕ)) (left : ℕ) (texts : List (List ℕ)) → AreHeld files.told names left texts → AreFilesRead files names left texts
+  are_read [] left [] h = tt
+  are_read [] left (text ∷ texts) h = absurd h
+  are_read (name ∷ names) left [] h = absurd h
+  are_read (name ∷ names) left (text ∷ texts) h =
+      ((h.1, subst (λ (o : Option (List ℕ)). IfSome o (λ all. text ≡ all)) (sym h.0) refl), are_read names (left - length text) texts h.2)
 
-  all_told : (folder : List ℕ) (tables : List Table) (left : ℕ) (texts : List (List ℕ)) → HaveTexts files.told folder tables left texts → (name : List ℕ) → IsFileOf folder tables name → IsSome (files.told name)
-  all_told folder [] left texts h name file = absurd file
-  all_told folder (table ∷ tables) left [] h name file = absurd h
-  all_told folder (table ∷ tables) left (text ∷ texts) h name (inl same) =
-      subst (λ (n : List ℕ). IsSome (files.told n)) (sym same) (some_is (files.told (table_file folder table.name)) text h.0)
-  all_told folder (table ∷ tables) left (text ∷ texts) h name (inr file) = all_told folder tables (left - length text) texts h.2 name file
+  all_told : (names : List (List ℕ)) (left : ℕ) (texts : List (List ℕ)) → AreHeld files.told names left texts → (name : List ℕ) → IsNamed names name → IsSome (files.told name)
+  all_told [] left texts h name file = absurd file
+  all_told (first ∷ names) left [] h name file = absurd h
+  all_told (first ∷ names) left (text ∷ texts) h name (inl same) = subst (λ (n : List ℕ). IsSome (files.told n)) (sym same) (some_is (files.told first) text h.0)
+  all_told (first ∷ names) left (text ∷ texts) h name (inr file) = all_told names (left - length text) texts h.2 name file
+
+  opens_files : (names : List (List ℕ)) (limit : ℕ) (label : List ℕ) (texts : List (List ℕ)) (next : List (List ℕ) → Ends) → AreHeld files.told names limit texts → (plan : Plan) → reads_files files names limit label next plan → next texts plan
+  opens_files names limit label texts next have plan h =
+      goes (AreFilesRead files names limit) (AreFilesUnread files names limit label) next (files_one files names limit label (all_told names limit texts have) calm) texts (are_read names limit texts have) plan h
 
   opens_tables : (folder : List ℕ) (tables : Schema) (texts : List (List ℕ)) (next : List (List ℕ) → Ends) → HaveTexts files.told folder tables most_tables texts → (plan : Plan) → reads_tables files folder tables next plan → next texts plan
-  opens_tables folder tables texts next have plan h =
-      goes (AreRead files folder tables most_tables) (AreNotRead files folder tables most_tables) next (tables_one files folder tables most_tables (all_told folder tables most_tables texts have) calm) texts
-      (are_read folder tables most_tables texts have) plan h
+  opens_tables folder tables texts next have plan h = opens_files (table_files folder tables) most_tables (codes "tables") texts next have plan h
 
 goes_schema : (bytes : List ℕ) (tables : Schema) (next : Schema → Ends) → IsSchemaOf bytes tables → (plan : Plan) → has_schema bytes next plan → next tables plan
 goes_schema bytes tables next is plan h = goes (IsSchemaOf bytes) (refused (BreaksSchema bytes) schema_refusal) next (schema_one bytes) tables is plan h
 
 goes_program : (tables : Schema) (bytes : List ℕ) (p : PlainProgram) (next : PlainProgram → Ends) → IsProgramOf tables bytes p → (plan : Plan) → has_program tables bytes next plan → next p plan
 goes_program tables bytes p next is plan h = goes (IsProgramOf tables bytes) (HasNoProgram tables bytes) next (program_one tables bytes) p is plan h
+
+goes_map : (tables : Schema) (bytes : List ℕ) (m : ViewMap) (next : ViewMap → Ends) → IsMapOf tables bytes m → (plan : Plan) → has_map tables bytes next plan → next m plan
+goes_map tables bytes m next is plan h = goes (IsMapOf tables bytes) (refused (BreaksMap tables bytes) (map_refusal bytes)) next (map_one tables bytes) m is plan h
 
 goes_rows : (tables : Schema) (texts : List (List ℕ)) (db : Database) (next : Database → Ends) → HasRows tables texts db → (plan : Plan) → has_rows tables texts next plan → next db plan
 goes_rows tables texts db next is plan h = goes (HasRows tables texts) (refused (LacksRows tables texts) data_refusal) next (rows_one tables texts) db is plan h
@@ -146,6 +156,49 @@ prove_listed files calm may o schema source plan right h =
     let done = all_opened files calm schema source o.store (λ t tables p bank. Proves (with_bank may bank) tables (size_of o) (budget_of o) p) plan right h in
     ap (λ (x : Plan). x.status) done.4.written
 
+-- ---- by a view
+
+long_or_done : (m : ViewMap) (tables : Schema) (t : List ℕ) (b : Option (List ℕ)) (bank : Option (List SmallDb)) (next : Seen → Option (List SmallDb) → Ends) → IsBankOf tables b bank →
+    ((seen : Seen) (plan : Plan) → next seen bank plan → plan.status ≡ statuses.Ok) → (plan : Plan) → sees m tables t (λ seen. has_store tables b (λ k. next seen k)) plan → (plan.status ≡ statuses.Ok) ⊎ (plan.status ≡ statuses.Limit)
+long_or_done m tables t b bank next of well plan (inl h) = inr (ap (λ (x : Plan). x.status) h.due)
+long_or_done m tables t b bank next of well plan (inr (seen, is, h)) = inl (well seen plan (goes (IsBankOf tables b) (HasNoBank tables b) (λ k. next seen k) (bank_one tables b) bank of plan h))
+
+-- where all that is read is right, the command goes on with what is seen, or that is too long
+by_view_listed : (files : Given) → ((name : List ℕ) → files.failed name → ⊥) → (words schema source : List ℕ) (store : Option (List ℕ)) (next : List ℕ → Schema → ViewMap → Seen → Option (List SmallDb) → Ends) →
+    ((t : List ℕ) (tables : Schema) (m : ViewMap) (seen : Seen) (bank : Option (List SmallDb)) (plan : Plan) → next t tables m seen bank plan → plan.status ≡ statuses.Ok) → (plan : Plan) →
+    HasSchema files.told schema (λ tables. HasSourceBy files.told (Some words) source tables × HasStoreFile files.told store tables) →
+    reads_by_view files words schema source store (λ w s t b. sees_all w s t b (λ tables m seen bank. next t tables m seen bank)) plan → (plan.status ≡ statuses.Ok) ⊎ (plan.status ≡ statuses.Limit)
+by_view_listed files calm words schema source store next well plan right h =
+    let tables : Schema = right.is.0 in
+    let map = right.is.2.0.0 in
+    let text = right.is.2.0.1 in
+    let first = opens files calm words most_map (codes "map") map.bytes
+    (λ w. reads_all files schema source store (λ s t b. sees_all w s t b (λ ts m seen bank. next t ts m seen bank))) map.has map.within plan h in
+    let read = opens files calm schema most_schema (codes "schema") right.bytes
+    (λ s. reads files source most_source (codes "source") (λ t. reads_store files store (λ b. sees_all map.bytes s t b (λ ts m seen bank. next t ts m seen bank)))) right.has right.within plan first in
+    let both = opens files calm source most_source (codes "source") text.bytes
+    (λ t. reads_store files store (λ b. sees_all map.bytes right.bytes t b (λ ts m seen bank. next t ts m seen bank))) text.has text.within plan read in
+    let all = store_is_read files calm store tables (λ b. sees_all map.bytes right.bytes text.bytes b (λ ts m seen bank. next text.bytes ts m seen bank)) right.is.2.1 plan both in
+    let opened = goes_schema right.bytes tables (λ ts. has_map ts map.bytes (λ m. sees m ts text.bytes (λ seen. has_store ts all.0 (λ bank. next text.bytes ts m seen bank)))) right.is.1 plan all.3 in
+    let mapped = goes_map tables map.bytes map.is.0 (λ m. sees m tables text.bytes (λ seen. has_store tables all.0 (λ bank. next text.bytes tables m seen bank))) map.is.1 plan opened in
+    long_or_done map.is.0 tables text.bytes all.0 all.1 (λ seen bank. next text.bytes tables map.is.0 seen bank) all.2 (λ seen x d. well text.bytes tables map.is.0 seen all.1 x d) plan mapped
+
+rewrite_ends : (files : Given) → ((name : List ℕ) → files.failed name → ⊥) → (may : May) (o : Options) (view : Option (List ℕ)) (schema source : List ℕ) (plan : Plan) →
+    HasSchema files.told schema (λ tables. HasSourceBy files.told view source tables × HasStoreFile files.told o.store tables) →
+    by_view view (λ map. rewrite_by_view files may o map schema source) (rewrite files may o schema source) plan → IsDoneBy view plan.status
+rewrite_ends files calm may o None schema source plan right h = rewrite_listed files calm may o schema source plan right h
+rewrite_ends files calm may o (Some map) schema source plan right h =
+    by_view_listed files calm map schema source o.store (λ t tables m seen bank. WritesBack (with_bank may bank) m tables (size_of o) (budget_of o) t seen)
+    (λ t tables m seen bank x d. ap (λ (y : Plan). y.status) d.written) plan right h
+
+prove_ends : (files : Given) → ((name : List ℕ) → files.failed name → ⊥) → (may : May) (o : Options) (view : Option (List ℕ)) (schema source : List ℕ) (plan : Plan) →
+    HasSchema files.told schema (λ tables. HasSourceBy files.told view source tables × HasStoreFile files.told o.store tables) →
+    by_view view (λ map. prove_by_view files may o map schema source) (prove files may o schema source) plan → IsDoneBy view plan.status
+prove_ends files calm may o None schema source plan right h = prove_listed files calm may o schema source plan right h
+prove_ends files calm may o (Some map) schema source plan right h =
+    by_view_listed files calm map schema source o.store (λ t tables m seen bank. ProvesSeen (with_bank may bank) m tables (size_of o) (budget_of o) t seen)
+    (λ t tables m seen bank x d. proves_well (with_bank may bank) m tables (size_of o) (budget_of o) t seen x d) plan right h
+
 -- ---- `gather`
 
 gather_listed : (files : Given) → ((name : List ℕ) → files.failed name → ⊥) → (o : Options) (schema source : List ℕ) (plan : Plan) → HasSchema files.told schema (λ tables. HasSource files.told source tables (λ p. Unit {0})) →
@@ -180,6 +233,39 @@ check_listed files calm schema source bundle plan right evidence h =
     let typed = goes_program tables text.bytes text.is.0 (λ p. has_bundle evidence.bytes (λ es. checks tables p es)) text.is.1 plan opened in
     let held = goes (HasBundle evidence.bytes) (refused (BreaksBundle evidence.bytes) bundle_refusal) (λ es. checks tables text.is.0 es) (bundle_one evidence.bytes) entries evidence.is.1 plan typed in
     tells_listed tables entries text.is.0 (checked_from tables 0 entries text.is.0) plan held
+
+or_long : (status : Status) → (status ≡ statuses.Ok) ⊎ (status ≡ statuses.Refused) → ((status ≡ statuses.Ok) ⊎ (status ≡ statuses.Limit)) ⊎ (status ≡ statuses.Refused)
+or_long status (inl h) = inl (inl h)
+or_long status (inr h) = inr h
+
+long_or_told : (m : ViewMap) (tables : Schema) (t b : List ℕ) (entries : List Entry) → HasBundle b entries → (plan : Plan) → sees m tables t (λ seen. has_bundle b (λ es. checks tables (seen_program seen) es)) plan →
+    ((plan.status ≡ statuses.Ok) ⊎ (plan.status ≡ statuses.Limit)) ⊎ (plan.status ≡ statuses.Refused)
+long_or_told m tables t b entries of plan (inl h) = inl (inr (ap (λ (x : Plan). x.status) h.due))
+long_or_told m tables t b entries of plan (inr (seen, is, h)) =
+    or_long plan.status (tells_listed tables entries (seen_program seen) (checked_from tables 0 entries (seen_program seen)) plan
+    (goes (HasBundle b) (refused (BreaksBundle b) bundle_refusal) (λ es. checks tables (seen_program seen) es) (bundle_one b) entries of plan h))
+
+check_by_view_listed : (files : Given) → ((name : List ℕ) → files.failed name → ⊥) → (words schema source bundle : List ℕ) (plan : Plan) →
+    HasSchema files.told schema (HasSourceBy files.told (Some words) source) → HasFile files.told bundle most_bundle (λ bytes. (entries : List Entry) × HasBundle bytes entries) →
+    check_by_view files words schema source bundle plan → ((plan.status ≡ statuses.Ok) ⊎ (plan.status ≡ statuses.Limit)) ⊎ (plan.status ≡ statuses.Refused)
+check_by_view_listed files calm words schema source bundle plan right evidence h =
+    let tables : Schema = right.is.0 in
+    let map = right.is.2.0 in
+    let text = right.is.2.1 in
+    let first = opens files calm words most_map (codes "map") map.bytes (λ w. reads_evidence files schema source bundle (λ s t b. check_by_view_of w s t b)) map.has map.within plan h in
+    let read = opens files calm schema most_schema (codes "schema") right.bytes
+    (λ s. reads files source most_source (codes "source") (λ t. reads files bundle most_bundle (codes "bundle") (λ b. check_by_view_of map.bytes s t b))) right.has right.within plan first in
+    let both = opens files calm source most_source (codes "source") text.bytes (λ t. reads files bundle most_bundle (codes "bundle") (λ b. check_by_view_of map.bytes right.bytes t b)) text.has text.within plan read in
+    let all = opens files calm bundle most_bundle (codes "bundle") evidence.bytes (λ b. check_by_view_of map.bytes right.bytes text.bytes b) evidence.has evidence.within plan both in
+    let opened = goes_schema right.bytes tables (λ ts. has_map ts map.bytes (λ m. sees m ts text.bytes (λ seen. has_bundle evidence.bytes (λ es. checks ts (seen_program seen) es)))) right.is.1 plan all in
+    let mapped = goes_map tables map.bytes map.is.0 (λ m. sees m tables text.bytes (λ seen. has_bundle evidence.bytes (λ es. checks tables (seen_program seen) es))) map.is.1 plan opened in
+    long_or_told map.is.0 tables text.bytes evidence.bytes evidence.is.0 evidence.is.1 plan mapped
+
+check_ends : (files : Given) → ((name : List ℕ) → files.failed name → ⊥) → (view : Option (List ℕ)) (schema source bundle : List ℕ) (plan : Plan) →
+    HasSchema files.told schema (HasSourceBy files.told view source) → HasFile files.told bundle most_bundle (λ bytes. (entries : List Entry) × HasBundle bytes entries) →
+    by_view view (λ map. check_by_view files map schema source bundle) (check files schema source bundle) plan → IsDoneBy view plan.status ⊎ (plan.status ≡ statuses.Refused)
+check_ends files calm None schema source bundle plan right evidence h = check_listed files calm schema source bundle plan right evidence h
+check_ends files calm (Some map) schema source bundle plan right evidence h = check_by_view_listed files calm map schema source bundle plan right evidence h
 
 -- ---- `run`
 
@@ -339,14 +425,39 @@ view_listed files calm words schema source plan right h =
     let mapped = goes (IsMapOf tables map.bytes) (refused (BreaksMap tables map.bytes) (map_refusal map.bytes)) (λ m. views m tables text.bytes) (map_one tables map.bytes) map.is.0 map.is.1 plan opened in
     views_listed map.is.0 tables text.bytes plan mapped
 
+-- ---- `map`
+
+draws_listed : (files : Given) → ((name : List ℕ) → files.failed name → ⊥) → (entities : List (List ℕ)) (plan : Plan) → HaveEntities files.told entities → draws files entities plan → plan.status ≡ statuses.Ok
+draws_listed files calm entities plan right h = (opens_files files calm entities most_entities (codes "entities") right.0 (λ texts. IsText) right.1 plan h).status
+
+checks_of_listed : (w s : List ℕ) (tables : Schema) (m : ViewMap) (plan : Plan) → IsSchemaOf s tables → IsMapOf tables w m → checks_of w s plan → plan.status ≡ statuses.Ok
+checks_of_listed w s tables m plan is mapped h =
+    let opened = goes_schema s tables (λ ts. has_map ts w (λ m. IsText)) is plan h in
+    (goes (IsMapOf tables w) (refused (BreaksMap tables w) (map_refusal w)) (λ m. IsText) (map_one tables w) m mapped plan opened).status
+
+checks_source_listed : (files : Given) → ((name : List ℕ) → files.failed name → ⊥) → (source : Option (List ℕ)) (w s : List ℕ) (tables : Schema) (m : ViewMap) (plan : Plan) → IsSchemaOf s tables → IsMapOf tables w m → HasSourceFile files.told source →
+    checks_source files source w s plan → plan.status ≡ statuses.Ok
+checks_source_listed files calm None w s tables m plan is mapped there h = checks_of_listed w s tables m plan is mapped h
+checks_source_listed files calm (Some source) w s tables m plan is mapped there h =
+    checks_of_listed w s tables m plan is mapped (opens files calm source most_source (codes "source") there.bytes (λ t. checks_of w s) there.has there.within plan h)
+
+checks_map_listed : (files : Given) → ((name : List ℕ) → files.failed name → ⊥) → (words schema : List ℕ) (source : Option (List ℕ)) (plan : Plan) →
+    HasSchema files.told schema (λ tables. HasFile files.told words most_map (λ bytes. (m : ViewMap) × IsMapOf tables bytes m) × HasSourceFile files.told source) → checks_map files words schema source plan → plan.status ≡ statuses.Ok
+checks_map_listed files calm words schema source plan right h =
+    let tables : Schema = right.is.0 in
+    let map = right.is.2.0 in
+    let first = opens files calm words most_map (codes "map") map.bytes (λ w. reads files schema most_schema (codes "schema") (λ s. checks_source files source w s)) map.has map.within plan h in
+    let read = opens files calm schema most_schema (codes "schema") right.bytes (λ s. checks_source files source map.bytes s) right.has right.within plan first in
+    checks_source_listed files calm source map.bytes right.bytes tables map.is.0 plan right.is.1 map.is.1 right.is.2.1 read
+
 -- ---- the whole
 
 built_ends : (files : Given) → ((name : List ℕ) → files.failed name → ⊥) → (may : May) (c : Command) (plan : Plan) → IsRight files.told c → built files may c plan → IsEnd c plan.status
-built_ends files calm may (commands.Rewrite o s t) plan right h = rewrite_listed files calm may o s t plan right h
+built_ends files calm may (commands.Rewrite o s t) plan right h = rewrite_ends files calm may o o.view s t plan right h
 built_ends files calm may (commands.Run o s t d method words) plan right h = run_listed files calm o s t d (record { method = method; words = words }) plan right h
 built_ends files calm may (commands.Sql s d q) plan right h = sql_listed files calm s d q plan right h
-built_ends files calm may (commands.Prove o s t) plan right h = prove_listed files calm may o s t plan right h
-built_ends files calm may (commands.Check o s t b) plan right h = check_listed files calm s t b plan right.0 right.1 h
+built_ends files calm may (commands.Prove o s t) plan right h = prove_ends files calm may o o.view s t plan right h
+built_ends files calm may (commands.Check o s t b) plan right h = check_ends files calm o.view s t b plan right.0 right.1 h
 built_ends files calm may (commands.Make n) plan right h = make_listed n plan h
 built_ends files calm may (commands.Unnest o s t) plan right h = unnest_listed files calm o s t plan right h
 built_ends files calm may (commands.Narrow o s t) plan right h = narrow_listed files calm s t plan right h
@@ -354,8 +465,9 @@ built_ends files calm may (commands.Inline s t) plan right h = inline_listed fil
 built_ends files calm may (commands.Gather o s t) plan right h = gather_listed files calm o s t plan right h
 built_ends files calm may (commands.Schema o d) plan right h = draw_listed files calm o d plan right h
 built_ends files calm may (commands.View m s t) plan right h = view_listed files calm m s t plan right h
-built_ends files calm may (commands.Map es) plan right h = ap (λ (x : Plan). x.status) h
-built_ends files calm may (commands.CheckMap m s) plan right h = ap (λ (x : Plan). x.status) h
+built_ends files calm may (commands.Map es) plan right h = draws_listed files calm es plan right h
+built_ends files calm may (commands.MapSchema es) plan right h = draws_listed files calm es plan right h
+built_ends files calm may (commands.CheckMap m s t) plan right h = checks_map_listed files calm m s t plan right h
 
 ends_where : (is : Bool) (c : Command) (next : Ends) (plan : Plan) → (next plan → IsEnd c plan.status) → where_built is next plan → IsEndWhere is c plan.status
 ends_where true c next plan f h = f h

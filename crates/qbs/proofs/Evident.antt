@@ -1,5 +1,5 @@
 -- What bundles are worth follows from a plan that is due and was delivered.
-use Rattle.std.proofs.Common.{◌≡◌, ℕ, inl, inr, List, [], length, Option, subst, sym, refl, ap, ◌∙◌, codes}
+use Rattle.std.proofs.Common.{◌≡◌, ℕ, inl, inr, List, [], length, Option, None, subst, sym, refl, ap, ◌∙◌, codes}
 use Rattle.std.specs.Io.KnownBytes.{Appends}
 use Rattle.qbs_base.specs.declared.status.Status.{Status}
 use Rattle.qbs_base.specs.declared.status.Status.TheVariants as statuses
@@ -7,9 +7,7 @@ use Rattle.qbs_base.specs.Values.{Schema}
 use Rattle.java_ast.specs.Tree.{PlainProgram}
 use Rattle.deriv_check.specs.Bundles.{Entry}
 use Rattle.deriv_check.specs.Grammar.{HasBundle}
-use Rattle.kernel_lang.specs.Plain.{Fragment}
 use Rattle.rewrite_core.specs.Checking.{Checks, All, Refused, checked_from}
-use Rattle.rewrite_core.specs.Trying.{all_tried}
 use Rattle.words.specs.declared.command.Command.{Command}
 use Rattle.words.specs.declared.command.Command.TheVariants as commands
 use Rattle.words.specs.declared.command.Options.{Options}
@@ -21,18 +19,20 @@ use Rattle.deliveries.specs.declared.plan.Plan.{Plan}
 use Rattle.deliveries.specs.Deliver.{Change}
 use Rattle.plans.specs.Opening.{IsSchemaOf, IsProgramOf, HasNoProgram}
 use Rattle.deliveries.specs.Plan.{Given}
-use Rattle.deliveries.specs.Steps.{IsRead, IsNotRead}
+use Rattle.deliveries.specs.Steps.{Ends, IsRead, IsNotRead}
 use Rattle.qbs.specs.Check.{accepted_line, tells, check}
-use Rattle.qbs.specs.Commands.{is_built, command, IsDue}
-use Rattle.qbs.specs.Evidence.{IsProved, IsProof, HasProof, IsAccepted, IsRefused, IsCheck, HasCheck}
-use Rattle.qbs.specs.Headline.{DropsNone}
+use Rattle.qbs.specs.CheckByView.{check_by_view}
+use Rattle.qbs.specs.Commands.{is_built, by_view, command, IsDue}
+use Rattle.qbs.specs.Evidence.{IsProved, HasProof, IsAccepted, IsRefused, IsCheck, HasCheck}
 use Rattle.qbs.specs.Pruners.{May}
 use Rattle.qbs.specs.Prove.{prove_of, prove}
+use Rattle.qbs.specs.ProveByView.{prove_by_view}
 use Rattle.qbs.specs.Rewrite.{size_of, budget_of}
 use Rattle.qbs.specs.Store.{IsStoreRead}
 use Rattle.qbs.specs.Top.{IsDone}
+use Rattle.qbs.proofs.ByView.{as_plain}
 use Rattle.qbs.proofs.Checked.{all_same}
-use Rattle.qbs.proofs.Promised.{command_is, none_dropped_without, rewrite_drops_none, unread, store_unread, no_program, no_bank, where_ends}
+use Rattle.qbs.proofs.Promised.{command_is, unread, store_unread, no_program, no_bank, where_ends}
 
 -- the plan of words that name a command, where its status is neither want of memory nor of words
 pub due_for : (files : Given) (may : May) (words : List (List ℕ)) (named : Command) (plan : Plan) → HasWords words named → IsDue files may words plan → (plan.status ≡ statuses.NoMemory → ⊥) → command files may named plan
@@ -80,14 +80,14 @@ proved_of may o s t b plan (inr (tables, is, inr (p, read, inr (bank, held, h)))
       program = p;
       is_schema = is;
       is_program = read;
-      bundle = h.member;
-      accepted = record { all = h.accepted; well = h.rewriting.well; keeps = h.rewriting.keeps };
+      bundle = h.evidence.member;
+      accepted = record { all = h.evidence.accepted; well = h.evidence.rewriting.well; keeps = h.evidence.rewriting.keeps };
       pruned = h.pruned;
       bank = bank;
       is_bank = held;
-      counted = h.counted;
+      counted = h.evidence.counted;
       report = refl;
-      standing = h.rewriting.standing;
+      standing = h.evidence.rewriting.standing;
     })
 
 evidence : (files : Given) (may : May) (o : Options) (schema source : List ℕ) (plan : Plan) → prove files may o schema source plan → plan.status ≡ statuses.Ok → Evidence files may o schema source plan
@@ -98,13 +98,15 @@ evidence files may o schema source plan (inr (s, read, inr (t, has, inr (b, ther
     record { schema_read = s; source_read = t; store_read = b; read_schema = read; read_source = has; read_store = there; is = proved_of may o s t b plan h ok }
 
 pub proved : (files : Given) (may : May) (words : List (List ℕ)) (out rep : Change) (result : Status) → IsDone files may words out rep result → HasProof files may words out rep result
-proved files may words out rep result done o schema source has ok =
+proved files may words out rep result done o schema source has without ok =
     let w = written files may words out rep result done (λ e. let no : statuses.WriteFault ≡ statuses.Ok = sym e ∙ ok in cc) in
     let well : w.plan.status ≡ statuses.Ok = w.status ∙ ok in
     let due = due_for files may words (commands.Prove o schema source) w.plan has w.due (λ e. let no : statuses.NoMemory ≡ statuses.Ok = sym e ∙ well in cc) in
+    let through : List ℕ → Ends = λ (map : List ℕ). prove_by_view files may o map schema source in
     let h : Evidence files may o schema source w.plan =
     evidence files may o schema source w.plan
-    (where_ends (is_built (commands.Prove o schema source)) (prove files may o schema source) w.plan due (λ e. let no : statuses.NotYet ≡ statuses.Ok = sym e ∙ well in cc)) well in
+    (as_plain o.view through (prove files may o schema source) w.plan without
+    (where_ends (is_built (commands.Prove o schema source)) (by_view o.view through (prove files may o schema source)) w.plan due (λ e. let no : statuses.NotYet ≡ statuses.Ok = sym e ∙ well in cc))) well in
     record {
       schema_read = h.schema_read;
       source_read = h.source_read;
@@ -119,26 +121,18 @@ proved files may words out rep result done o schema source has ok =
       wrote_lines = w.wrote_lines;
     }
 
--- ---- without pruners
-
-pub drops_none : (files : Given) (may : May) (words : List (List ℕ)) (out rep : Change) (result : Status) → IsDone files may words out rep result → ((f : Fragment) (c : List ℕ) → may.drops f c → ⊥) → DropsNone words rep result
-drops_none files may words out rep result done never o schema source (inl has) e ok = rewrite_drops_none files may words out rep result done never o schema source has e ok
-drops_none files may words out rep result done never o schema source (inr has) e ok =
-    let h : IsProof files may o schema source out rep = proved files may words out rep result done o schema source has ok in
-    none_dropped_without files may o.store h.store_read h.is.tables h.is.bank (size_of o) (all_tried h.is.tables (size_of o) (budget_of o) h.is.program) h.is.pruned h.lines rep e h.read_store h.is.is_bank never h.is.counted h.is.report h.wrote_lines
-
 -- ---- `check`
 
 -- a status that only a bundle's entries lead to
-abbrev OfEntries : Status → Type 0
+abbrev pub OfEntries : Status → Type 0
 OfEntries statuses.Ok = Unit {0}
 OfEntries statuses.Refused = Unit {0}
 OfEntries _ = ⊥
 
-of_no_other : (status other : Status) → status ≡ other → (OfEntries other → ⊥) → OfEntries status → ⊥
+pub of_no_other : (status other : Status) → status ≡ other → (OfEntries other → ⊥) → OfEntries status → ⊥
 of_no_other status other e never is = never (subst OfEntries e is)
 
-no_file : (files : Given) (name : List ℕ) (limit : ℕ) (label : List ℕ) (plan : Plan) → IsNotRead files name limit label plan → OfEntries plan.status → ⊥
+pub no_file : (files : Given) (name : List ℕ) (limit : ℕ) (label : List ℕ) (plan : Plan) → IsNotRead files name limit label plan → OfEntries plan.status → ⊥
 no_file files name limit label plan (inl h) is = of_no_other plan.status statuses.ReadFault (ap (λ (p : Plan). p.status) h.1) (λ x. x) is
 no_file files name limit label plan (inr h) is = of_no_other plan.status statuses.Limit (ap (λ (p : Plan). p.status) h.1) (λ x. x) is
 
@@ -190,24 +184,26 @@ read_all files schema source bundle plan (inr (s, read, inr (t, has, inr (b, the
     }
 
 -- what is said of entries, by the status
-told_well : (tables : Schema) (entries : List Entry) (p : PlainProgram) (c : Checks) (plan : Plan) → checked_from tables 0 entries p ≡ c → tells tables entries p c plan → plan.status ≡ statuses.Ok → IsAccepted tables entries p plan.out × (plan.rep ≡ [])
+pub told_well : (tables : Schema) (entries : List Entry) (p : PlainProgram) (c : Checks) (plan : Plan) → checked_from tables 0 entries p ≡ c → tells tables entries p c plan → plan.status ≡ statuses.Ok → IsAccepted tables entries p plan.out × (plan.rep ≡ [])
 told_well tables entries p (All n q) plan e h ok =
     let many : n ≡ length entries = all_same n (length entries) q q (sym e ∙ h.0.all) in
     (record { made = q; accepted = h.0; is = ap (λ (x : Plan). x.out) h.1 ∙ ap accepted_line many }, ap (λ (x : Plan). x.rep) h.1)
 told_well tables entries p (Refused ordinal) plan e h ok = let no : statuses.Refused ≡ statuses.Ok = sym (ap (λ (x : Plan). x.status) h) ∙ ok in absurd cc
 
-told_not : (tables : Schema) (entries : List Entry) (p : PlainProgram) (c : Checks) (plan : Plan) → checked_from tables 0 entries p ≡ c → tells tables entries p c plan → plan.status ≡ statuses.Refused → IsRefused tables entries p plan.out × (plan.rep ≡ [])
+pub told_not : (tables : Schema) (entries : List Entry) (p : PlainProgram) (c : Checks) (plan : Plan) → checked_from tables 0 entries p ≡ c → tells tables entries p c plan → plan.status ≡ statuses.Refused → IsRefused tables entries p plan.out × (plan.rep ≡ [])
 told_not tables entries p (All n q) plan e h ok = let no : statuses.Ok ≡ statuses.Refused = sym (ap (λ (x : Plan). x.status) h.1) ∙ ok in absurd cc
 told_not tables entries p (Refused ordinal) plan e h ok = (record { ordinal = ordinal; refused = e; is = ap (λ (x : Plan). x.out) h }, ap (λ (x : Plan). x.rep) h)
 
-module _ (files : Given) (may : May) (words : List (List ℕ)) (out rep : Change) (result : Status) (done : IsDone files may words out rep result) (o : Options) (schema source bundle : List ℕ) (has : HasWords words (commands.Check o schema source bundle)) where
+module _ (files : Given) (may : May) (words : List (List ℕ)) (out rep : Change) (result : Status) (done : IsDone files may words out rep result) (o : Options) (schema source bundle : List ℕ) (has : HasWords words (commands.Check o schema source bundle)) (without : o.view ≡ None) where
   entries_read : (w : IsWritten files may words out rep result) → OfEntries result → Read files schema source bundle w.plan
   entries_read w such =
       let is : OfEntries w.plan.status = subst OfEntries (sym w.status) such in
+      let through : List ℕ → Ends = λ (map : List ℕ). check_by_view files map schema source bundle in
       read_all files schema source bundle w.plan
-      (where_ends (is_built (commands.Check o schema source bundle)) (check files schema source bundle) w.plan
+      (as_plain o.view through (check files schema source bundle) w.plan without
+      (where_ends (is_built (commands.Check o schema source bundle)) (by_view o.view through (check files schema source bundle)) w.plan
       (due_for files may words (commands.Check o schema source bundle) w.plan has w.due (λ e. of_no_other w.plan.status statuses.NoMemory e (λ x. x) is))
-      (λ e. of_no_other w.plan.status statuses.NotYet e (λ x. x) is)) is
+      (λ e. of_no_other w.plan.status statuses.NotYet e (λ x. x) is))) is
 
   said : (Says : Schema → List Entry → PlainProgram → List ℕ → Type 0) (w : IsWritten files may words out rep result) (h : Read files schema source bundle w.plan) → Says h.known h.entries h.program w.plan.out × (w.plan.rep ≡ []) → IsCheck files Says schema source bundle out rep
   said Says w h s =
@@ -237,5 +233,5 @@ module _ (files : Given) (may : May) (words : List (List ℕ)) (out rep : Change
       said IsRefused w h (told_not h.known h.entries h.program (checked_from h.known 0 h.entries h.program) w.plan refl h.told (w.status ∙ ok))
 
 pub checked : (files : Given) (may : May) (words : List (List ℕ)) (out rep : Change) (result : Status) → IsDone files may words out rep result → HasCheck files words out rep result
-checked files may words out rep result done o schema source bundle has =
-    record { well = well files may words out rep result done o schema source bundle has; refuses = refuses files may words out rep result done o schema source bundle has }
+checked files may words out rep result done o schema source bundle has without =
+    record { well = well files may words out rep result done o schema source bundle has without; refuses = refuses files may words out rep result done o schema source bundle has without }

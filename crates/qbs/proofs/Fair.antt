@@ -1,5 +1,5 @@
 -- What holds of all plans that are due: a refusal has nothing for the output, and none says that a write failed.
-use Rattle.std.proofs.Common.{◌≡◌, ◌≢◌, ℕ, inl, inr, Bool, true, false, List, [], ◌∷◌, ◌++◌, Option, Some, None, subst, sym, refl, ap, codes}
+use Rattle.std.proofs.Common.{◌≡◌, ◌≢◌, ℕ, ◌-◌, inl, inr, Bool, true, false, List, [], ◌∷◌, ◌++◌, length, Option, Some, None, subst, sym, refl, ap, codes}
 use Rattle.qbs_base.specs.declared.status.Status.{Status}
 use Rattle.qbs_base.specs.declared.status.Status.TheVariants as statuses
 use Rattle.qbs_base.specs.Status.{KeepsOutput}
@@ -20,31 +20,38 @@ use Rattle.small_dbs.specs.declared.small.SmallDb.{SmallDb}
 use Rattle.words.specs.declared.command.Command.{Command}
 use Rattle.words.specs.declared.command.Command.TheVariants as commands
 use Rattle.words.specs.declared.command.Options.{Options}
-use Rattle.deliveries.specs.Limits.{most_map, most_schema, most_source, most_bundle, most_dump, most_store}
+use Rattle.deliveries.specs.Limits.{most_map, most_schema, most_source, most_bundle, most_dump, most_entities, most_store}
 use Rattle.deliveries.specs.declared.plan.Plan.{Plan}
 use Rattle.plans.specs.Calls.{Call}
 use Rattle.plans.specs.Opening.{IsSchemaOf, HasNoProgram}
 use Rattle.deliveries.specs.Plan.{Given, not_yet, read_fault}
 use Rattle.plans.specs.Results.{names_of}
 use Rattle.deliveries.specs.Steps.{Ends, IsRead, IsNotRead}
-use Rattle.plans.specs.Tables.{AreNotRead, IsFileOf, IsTableFile}
-use Rattle.qbs.specs.Check.{tells, check_of, check}
+use Rattle.deliveries.specs.Named.{AreFilesUnread, IsNamed}
+use Rattle.plans.specs.Tables.{table_files, AreNotRead, IsFileOf, IsTableFile}
+use Rattle.qbs.specs.Check.{tells, check_of, check, reads_evidence}
+use Rattle.qbs.specs.CheckByView.{seen_program, check_by_view_of, check_by_view}
 use Rattle.qbs.specs.Commands.{is_built, built, where_built, command}
 use Rattle.qbs.specs.Top.{MayRead, ReadFailed}
 use Rattle.qbs.specs.Draw.{draw}
 use Rattle.qbs.specs.Inline.{HasNoProgramWithCalls, inline_of, inline}
 use Rattle.qbs.specs.Narrow.{narrow_of, narrow}
+use Rattle.qbs.specs.Maps.{draws, source_names, checks_of, checks_source, checks_map}
 use Rattle.qbs.specs.Make.{loops_text, method_text, IsNotDone, outcome_over, runs, make}
 use Rattle.qbs.specs.Gather.{gather_of, gather}
 use Rattle.qbs.specs.Opened.{reads_all, has_all}
+use Rattle.qbs.specs.OpenedByView.{reads_by_view, sees_all}
 use Rattle.qbs.specs.Pruners.{May, with_bank}
 use Rattle.qbs.specs.Prove.{Proves, prove_of, prove}
+use Rattle.qbs.specs.ProveByView.{ProvesSeen, prove_by_view_of, prove_by_view}
 use Rattle.qbs.specs.Rewrite.{size_of, budget_of, Rewrites, rewrite_of, rewrite}
+use Rattle.qbs.specs.RewriteByView.{WritesBack, rewrite_by_view_of, rewrite_by_view}
 use Rattle.qbs.specs.Run.{comes_to, call_of, run_of, run}
 use Rattle.qbs.specs.Sql.{answer_plan, sql_of, sql}
 use Rattle.qbs.specs.Store.{IsStoreName, IsStoreUnread, HasNoBank}
 use Rattle.qbs.specs.Unnest.{unnest_of, unnest}
-use Rattle.qbs.specs.View.{views, view_of, view}
+use Rattle.qbs.specs.View.{Seen, views, view_of, view}
+use Rattle.qbs.proofs.ByView.{either, is_map_name, proves_well}
 use Rattle.view_map.specs.declared.model.ViewMap.{ViewMap}
 
 -- a plan of a command that words name, which reads files of these names
@@ -72,10 +79,13 @@ module _ (files : Given) (Names : List ℕ → Type 0) where
   not_read_fair name limit label plan named (inl h) = fair_as plan (read_fault name) h.1 (unread_fair name named h.0)
   not_read_fair name limit label plan named (inr h) = fair_as plan _ h.1 (refusal_fair statuses.Limit _ (λ e. cc) (λ e. cc) (λ e. cc))
 
+  files_fair : (names : List (List ℕ)) (left : ℕ) (label : List ℕ) (plan : Plan) → ((name : List ℕ) → IsNamed names name → Names name) → AreFilesUnread files names left label plan → IsFair files Names plan
+  files_fair [] left label plan named h = absurd h
+  files_fair (name ∷ names) left label plan named (inl h) = not_read_fair name left label plan (named name (inl refl)) h
+  files_fair (name ∷ names) left label plan named (inr h) = files_fair names (left - length h.0) label plan (λ other is. named other (inr is)) h.2
+
   not_texts_fair : (folder : List ℕ) (tables : List Table) (left : ℕ) (plan : Plan) → ((name : List ℕ) → IsFileOf folder tables name → Names name) → AreNotRead files folder tables left plan → IsFair files Names plan
-  not_texts_fair folder [] left plan named h = absurd h
-  not_texts_fair folder (table ∷ tables) left plan named (inl h) = not_read_fair _ left (codes "tables") plan (named _ (inl refl)) h
-  not_texts_fair folder (table ∷ tables) left plan named (inr h) = not_texts_fair folder tables _ plan (λ name file. named name (inr file)) h.2
+  not_texts_fair folder tables left plan named h = files_fair (table_files folder tables) left (codes "tables") plan named h
 
   no_program_fair : (tables : Schema) (bytes : List ℕ) (plan : Plan) → HasNoProgram tables bytes plan → IsFair files Names plan
   no_program_fair tables bytes plan (inl h) = fair_as plan _ h.2 (refusal_fair statuses.Source _ (λ e. cc) (λ e. cc) (λ e. cc))
@@ -116,6 +126,34 @@ module _ (files : Given) (Names : List ℕ → Type 0) where
       reads_all_fair schema source o.store (λ s t b. prove_of may o s t b) first second third
       (λ s t b x due. has_all_fair s t b (λ tables p bank. Proves (with_bank may bank) tables (size_of o) (budget_of o) p) (λ tables p bank y d. ap (λ (z : Plan). z.status) d.written) x due) plan h
 
+  -- ---- by a view
+
+  sees_all_fair : (w s t : List ℕ) (b : Option (List ℕ)) (next : Schema → ViewMap → Seen → Option (List SmallDb) → Ends) →
+      ((tables : Schema) (m : ViewMap) (seen : Seen) (bank : Option (List SmallDb)) (plan : Plan) → next tables m seen bank plan → plan.status ≡ statuses.Ok) → (plan : Plan) → sees_all w s t b next plan → IsFair files Names plan
+  sees_all_fair w s t b next well plan (inl h) = fair_as plan _ h.2 (refusal_fair statuses.Schema _ (λ e. cc) (λ e. cc) (λ e. cc))
+  sees_all_fair w s t b next well plan (inr (tables, is, inl h)) = fair_as plan _ h.2 (refusal_fair statuses.View _ (λ e. cc) (λ e. cc) (λ e. cc))
+  sees_all_fair w s t b next well plan (inr (tables, is, inr (m, has, inl h))) = fair_as plan _ h.due (refusal_fair statuses.Limit _ (λ e. cc) (λ e. cc) (λ e. cc))
+  sees_all_fair w s t b next well plan (inr (tables, is, inr (m, has, inr (seen, there, inl h)))) = no_bank_fair tables b plan h
+  sees_all_fair w s t b next well plan (inr (tables, is, inr (m, has, inr (seen, there, inr (bank, held, h))))) = done_fair plan (well tables m seen bank plan h)
+
+  reads_by_view_fair : (words schema source : List ℕ) (store : Option (List ℕ)) (next : List ℕ → List ℕ → List ℕ → Option (List ℕ) → Ends) → Names words → Names schema → Names source → ((name : List ℕ) → IsStoreName store name → Names name) →
+      ((w s t : List ℕ) (b : Option (List ℕ)) (plan : Plan) → next w s t b plan → IsFair files Names plan) → (plan : Plan) → reads_by_view files words schema source store next plan → IsFair files Names plan
+  reads_by_view_fair words schema source store next first second third fourth fair plan (inl h) = not_read_fair words most_map (codes "map") plan first h
+  reads_by_view_fair words schema source store next first second third fourth fair plan (inr (w, read, h)) = reads_all_fair schema source store (λ s t b. next w s t b) second third fourth (fair w) plan h
+
+  rewrite_by_view_fair : (may : May) (o : Options) (words schema source : List ℕ) → Names words → Names schema → Names source → ((name : List ℕ) → IsStoreName o.store name → Names name) → (plan : Plan) →
+      rewrite_by_view files may o words schema source plan → IsFair files Names plan
+  rewrite_by_view_fair may o words schema source first second third fourth plan h =
+      reads_by_view_fair words schema source o.store (λ w s t b. rewrite_by_view_of may o w s t b) first second third fourth
+      (λ w s t b x due. sees_all_fair w s t b (λ tables m seen bank. WritesBack (with_bank may bank) m tables (size_of o) (budget_of o) t seen) (λ tables m seen bank y d. ap (λ (z : Plan). z.status) d.written) x due) plan h
+
+  prove_by_view_fair : (may : May) (o : Options) (words schema source : List ℕ) → Names words → Names schema → Names source → ((name : List ℕ) → IsStoreName o.store name → Names name) → (plan : Plan) →
+      prove_by_view files may o words schema source plan → IsFair files Names plan
+  prove_by_view_fair may o words schema source first second third fourth plan h =
+      reads_by_view_fair words schema source o.store (λ w s t b. prove_by_view_of may o w s t b) first second third fourth
+      (λ w s t b x due. sees_all_fair w s t b (λ tables m seen bank. ProvesSeen (with_bank may bank) m tables (size_of o) (budget_of o) t seen)
+      (λ tables m seen bank y d. proves_well (with_bank may bank) m tables (size_of o) (budget_of o) t seen y d) x due) plan h
+
   -- ---- `gather`
 
   gather_of_fair : (o : Options) (s t : List ℕ) (plan : Plan) → gather_of o s t plan → IsFair files Names plan
@@ -145,6 +183,28 @@ module _ (files : Given) (Names : List ℕ → Type 0) where
   view_fair words schema source first second third plan (inr (w, read, inr (s, has, inl h))) = not_read_fair source most_source (codes "source") plan third h
   view_fair words schema source first second third plan (inr (w, read, inr (s, has, inr (t, is, h)))) = view_of_fair w s t plan h
 
+  -- ---- `map`
+
+  draws_fair : (entities : List (List ℕ)) → ((name : List ℕ) → IsNamed entities name → Names name) → (plan : Plan) → draws files entities plan → IsFair files Names plan
+  draws_fair entities named plan (inl h) = files_fair entities most_entities (codes "entities") plan named h
+  draws_fair entities named plan (inr (texts, are, h)) = done_fair plan h.status
+
+  checks_of_fair : (w s : List ℕ) (plan : Plan) → checks_of w s plan → IsFair files Names plan
+  checks_of_fair w s plan (inl h) = fair_as plan _ h.2 (refusal_fair statuses.Schema _ (λ e. cc) (λ e. cc) (λ e. cc))
+  checks_of_fair w s plan (inr (tables, is, inl h)) = fair_as plan _ h.2 (refusal_fair statuses.View _ (λ e. cc) (λ e. cc) (λ e. cc))
+  checks_of_fair w s plan (inr (tables, is, inr (m, has, h))) = done_fair plan h.status
+
+  checks_source_fair : (source : Option (List ℕ)) (w s : List ℕ) → ((name : List ℕ) → IsNamed (source_names source) name → Names name) → (plan : Plan) → checks_source files source w s plan → IsFair files Names plan
+  checks_source_fair None w s named plan h = checks_of_fair w s plan h
+  checks_source_fair (Some source) w s named plan (inl h) = not_read_fair source most_source (codes "source") plan (named source (inl refl)) h
+  checks_source_fair (Some source) w s named plan (inr (t, is, h)) = checks_of_fair w s plan h
+
+  checks_map_fair : (words schema : List ℕ) (source : Option (List ℕ)) → Names words → Names schema → ((name : List ℕ) → IsNamed (source_names source) name → Names name) → (plan : Plan) → checks_map files words schema source plan →
+      IsFair files Names plan
+  checks_map_fair words schema source first second third plan (inl h) = not_read_fair words most_map (codes "map") plan first h
+  checks_map_fair words schema source first second third plan (inr (w, read, inl h)) = not_read_fair schema most_schema (codes "schema") plan second h
+  checks_map_fair words schema source first second third plan (inr (w, read, inr (s, has, h))) = checks_source_fair source w s third plan h
+
   -- ---- `check`
 
   refused_fair : (plan : Plan) → plan.status ≡ statuses.Refused → IsFair files Names plan
@@ -160,11 +220,26 @@ module _ (files : Given) (Names : List ℕ → Type 0) where
   check_of_fair s t b plan (inr (tables, is, inr (p, read, inl h))) = fair_as plan _ h.2 (refusal_fair statuses.Bundle _ (λ e. cc) (λ e. cc) (λ e. cc))
   check_of_fair s t b plan (inr (tables, is, inr (p, read, inr (entries, has, h)))) = tells_fair tables entries p (checked_from tables 0 entries p) plan h
 
+  reads_evidence_fair : (schema source bundle : List ℕ) (next : List ℕ → List ℕ → List ℕ → Ends) → Names schema → Names source → Names bundle → ((s t b : List ℕ) (plan : Plan) → next s t b plan → IsFair files Names plan) → (plan : Plan) →
+      reads_evidence files schema source bundle next plan → IsFair files Names plan
+  reads_evidence_fair schema source bundle next first second third fair plan (inl h) = not_read_fair schema most_schema (codes "schema") plan first h
+  reads_evidence_fair schema source bundle next first second third fair plan (inr (s, read, inl h)) = not_read_fair source most_source (codes "source") plan second h
+  reads_evidence_fair schema source bundle next first second third fair plan (inr (s, read, inr (t, has, inl h))) = not_read_fair bundle most_bundle (codes "bundle") plan third h
+  reads_evidence_fair schema source bundle next first second third fair plan (inr (s, read, inr (t, has, inr (b, there, h)))) = fair s t b plan h
+
   check_fair : (schema source bundle : List ℕ) → Names schema → Names source → Names bundle → (plan : Plan) → check files schema source bundle plan → IsFair files Names plan
-  check_fair schema source bundle first second third plan (inl h) = not_read_fair schema most_schema (codes "schema") plan first h
-  check_fair schema source bundle first second third plan (inr (s, read, inl h)) = not_read_fair source most_source (codes "source") plan second h
-  check_fair schema source bundle first second third plan (inr (s, read, inr (t, has, inl h))) = not_read_fair bundle most_bundle (codes "bundle") plan third h
-  check_fair schema source bundle first second third plan (inr (s, read, inr (t, has, inr (b, there, h)))) = check_of_fair s t b plan h
+  check_fair schema source bundle first second third plan h = reads_evidence_fair schema source bundle (λ s t b. check_of s t b) first second third check_of_fair plan h
+
+  check_by_view_of_fair : (w s t b : List ℕ) (plan : Plan) → check_by_view_of w s t b plan → IsFair files Names plan
+  check_by_view_of_fair w s t b plan (inl h) = fair_as plan _ h.2 (refusal_fair statuses.Schema _ (λ e. cc) (λ e. cc) (λ e. cc))
+  check_by_view_of_fair w s t b plan (inr (tables, is, inl h)) = fair_as plan _ h.2 (refusal_fair statuses.View _ (λ e. cc) (λ e. cc) (λ e. cc))
+  check_by_view_of_fair w s t b plan (inr (tables, is, inr (m, has, inl h))) = fair_as plan _ h.due (refusal_fair statuses.Limit _ (λ e. cc) (λ e. cc) (λ e. cc))
+  check_by_view_of_fair w s t b plan (inr (tables, is, inr (m, has, inr (seen, there, inl h)))) = fair_as plan _ h.2 (refusal_fair statuses.Bundle _ (λ e. cc) (λ e. cc) (λ e. cc))
+  check_by_view_of_fair w s t b plan (inr (tables, is, inr (m, has, inr (seen, there, inr (entries, of, h))))) = tells_fair tables entries (seen_program seen) (checked_from tables 0 entries (seen_program seen)) plan h
+
+  check_by_view_fair : (words schema source bundle : List ℕ) → Names words → Names schema → Names source → Names bundle → (plan : Plan) → check_by_view files words schema source bundle plan → IsFair files Names plan
+  check_by_view_fair words schema source bundle first second third fourth plan (inl h) = not_read_fair words most_map (codes "map") plan first h
+  check_by_view_fair words schema source bundle first second third fourth plan (inr (w, read, h)) = reads_evidence_fair schema source bundle (λ s t b. check_by_view_of w s t b) second third fourth (check_by_view_of_fair w) plan h
 
   -- ---- `run`
 
@@ -295,9 +370,18 @@ tables_of files schema folder bytes tables read is name file = record { bytes = 
 
 module _ (files : Given) (may : May) where
   built_fair : (c : Command) (plan : Plan) → built files may c plan → IsFair files (MayRead files.told c) plan
-  built_fair (commands.Rewrite o s t) plan h = rewrite_fair files (MayRead files.told (commands.Rewrite o s t)) may o s t (inl refl) (inr (inl refl)) (λ name is. inr (inr is)) plan h
-  built_fair (commands.Prove o s t) plan h = prove_fair files (MayRead files.told (commands.Prove o s t)) may o s t (inl refl) (inr (inl refl)) (λ name is. inr (inr is)) plan h
-  built_fair (commands.Check o s t b) plan h = check_fair files (MayRead files.told (commands.Check o s t b)) s t b (inl refl) (inr (inl refl)) (inr (inr refl)) plan h
+  built_fair (commands.Rewrite o s t) plan h =
+      either (IsFair files (MayRead files.told (commands.Rewrite o s t)) plan) o.view (λ map. rewrite_by_view files may o map s t) (rewrite files may o s t) plan
+      (λ map e g. rewrite_by_view_fair files (MayRead files.told (commands.Rewrite o s t)) may o map s t (inl (is_map_name o.view map e)) (inr (inl refl)) (inr (inr (inl refl))) (λ name is. inr (inr (inr is))) plan g)
+      (λ e g. rewrite_fair files (MayRead files.told (commands.Rewrite o s t)) may o s t (inr (inl refl)) (inr (inr (inl refl))) (λ name is. inr (inr (inr is))) plan g) h
+  built_fair (commands.Prove o s t) plan h =
+      either (IsFair files (MayRead files.told (commands.Prove o s t)) plan) o.view (λ map. prove_by_view files may o map s t) (prove files may o s t) plan
+      (λ map e g. prove_by_view_fair files (MayRead files.told (commands.Prove o s t)) may o map s t (inl (is_map_name o.view map e)) (inr (inl refl)) (inr (inr (inl refl))) (λ name is. inr (inr (inr is))) plan g)
+      (λ e g. prove_fair files (MayRead files.told (commands.Prove o s t)) may o s t (inr (inl refl)) (inr (inr (inl refl))) (λ name is. inr (inr (inr is))) plan g) h
+  built_fair (commands.Check o s t b) plan h =
+      either (IsFair files (MayRead files.told (commands.Check o s t b)) plan) o.view (λ map. check_by_view files map s t b) (check files s t b) plan
+      (λ map e g. check_by_view_fair files (MayRead files.told (commands.Check o s t b)) map s t b (inl (is_map_name o.view map e)) (inr (inl refl)) (inr (inr (inl refl))) (inr (inr (inr refl))) plan g)
+      (λ e g. check_fair files (MayRead files.told (commands.Check o s t b)) s t b (inr (inl refl)) (inr (inr (inl refl))) (inr (inr (inr refl))) plan g) h
   built_fair (commands.Run o s t d method words) plan h =
       run_fair files (MayRead files.told (commands.Run o s t d method words)) o s t d (record { method = method; words = words }) (inl refl) (inr (inl refl))
       (λ bytes tables read is name file. inr (inr (tables_of files s d bytes tables read is name file))) plan h
@@ -310,8 +394,9 @@ module _ (files : Given) (may : May) where
   built_fair (commands.Gather o s t) plan h = gather_fair files (MayRead files.told (commands.Gather o s t)) o s t (inl refl) (inr refl) plan h
   built_fair (commands.Schema o d) plan h = draw_fair files (MayRead files.told (commands.Schema o d)) o d refl plan h
   built_fair (commands.View m s t) plan h = view_fair files (MayRead files.told (commands.View m s t)) m s t (inl refl) (inr (inl refl)) (inr (inr refl)) plan h
-  built_fair (commands.Map es) plan h = unbuilt_fair files (MayRead files.told (commands.Map es)) plan h
-  built_fair (commands.CheckMap m s) plan h = unbuilt_fair files (MayRead files.told (commands.CheckMap m s)) plan h
+  built_fair (commands.Map es) plan h = draws_fair files (MayRead files.told (commands.Map es)) es (λ name is. is) plan h
+  built_fair (commands.MapSchema es) plan h = draws_fair files (MayRead files.told (commands.MapSchema es)) es (λ name is. is) plan h
+  built_fair (commands.CheckMap m s t) plan h = checks_map_fair files (MayRead files.told (commands.CheckMap m s t)) m s t (inl refl) (inr (inl refl)) (λ name is. inr (inr is)) plan h
 
   pub command_fair : (c : Command) (plan : Plan) → command files may c plan → IsFair files (MayRead files.told c) plan
   command_fair c plan h = fair_where files (MayRead files.told c) (is_built c) (built files may c) plan (built_fair c plan) h

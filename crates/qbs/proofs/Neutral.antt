@@ -16,13 +16,16 @@ use Rattle.deliveries.specs.Limits.{most_schema, most_source}
 use Rattle.deliveries.specs.Plan.{Given}
 use Rattle.deliveries.specs.Steps.{Ends, refused, IsRead, IsNotRead, reads}
 use Rattle.plans.specs.Opening.{IsSchemaOf, BreaksSchema, schema_refusal, IsProgramOf, HasNoProgram, has_program}
-use Rattle.qbs.specs.Commands.{is_built, where_built, command, program}
+use Rattle.qbs.specs.Commands.{is_built, where_built, by_view, command, program}
 use Rattle.qbs.specs.Opened.{reads_all, has_all}
 use Rattle.qbs.specs.Pruners.{May, with_bank}
 use Rattle.qbs.specs.Prove.{Proves, prove}
+use Rattle.qbs.specs.ProveByView.{prove_by_view}
 use Rattle.qbs.specs.Rewrite.{size_of, budget_of, Rewrites, rewrite}
+use Rattle.qbs.specs.RewriteByView.{rewrite_by_view}
 use Rattle.qbs.specs.Store.{IsStoreRead, IsStoreUnread, reads_store, IsBankOf, HasNoBank, has_store}
 use Rattle.qbs.specs.Top.{AreAlike, rewrite as of_rewrite, prove as of_prove, HasNeutralStore}
+use Rattle.qbs.proofs.ByView.{as_plain}
 use Rattle.qbs.proofs.OneFound.{schema_one, program_one}
 use Rattle.qbs.proofs.OnePlan.{rewrites_alike, proves_alike}
 use Rattle.qbs.proofs.OneRead.{read_one}
@@ -90,28 +93,36 @@ not_built : (plan : Plan) → plan.status ≡ statuses.Ok → plan.status ≡ st
 not_built plan ok e = let no : statuses.NotYet ≡ statuses.Ok = sym e ∙ ok in cc
 
 module _ (files : Given) (may : May) (p q : Plan) (ok : p.status ≡ statuses.Ok) (calm : (name : List ℕ) → files.failed name → ⊥) where
-  rewrite_neutral : (o : Options) (schema source : List ℕ) → IsSome (files.told schema) → IsSome (files.told source) → command files may (commands.Rewrite o schema source) p → command files may (commands.Rewrite (record o { store = None }) schema source) q → AreAlike p q
-  rewrite_neutral o schema source has_schema has_source a b =
-      let first = where_ends (is_built (commands.Rewrite o schema source)) (rewrite files may o schema source) p a (not_built p ok) in
-      let here : is_built (commands.Rewrite o schema source) ≡ true = is_true (is_built (commands.Rewrite o schema source)) (rewrite files may o schema source) p a (not_built p ok) in
-      let second = as_built (is_built (commands.Rewrite (record o { store = None }) schema source)) (rewrite files may (record o { store = None }) schema source) q here b in
+  rewrite_neutral : (o : Options) (schema source : List ℕ) → o.view ≡ None → IsSome (files.told schema) → IsSome (files.told source) → command files may (commands.Rewrite o schema source) p → command files may (commands.Rewrite (record o { store = None }) schema source) q → AreAlike p q
+  rewrite_neutral o schema source without_view has_schema has_source a b =
+      let through : List ℕ → Ends = λ map. rewrite_by_view files may o map schema source in
+      let through_none : List ℕ → Ends = λ map. rewrite_by_view files may (record o { store = None }) map schema source in
+      let first = as_plain o.view through (rewrite files may o schema source) p without_view
+      (where_ends (is_built (commands.Rewrite o schema source)) (by_view o.view through (rewrite files may o schema source)) p a (not_built p ok)) in
+      let here : is_built (commands.Rewrite o schema source) ≡ true = is_true (is_built (commands.Rewrite o schema source)) (by_view o.view through (rewrite files may o schema source)) p a (not_built p ok) in
+      let second = as_plain o.view through_none (rewrite files may (record o { store = None }) schema source) q without_view
+      (as_built (is_built (commands.Rewrite (record o { store = None }) schema source)) (by_view o.view through_none (rewrite files may (record o { store = None }) schema source)) q here b) in
       let w = held files schema source o.store (λ t tables r bank. Rewrites (with_bank may bank) tables (size_of o) (budget_of o) t r) p ok first in
       rewrites_alike (with_bank may w.bank) may w.tables (size_of o) (budget_of o) w.source_read w.program_read p q w.due
       (without files schema source (λ t tables r bank. Rewrites (with_bank may bank) tables (size_of o) (budget_of o) t r) (λ t tables r bank. Rewrites (with_bank may bank) tables (size_of o) (budget_of o) t r) p q has_schema has_source calm w second)
 
-  prove_neutral : (o : Options) (schema source : List ℕ) → IsSome (files.told schema) → IsSome (files.told source) → command files may (commands.Prove o schema source) p → command files may (commands.Prove (record o { store = None }) schema source) q → AreAlike p q
-  prove_neutral o schema source has_schema has_source a b =
-      let first = where_ends (is_built (commands.Prove o schema source)) (prove files may o schema source) p a (not_built p ok) in
-      let here : is_built (commands.Prove o schema source) ≡ true = is_true (is_built (commands.Prove o schema source)) (prove files may o schema source) p a (not_built p ok) in
-      let second = as_built (is_built (commands.Prove (record o { store = None }) schema source)) (prove files may (record o { store = None }) schema source) q here b in
+  prove_neutral : (o : Options) (schema source : List ℕ) → o.view ≡ None → IsSome (files.told schema) → IsSome (files.told source) → command files may (commands.Prove o schema source) p → command files may (commands.Prove (record o { store = None }) schema source) q → AreAlike p q
+  prove_neutral o schema source without_view has_schema has_source a b =
+      let through : List ℕ → Ends = λ map. prove_by_view files may o map schema source in
+      let through_none : List ℕ → Ends = λ map. prove_by_view files may (record o { store = None }) map schema source in
+      let first = as_plain o.view through (prove files may o schema source) p without_view
+      (where_ends (is_built (commands.Prove o schema source)) (by_view o.view through (prove files may o schema source)) p a (not_built p ok)) in
+      let here : is_built (commands.Prove o schema source) ≡ true = is_true (is_built (commands.Prove o schema source)) (by_view o.view through (prove files may o schema source)) p a (not_built p ok) in
+      let second = as_plain o.view through_none (prove files may (record o { store = None }) schema source) q without_view
+      (as_built (is_built (commands.Prove (record o { store = None }) schema source)) (by_view o.view through_none (prove files may (record o { store = None }) schema source)) q here b) in
       let w = held files schema source o.store (λ t tables r bank. Proves (with_bank may bank) tables (size_of o) (budget_of o) r) p ok first in
       proves_alike (with_bank may w.bank) may w.tables (size_of o) (budget_of o) w.program_read p q w.due
       (without files schema source (λ t tables r bank. Proves (with_bank may bank) tables (size_of o) (budget_of o) r) (λ t tables r bank. Proves (with_bank may bank) tables (size_of o) (budget_of o) r) p q has_schema has_source calm w second)
 
 pub neutral : (files : Given) (may : May) (words : List (List ℕ)) → HasNeutralStore files may words
-neutral files may words told c d others has has_not (of_rewrite o schema source name e) p q a ok b =
-    rewrite_neutral files may p q ok told.calm o schema source (told.told (commands.Rewrite o schema source) schema has (inl refl)) (told.told (commands.Rewrite o schema source) source has (inr (inl refl)))
+neutral files may words told c d others has has_not (of_rewrite o schema source name e without_view) p q a ok b =
+    rewrite_neutral files may p q ok told.calm o schema source without_view (told.told (commands.Rewrite o schema source) schema has (inr (inl refl))) (told.told (commands.Rewrite o schema source) source has (inr (inr (inl refl))))
     (named files may words (commands.Rewrite o schema source) p has a) (named files may others (commands.Rewrite (record o { store = None }) schema source) q has_not b)
-neutral files may words told c d others has has_not (of_prove o schema source name e) p q a ok b =
-    prove_neutral files may p q ok told.calm o schema source (told.told (commands.Prove o schema source) schema has (inl refl)) (told.told (commands.Prove o schema source) source has (inr (inl refl)))
+neutral files may words told c d others has has_not (of_prove o schema source name e without_view) p q a ok b =
+    prove_neutral files may p q ok told.calm o schema source without_view (told.told (commands.Prove o schema source) schema has (inr (inl refl))) (told.told (commands.Prove o schema source) source has (inr (inr (inl refl))))
     (named files may words (commands.Prove o schema source) p has a) (named files may others (commands.Prove (record o { store = None }) schema source) q has_not b)

@@ -1,6 +1,6 @@
 -- Two plans that are due for the same words are one but for the number of dropped candidates.
-use Rattle.std.proofs.Common.{◌≡◌, ℕ, inl, inr, Bool, true, false, List, [], ◌∷◌, ◌++◌, Option, Some, sym, refl, ap, ◌∙◌, codes}
-use Rattle.std.specs.Prelude.{IsSome}
+use Rattle.std.proofs.Common.{◌≡◌, ℕ, inl, inr, Bool, true, false, List, [], ◌∷◌, ◌++◌, Option, Some, None, sym, refl, ap, ◌∙◌, codes}
+use Rattle.std.specs.Prelude.{IsSome, is_none}
 use Rattle.std.specs.List.{flat_map}
 use Rattle.qbs_base.specs.declared.scalar.Value.{Value}
 use Rattle.qbs_base.specs.declared.status.Status.{Status}
@@ -27,19 +27,22 @@ use Rattle.deliveries.specs.Limits.{most_schema, most_source, most_bundle, most_
 use Rattle.deliveries.specs.declared.plan.Plan.{Plan}
 use Rattle.plans.specs.Calls.{Call, Calls, CallsNothing, word_refusal}
 use Rattle.plans.specs.Opening.{BreaksBundle, bundle_refusal, has_bundle, IsSchemaOf, BreaksSchema, schema_refusal, IsProgramOf, HasNoProgram, has_schema, has_program}
-use Rattle.deliveries.specs.Plan.{Given, not_yet}
+use Rattle.deliveries.specs.Plan.{Given}
 use Rattle.plans.specs.Results.{names_of}
-use Rattle.deliveries.specs.Steps.{Ends, ends, refused, IsRead, IsNotRead, reads}
+use Rattle.deliveries.specs.Steps.{Ends, refused, IsRead, IsNotRead, reads}
 use Rattle.plans.specs.Tables.{AreRead, AreNotRead, reads_tables, IsFileOf, IsTableFile, HasRows, LacksRows, data_refusal, has_rows}
 use Rattle.qbs.specs.Check.{tells, checks, check_of, check}
+use Rattle.qbs.specs.CheckByView.{check_by_view}
 use Rattle.qbs.specs.Draw.{Draws, draw}
-use Rattle.qbs.specs.Commands.{is_built, built, where_built, command, AreRefused}
+use Rattle.qbs.specs.Commands.{is_built, built, where_built, by_view, command, EndsUnbuilt}
 use Rattle.verdicts.specs.Reports.{verdict_line}
 use Rattle.qbs.specs.Make.{loops_text, method_text, summary, IsResult, IsNotDone, outcome_over, runs, make}
 use Rattle.qbs.specs.Opened.{reads_all, has_all}
 use Rattle.qbs.specs.Pruners.{May, with_bank}
 use Rattle.qbs.specs.Prove.{Proves, prove_of, prove}
+use Rattle.qbs.specs.ProveByView.{prove_by_view}
 use Rattle.qbs.specs.Rewrite.{size_of, budget_of, Rewrites, rewrite_of, rewrite}
+use Rattle.qbs.specs.RewriteByView.{rewrite_by_view}
 use Rattle.qbs.specs.Run.{IsChosen, chooses, comes_to, comes, call_of, run_of, run, turns_of}
 use Rattle.qbs.specs.Sql.{IsAsked, AsksNothing, answer_plan, answers, sql_of, sql}
 use Rattle.qbs.specs.Store.{IsStoreName, IsStoreRead, IsStoreUnread, reads_store, IsBankOf, HasNoBank, has_store}
@@ -246,19 +249,31 @@ built_one : (is : Bool) (next : Ends) → HasOne next → HasOne (where_built is
 built_one true next h = record { alike = h.alike }
 built_one false next h = record { alike = λ p q a b. inl (a ∙ sym b) }
 
-unbuilt_one : HasOne (ends not_yet)
-unbuilt_one = record { alike = λ p q a b. inl (a ∙ sym b) }
+plain_one : (view : Option (List ℕ)) (through : List ℕ → Ends) (plainly : Ends) → is_none view ≡ true → HasOne plainly → HasOne (by_view view through plainly)
+plain_one None through plainly fixed h = record { alike = h.alike }
+plain_one (Some map) through plainly fixed h = absurd cc
 
 command_one : (files : Given) (may : May) (c : Command) → ((name : List ℕ) → MayRead files.told c name → IsSome (files.told name)) → ((name : List ℕ) → files.failed name → ⊥) → is_fixed c ≡ true → HasOne (built files may c)
-command_one files may (commands.Rewrite o schema source) told calm fixed = record { alike = (rewrite_one files may o schema source (told schema (inl refl)) (told source (inr (inl refl))) (λ name is. told name (inr (inr is))) calm).alike }
+command_one files may (commands.Rewrite o schema source) told calm fixed =
+    record {
+      alike = (plain_one o.view (λ map. rewrite_by_view files may o map schema source) (rewrite files may o schema source) fixed
+          (rewrite_one files may o schema source (told schema (inr (inl refl))) (told source (inr (inr (inl refl)))) (λ name is. told name (inr (inr (inr is)))) calm)).alike;
+    }
 command_one files may (commands.Run o schema source folder method words) told calm fixed =
     record {
       alike = (run_one files o schema source folder (record { method = method; words = words }) (told schema (inl refl)) (told source (inr (inl refl))) (λ name file. told name (inr (inr file))) calm).alike;
     }
 command_one files may (commands.Sql schema folder query) told calm fixed = record { alike = (sql_one files schema folder query (told schema (inl refl)) (λ name file. told name (inr file)) calm).alike }
-command_one files may (commands.Prove o schema source) told calm fixed = record { alike = (prove_one files may o schema source (told schema (inl refl)) (told source (inr (inl refl))) (λ name is. told name (inr (inr is))) calm).alike }
+command_one files may (commands.Prove o schema source) told calm fixed =
+    record {
+      alike = (plain_one o.view (λ map. prove_by_view files may o map schema source) (prove files may o schema source) fixed
+          (prove_one files may o schema source (told schema (inr (inl refl))) (told source (inr (inr (inl refl)))) (λ name is. told name (inr (inr (inr is)))) calm)).alike;
+    }
 command_one files may (commands.Check o schema source bundle) told calm fixed =
-    record { alike = (check_one files schema source bundle (told schema (inl refl)) (told source (inr (inl refl))) (told bundle (inr (inr refl))) calm).alike }
+    record {
+      alike = (plain_one o.view (λ map. check_by_view files map schema source bundle) (check files schema source bundle) fixed
+          (check_one files schema source bundle (told schema (inr (inl refl))) (told source (inr (inr (inl refl)))) (told bundle (inr (inr (inr refl)))) calm)).alike;
+    }
 command_one files may (commands.Make n) told calm fixed = record { alike = (make_one n).alike }
 command_one files may (commands.Unnest o s t) told calm fixed = record { alike = (unnest_one files o s t (told s (inl refl)) (told t (inr refl)) calm).alike }
 command_one files may (commands.Narrow o s t) told calm fixed = record { alike = (narrow_one files s t (told s (inl refl)) (told t (inr refl)) calm).alike }
@@ -266,13 +281,14 @@ command_one files may (commands.Inline s t) told calm fixed = record { alike = (
 command_one files may (commands.Gather o s t) told calm fixed = record { alike = (gather_one files o s t (told s (inl refl)) (told t (inr refl)) calm).alike }
 command_one files may (commands.Schema o d) told calm fixed = record { alike = (draw_one files o d (told d refl) calm).alike }
 command_one files may (commands.View m s t) told calm fixed = absurd cc
-command_one files may (commands.Map es) told calm fixed = record { alike = unbuilt_one.alike }
-command_one files may (commands.CheckMap m s) told calm fixed = record { alike = unbuilt_one.alike }
+command_one files may (commands.Map es) told calm fixed = absurd cc
+command_one files may (commands.MapSchema es) told calm fixed = absurd cc
+command_one files may (commands.CheckMap m s t) told calm fixed = absurd cc
 
 command_same : (o : Option Command) (b c : Command) → o ≡ Some b → o ≡ Some c → b ≡ c
 command_same o b c x y = cc
 
-words_one : (words : List (List ℕ)) → IsOne {B = Command} (HasWords words) (AreRefused words)
+words_one : (words : List (List ℕ)) → IsOne {B = Command} (HasWords words) (EndsUnbuilt words)
 words_one words = record {
   same = λ b c x y. command_same (plain words) b c ((reads_plain_words words b).1 x) ((reads_plain_words words c).1 y);
   stops = λ p q x y. x.1 ∙ sym y.1;
@@ -281,5 +297,5 @@ words_one words = record {
 
 pub one_plan : (files : Given) (may : May) (words : List (List ℕ)) → HasOnePlan files may words
 one_plan files may words told fixed p q a b =
-    (step_one (HasWords words) (AreRefused words) (command files may) (words_one words)
+    (step_one (HasWords words) (EndsUnbuilt words) (command files may) (words_one words)
     (λ c has. record { alike = (built_one (is_built c) (built files may c) (command_one files may c (λ name reads. told.told c name has reads) told.calm (fixed c has))).alike })).alike p q a b

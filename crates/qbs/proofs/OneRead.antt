@@ -5,7 +5,8 @@ use Rattle.qbs_base.specs.declared.columns.Table.{Table}
 use Rattle.deliveries.specs.declared.plan.Plan.{Plan}
 use Rattle.deliveries.specs.Plan.{Given}
 use Rattle.deliveries.specs.Steps.{IsRead, IsNotRead}
-use Rattle.plans.specs.Tables.{table_file, AreRead, AreNotRead, IsFileOf}
+use Rattle.deliveries.specs.Named.{AreFilesRead, AreFilesUnread, IsNamed}
+use Rattle.plans.specs.Tables.{table_files, AreRead, AreNotRead, IsFileOf}
 use Rattle.qbs.proofs.OneStep.{IsOne}
 
 told_same : (told : Option (List ℕ)) (b c : List ℕ) → IsSome told → IfSome told (λ all. b ≡ all) → IfSome told (λ all. c ≡ all) → b ≡ c
@@ -32,49 +33,54 @@ read_one files name limit label told calm = record {
   apart = λ b p x y. read_apart files name limit label b p told calm x y;
 }
 
--- ---- the files of tables
+-- ---- files by their names
 
 same_front : {A : Type 0} (x y : A) (xs ys : List A) → x ≡ y → xs ≡ ys → x ∷ xs ≡ y ∷ ys
 same_front x y xs ys a b = ap (λ z. z ∷ xs) a ∙ ap (λ zs. y ∷ zs) b
 
-texts_same : (files : Given) (folder : List ℕ) (tables : List Table) (left : ℕ) (b c : List (List ℕ)) → ((name : List ℕ) → IsFileOf folder tables name → IsSome (files.told name)) →
-    AreRead files folder tables left b → AreRead files folder tables left c → b ≡ c
-texts_same files folder [] left [] [] told x y = refl
-texts_same files folder [] left (t ∷ ts) c told x y = absurd x
-texts_same files folder [] left [] (u ∷ us) told x y = absurd y
-texts_same files folder (table ∷ tables) left [] c told x y = absurd x
-texts_same files folder (table ∷ tables) left (t ∷ ts) [] told x y = absurd y
-texts_same files folder (table ∷ tables) left (t ∷ ts) (u ∷ us) told x y =
-    let here : t ≡ u = told_same (files.told (table_file folder table.name)) t u (told (table_file folder table.name) (inl refl)) x.0.1 y.0.1 in
+texts_same : (files : Given) (names : List (List ℕ)) (left : ℕ) (b c : List (List ℕ)) → ((name : List ℕ) → IsNamed names name → IsSome (files.told name)) →
+    AreFilesRead files names left b → AreFilesRead files names left c → b ≡ c
+texts_same files [] left [] [] told x y = refl
+texts_same files [] left (t ∷ ts) c told x y = absurd x
+texts_same files [] left [] (u ∷ us) told x y = absurd y
+texts_same files (name ∷ names) left [] c told x y = absurd x
+texts_same files (name ∷ names) left (t ∷ ts) [] told x y = absurd y
+texts_same files (name ∷ names) left (t ∷ ts) (u ∷ us) told x y =
+    let here : t ≡ u = told_same (files.told name) t u (told name (inl refl)) x.0.1 y.0.1 in
     same_front t u ts us here
-    (texts_same files folder tables (left - length u) ts us (λ name file. told name (inr file)) (subst (λ (text : List ℕ). AreRead files folder tables (left - length text) ts) here x.1) y.1)
+    (texts_same files names (left - length u) ts us (λ other is. told other (inr is)) (subst (λ (text : List ℕ). AreFilesRead files names (left - length text) ts) here x.1) y.1)
 
-texts_stop : (files : Given) (folder : List ℕ) (tables : List Table) (left : ℕ) (p q : Plan) → ((name : List ℕ) → IsFileOf folder tables name → IsSome (files.told name)) → ((name : List ℕ) → files.failed name → ⊥) →
-    AreNotRead files folder tables left p → AreNotRead files folder tables left q → p ≡ q
-texts_stop files folder [] left p q told calm x y = absurd x
-texts_stop files folder (table ∷ tables) left p q told calm (inl x) (inl y) = not_read_same files (table_file folder table.name) left (codes "tables") p q calm x y
-texts_stop files folder (table ∷ tables) left p q told calm (inl x) (inr y) =
-    absurd (read_apart files (table_file folder table.name) left (codes "tables") y.0 p (told (table_file folder table.name) (inl refl)) calm y.1 x)
-texts_stop files folder (table ∷ tables) left p q told calm (inr x) (inl y) =
-    absurd (read_apart files (table_file folder table.name) left (codes "tables") x.0 q (told (table_file folder table.name) (inl refl)) calm x.1 y)
-texts_stop files folder (table ∷ tables) left p q told calm (inr x) (inr y) =
-    let here : x.0 ≡ y.0 = told_same (files.told (table_file folder table.name)) x.0 y.0 (told (table_file folder table.name) (inl refl)) x.1.1 y.1.1 in
-    texts_stop files folder tables (left - length y.0) p q (λ name file. told name (inr file)) calm (subst (λ (text : List ℕ). AreNotRead files folder tables (left - length text) p) here x.2) y.2
+texts_stop : (files : Given) (names : List (List ℕ)) (left : ℕ) (label : List ℕ) (p q : Plan) → ((name : List ℕ) → IsNamed names name → IsSome (files.told name)) → ((name : List ℕ) → files.failed name → ⊥) →
+    AreFilesUnread files names left label p → AreFilesUnread files names left label q → p ≡ q
+texts_stop files [] left label p q told calm x y = absurd x
+texts_stop files (name ∷ names) left label p q told calm (inl x) (inl y) = not_read_same files name left label p q calm x y
+texts_stop files (name ∷ names) left label p q told calm (inl x) (inr y) = absurd (read_apart files name left label y.0 p (told name (inl refl)) calm y.1 x)
+texts_stop files (name ∷ names) left label p q told calm (inr x) (inl y) = absurd (read_apart files name left label x.0 q (told name (inl refl)) calm x.1 y)
+texts_stop files (name ∷ names) left label p q told calm (inr x) (inr y) =
+    let here : x.0 ≡ y.0 = told_same (files.told name) x.0 y.0 (told name (inl refl)) x.1.1 y.1.1 in
+    texts_stop files names (left - length y.0) label p q (λ other is. told other (inr is)) calm (subst (λ (text : List ℕ). AreFilesUnread files names (left - length text) label p) here x.2) y.2
 
-texts_apart : (files : Given) (folder : List ℕ) (tables : List Table) (left : ℕ) (b : List (List ℕ)) (p : Plan) → ((name : List ℕ) → IsFileOf folder tables name → IsSome (files.told name)) → ((name : List ℕ) → files.failed name → ⊥) →
-    AreRead files folder tables left b → AreNotRead files folder tables left p → ⊥
-texts_apart files folder [] left b p told calm x y = y
-texts_apart files folder (table ∷ tables) left [] p told calm x y = x
-texts_apart files folder (table ∷ tables) left (t ∷ ts) p told calm x (inl y) =
-    read_apart files (table_file folder table.name) left (codes "tables") t p (told (table_file folder table.name) (inl refl)) calm x.0 y
-texts_apart files folder (table ∷ tables) left (t ∷ ts) p told calm x (inr y) =
-    let here : t ≡ y.0 = told_same (files.told (table_file folder table.name)) t y.0 (told (table_file folder table.name) (inl refl)) x.0.1 y.1.1 in
-    texts_apart files folder tables (left - length y.0) ts p (λ name file. told name (inr file)) calm (subst (λ (text : List ℕ). AreRead files folder tables (left - length text) ts) here x.1) y.2
+texts_apart : (files : Given) (names : List (List ℕ)) (left : ℕ) (label : List ℕ) (b : List (List ℕ)) (p : Plan) → ((name : List ℕ) → IsNamed names name → IsSome (files.told name)) → ((name : List ℕ) → files.failed name → ⊥) →
+    AreFilesRead files names left b → AreFilesUnread files names left label p → ⊥
+texts_apart files [] left label b p told calm x y = y
+texts_apart files (name ∷ names) left label [] p told calm x y = x
+texts_apart files (name ∷ names) left label (t ∷ ts) p told calm x (inl y) = read_apart files name left label t p (told name (inl refl)) calm x.0 y
+texts_apart files (name ∷ names) left label (t ∷ ts) p told calm x (inr y) =
+    let here : t ≡ y.0 = told_same (files.told name) t y.0 (told name (inl refl)) x.0.1 y.1.1 in
+    texts_apart files names (left - length y.0) label ts p (λ other is. told other (inr is)) calm (subst (λ (text : List ℕ). AreFilesRead files names (left - length text) ts) here x.1) y.2
+
+pub files_one : (files : Given) (names : List (List ℕ)) (left : ℕ) (label : List ℕ) → ((name : List ℕ) → IsNamed names name → IsSome (files.told name)) → ((name : List ℕ) → files.failed name → ⊥) →
+    IsOne {B = List (List ℕ)} (AreFilesRead files names left) (AreFilesUnread files names left label)
+files_one files names left label told calm = record {
+  same = λ b c x y. texts_same files names left b c told x y;
+  stops = λ p q x y. texts_stop files names left label p q told calm x y;
+  apart = λ b p x y. texts_apart files names left label b p told calm x y;
+}
 
 pub tables_one : (files : Given) (folder : List ℕ) (tables : List Table) (left : ℕ) → ((name : List ℕ) → IsFileOf folder tables name → IsSome (files.told name)) → ((name : List ℕ) → files.failed name → ⊥) →
     IsOne {B = List (List ℕ)} (AreRead files folder tables left) (AreNotRead files folder tables left)
 tables_one files folder tables left told calm = record {
-  same = λ b c x y. texts_same files folder tables left b c told x y;
-  stops = λ p q x y. texts_stop files folder tables left p q told calm x y;
-  apart = λ b p x y. texts_apart files folder tables left b p told calm x y;
+  same = λ b c x y. texts_same files (table_files folder tables) left b c told x y;
+  stops = λ p q x y. texts_stop files (table_files folder tables) left (codes "tables") p q told calm x y;
+  apart = λ b p x y. texts_apart files (table_files folder tables) left (codes "tables") b p told calm x y;
 }

@@ -1,7 +1,6 @@
 -- What the top call promises follows from a plan that is due and was delivered.
 use Rattle.std.proofs.Common.{◌≡◌, ◌≢◌, ℕ, ◌⊎◌, inl, inr, Bool, true, false, List, [], ◌∷◌, ◌++◌, subst, sym, refl, ap, ◌∙◌, codes, Option, Some, None}
 use Rattle.std.specs.Io.KnownBytes.{Appends}
-use Rattle.std.specs.List.{flat_map}
 use Rattle.qbs_base.specs.declared.status.Status.{Status}
 use Rattle.qbs_base.specs.declared.status.Status.TheVariants as statuses
 use Rattle.qbs_base.specs.Status.{KeepsOutput}
@@ -12,7 +11,6 @@ use Rattle.small_dbs.specs.declared.small.SmallDb.{SmallDb}
 use Rattle.query_search.specs.Counted.{OneIs}
 use Rattle.rewrite_core.proofs.PrunedTries.{are_pruned, none_pruned}
 use Rattle.rewrite_core.specs.Pruned.{ArePruned}
-use Rattle.rewrite_core.specs.Rewriting.{verdicts_of}
 use Rattle.rewrite_core.specs.Trying.{Tried, all_tried, rewritten}
 use Rattle.words.specs.declared.command.Command.{Command}
 use Rattle.words.specs.declared.command.Command.TheVariants as commands
@@ -27,16 +25,17 @@ use Rattle.plans.specs.Opening.{HasNoProgram}
 use Rattle.deliveries.specs.Plan.{Given}
 use Rattle.deliveries.specs.Steps.{Ends, IsRead, IsNotRead}
 use Rattle.plans.specs.Tables.{AreNotRead}
-use Rattle.qbs.specs.Commands.{is_built, where_built, command, HasNoWords, IsDue}
-use Rattle.qbs.specs.Headline.{IsRewritten, IsHeadline, HasHeadline}
-use Rattle.verdicts.specs.Reports.{verdict_line, pruned_line}
-use Rattle.qbs.specs.Reports.{report_text}
+use Rattle.qbs.specs.Commands.{is_built, where_built, by_view, command, HasNoWords, IsDue}
+use Rattle.qbs.specs.Headline.{IsRewritten, HasHeadline}
+use Rattle.verdicts.specs.Reports.{pruned_line}
 use Rattle.qbs.specs.Pruners.{May, with_bank}
 use Rattle.qbs.specs.Rewrite.{size_of, budget_of, rewrite_of, rewrite}
+use Rattle.qbs.specs.RewriteByView.{rewrite_by_view}
 use Rattle.qbs.specs.Store.{IsStoreRead, IsStoreUnread, IsBankOf, HasNoBank}
 use Rattle.qbs.specs.Top.{IsDone, CutShort, MayRead, ReadFailed, HasReadFault}
 use Rattle.java_mean.proofs.Kept.{keeps_through}
 use Rattle.java_unplaced.proofs.Kept.{keep_alike}
+use Rattle.qbs.proofs.ByView.{as_plain}
 use Rattle.qbs.proofs.Fair.{IsFair, command_fair}
 
 -- ---- all plans that are due
@@ -163,20 +162,22 @@ where_ends false next plan h other = absurd (other (ap (λ (p : Plan). p.status)
 pub command_is : (o : Option Command) (b c : Command) → o ≡ Some b → o ≡ Some c → b ≡ c
 command_is o b c x y = cc
 
-due_rewrote : (files : Given) (may : May) (words : List (List ℕ)) (o : Options) (schema source : List ℕ) (plan : Plan) → HasWords words (commands.Rewrite o schema source) → IsDue files may words plan → plan.status ≡ statuses.Ok →
+due_rewrote : (files : Given) (may : May) (words : List (List ℕ)) (o : Options) (schema source : List ℕ) (plan : Plan) → HasWords words (commands.Rewrite o schema source) → o.view ≡ None → IsDue files may words plan → plan.status ≡ statuses.Ok →
     Rewrote files may o schema source plan
-due_rewrote files may words o schema source plan has (inl memory) ok = let e : statuses.NoMemory ≡ statuses.Ok = subst (λ (p : Plan). p.status ≡ statuses.Ok) memory ok in absurd cc
-due_rewrote files may words o schema source plan has (inr (inl bad)) ok = absurd (bad.0 (commands.Rewrite o schema source) has)
-due_rewrote files may words o schema source plan has (inr (inr (c, is, h))) ok =
+due_rewrote files may words o schema source plan has without (inl memory) ok = let e : statuses.NoMemory ≡ statuses.Ok = subst (λ (p : Plan). p.status ≡ statuses.Ok) memory ok in absurd cc
+due_rewrote files may words o schema source plan has without (inr (inl bad)) ok = absurd (bad.0 (commands.Rewrite o schema source) has)
+due_rewrote files may words o schema source plan has without (inr (inr (c, is, h))) ok =
     let same : c ≡ commands.Rewrite o schema source = command_is (plain words) c (commands.Rewrite o schema source) ((reads_plain_words words c).1 is) ((reads_plain_words words (commands.Rewrite o schema source)).1 has) in
+    let through : List ℕ → Ends = λ map. rewrite_by_view files may o map schema source in
     rewrote files may o schema source plan
-    (where_ends (is_built (commands.Rewrite o schema source)) (rewrite files may o schema source) plan (subst (λ (d : Command). command files may d plan) same h) (λ e. let no : statuses.NotYet ≡ statuses.Ok = sym e ∙ ok in cc)) ok
+    (as_plain o.view through (rewrite files may o schema source) plan without
+    (where_ends (is_built (commands.Rewrite o schema source)) (by_view o.view through (rewrite files may o schema source)) plan (subst (λ (d : Command). command files may d plan) same h) (λ e. let no : statuses.NotYet ≡ statuses.Ok = sym e ∙ ok in cc))) ok
 
 pub headline : (files : Given) (may : May) (words : List (List ℕ)) (out rep : Change) (result : Status) → IsDone files may words out rep result → HasHeadline files may words out rep result
-headline files may words out rep result done o schema source has ok =
+headline files may words out rep result done o schema source has without ok =
     elim done.delivered [
       | inl all ↦ (
-          let h : Rewrote files may o schema source done.plan = due_rewrote files may words o schema source done.plan has done.due (sym all.0 ∙ ok) in
+          let h : Rewrote files may o schema source done.plan = due_rewrote files may words o schema source done.plan has without done.due (sym all.0 ∙ ok) in
           record {
             schema_read = h.schema_read;
             source_read = h.source_read;
@@ -195,16 +196,11 @@ headline files may words out rep result done o schema source has ok =
 
 -- ---- without pruners
 
--- where nothing may be dropped, a report says last that nothing was
-pub none_dropped : (may : May) (size : ℕ) (ts : List Tried) (n : ℕ) (lines : List ℕ) (rep : Change) → ((f : Fragment) (c : List ℕ) → may.drops f c → ⊥) → ArePruned may.drops may.keeps size ts n →
-    lines ≡ report_text ts n → Appends rep.old rep.new lines → (front : List ℕ) × Appends rep.old rep.new (front ++ pruned_line 0)
-none_dropped may size ts n lines rep never counted report wrote =
-    let none : n ≡ 0 =
+-- where nothing may be dropped, nothing was
+none_dropped : (may : May) (size : ℕ) (ts : List Tried) (n : ℕ) → ((f : Fragment) (c : List ℕ) → may.drops f c → ⊥) → ArePruned may.drops may.keeps size ts n → n ≡ 0
+none_dropped may size ts n never counted =
     none_pruned {P = Unit {0}} (λ p f c. ⊥) may.keeps [] refl size ts n
-    (are_pruned may.drops may.keeps (λ f c. OneIs {P = Unit {0}} (λ p. ⊥) []) may.keeps never (λ f c k. k) size ts n counted) in (
-      flat_map verdict_line (verdicts_of ts),
-      subst (λ (m : ℕ). Appends rep.old rep.new (report_text ts m)) none (subst (λ (text : List ℕ). Appends rep.old rep.new text) report wrote),
-    )
+    (are_pruned may.drops may.keeps (λ f c. OneIs {P = Unit {0}} (λ p. ⊥) []) may.keeps never (λ f c k. k) size ts n counted)
 
 none_read : (files : Given) (name read : Option (List ℕ)) → name ≡ None → IsStoreRead files name read → read ≡ None
 none_read files None read e h = h
@@ -215,18 +211,16 @@ none_held tables None bank e h = h
 none_held tables (Some bytes) bank e h = absurd cc
 
 -- where words name no store, there is no bank
-pub none_dropped_without : (files : Given) (may : May) (name read : Option (List ℕ)) (tables : Schema) (bank : Option (List SmallDb)) (size : ℕ) (ts : List Tried) (n : ℕ) (lines : List ℕ) (rep : Change) →
-    name ≡ None → IsStoreRead files name read → IsBankOf tables read bank → ((f : Fragment) (c : List ℕ) → may.drops f c → ⊥) → ArePruned (with_bank may bank).drops (with_bank may bank).keeps size ts n →
-    lines ≡ report_text ts n → Appends rep.old rep.new lines → (front : List ℕ) × Appends rep.old rep.new (front ++ pruned_line 0)
-none_dropped_without files may name read tables bank size ts n lines rep e is held never counted report wrote =
+pub none_dropped_without : (files : Given) (may : May) (name read : Option (List ℕ)) (tables : Schema) (bank : Option (List SmallDb)) (size : ℕ) (ts : List Tried) (n : ℕ) →
+    name ≡ None → IsStoreRead files name read → IsBankOf tables read bank → ((f : Fragment) (c : List ℕ) → may.drops f c → ⊥) → ArePruned (with_bank may bank).drops (with_bank may bank).keeps size ts n → n ≡ 0
+none_dropped_without files may name read tables bank size ts n e is held never counted =
     let none : bank ≡ None = none_held tables read bank (none_read files name read e is) held in
-    none_dropped may size ts n lines rep never (subst (λ (k : Option (List SmallDb)). ArePruned (with_bank may k).drops (with_bank may k).keeps size ts n) none counted) report wrote
+    none_dropped may size ts n never (subst (λ (k : Option (List SmallDb)). ArePruned (with_bank may k).drops (with_bank may k).keeps size ts n) none counted)
 
-pub rewrite_drops_none : (files : Given) (may : May) (words : List (List ℕ)) (out rep : Change) (result : Status) → IsDone files may words out rep result → ((f : Fragment) (c : List ℕ) → may.drops f c → ⊥) →
-    (o : Options) (schema source : List ℕ) → HasWords words (commands.Rewrite o schema source) → o.store ≡ None → result ≡ statuses.Ok → (front : List ℕ) × Appends rep.old rep.new (front ++ pruned_line 0)
-rewrite_drops_none files may words out rep result done never o schema source has e ok =
-    let h : IsHeadline files may o schema source out rep = headline files may words out rep result done o schema source has ok in
-    none_dropped_without files may o.store h.store_read h.is.tables h.is.bank (size_of o) h.is.tries h.is.pruned h.lines rep e h.read_store h.is.is_bank never h.is.counted h.is.report h.wrote_lines
+-- a report that says last how many were dropped says that none was
+pub says_none : (front lines : List ℕ) (n : ℕ) (rep : Change) → n ≡ 0 → lines ≡ front ++ pruned_line n → Appends rep.old rep.new lines → (text : List ℕ) × Appends rep.old rep.new (text ++ pruned_line 0)
+says_none front lines n rep none report wrote =
+    (front, subst (λ (m : ℕ). Appends rep.old rep.new (front ++ pruned_line m)) none (subst (λ (text : List ℕ). Appends rep.old rep.new text) report wrote))
 
 pub no_one : {P : Type 0} (S : P → Type 0) (ps : List P) → ps ≡ [] → OneIs S ps → ⊥
 no_one S [] e h = h

@@ -26,6 +26,8 @@ use Rattle.plans.specs.Opening.{IsProgramOf}
 use Rattle.verdicts.specs.Reports.{verdict_line, pruned_line}
 use Rattle.qbs.specs.Pruners.{May}
 use Rattle.qbs.specs.Prove.{entries_for, Proves}
+use Rattle.qbs.specs.Proven.{IsProven}
+use Rattle.qbs.specs.declared.prove.Proven.{Proven}
 use Rattle.qbs.proofs.Rewrote.{is_rewriting}
 
 short_source : (n : ℕ) → n ≤ most_source → n < 2 ^ 32
@@ -38,38 +40,46 @@ module _ (tables : Schema) (source : List ℕ) (p : PlainProgram) (read : IsProg
   entries_written : (size budget : ℕ) → budget ≤ 1000000 → length source ≤ most_source → Each IsWritableEntry (entries_for tables size budget p)
   entries_written size budget few short = bundle_writable tables size budget source read.tokens p few (short_source (length source) short) read.has_tokens read.has_program
 
+module _ (may : May) (tables : Schema) (size budget : ℕ) (source : List ℕ) (p r : PlainProgram) (entries : List Entry) (verdicts : List LoopVerdict) (dropped : ℕ) (text : List ℕ) where
+  proven : size ≤ 8 → budget ≤ 1000000 → length source ≤ most_source → IsProgramOf tables source p →
+      r ≡ rewritten tables size budget p → verdicts ≡ verdicts_of (all_tried tables size budget p) → entries ≡ entries_for tables size budget p →
+      ArePruned may.drops may.keeps size (all_tried tables size budget p) dropped →
+      IsWellTyped tables (read_by tables) r → Keeps p r tables → StandAsTried (all_tried tables size budget p) r →
+      text ≡ bundle_text entries → IsProven may tables size budget p (record { bundle = text; verdicts = verdicts; dropped = dropped })
+  proven few_formulas few short read is said bundled counted well keeps standing printed =
+      record {
+        evidence = record {
+          rewriting = is_rewriting tables size budget p r is well keeps standing;
+          member = (refl, entries_written tables source p read size budget few short);
+          accepted = bundle_accepted tables size budget p few_formulas (loops_apart tables source p read);
+          counted = counted;
+        };
+        bundle = printed ∙ ap bundle_text bundled;
+        verdicts = said;
+      }
+
+  -- the same for the numbers that options stand for
+  pub proven_as : (size_in budget_in : ℕ) → size ≡ size_in → budget ≡ budget_in →
+      size ≤ 8 → budget ≤ 1000000 → length source ≤ most_source → IsProgramOf tables source p →
+      r ≡ rewritten tables size budget p → verdicts ≡ verdicts_of (all_tried tables size budget p) → entries ≡ bundle_of (all_tried tables size budget p) →
+      ArePruned may.drops may.keeps size (all_tried tables size budget p) dropped →
+      IsWellTyped tables (read_by tables) r → Keeps p r tables → StandAsTried (all_tried tables size budget p) r →
+      text ≡ bundle_text entries → IsProven may tables size_in budget_in p (record { bundle = text; verdicts = verdicts; dropped = dropped })
+  proven_as size_in budget_in same_size same_budget few_formulas few short read is said bundled counted well keeps standing printed =
+      subst (λ (s : ℕ). IsProven may tables s budget_in p (record { bundle = text; verdicts = verdicts; dropped = dropped })) same_size
+      (subst (λ (b : ℕ). IsProven may tables size b p (record { bundle = text; verdicts = verdicts; dropped = dropped })) same_budget
+      (proven few_formulas few short read is said bundled counted well keeps standing printed))
+
 abbrev plan_with : List ℕ → List ℕ → Plan
 plan_with a b = record { status = Status.Ok; out = a; rep = b }
 
-proved : (may : May) (tables : Schema) (size budget : ℕ) (source : List ℕ) (p r : PlainProgram) (entries : List Entry) (verdicts : List LoopVerdict) (dropped : ℕ) (plan : Plan) →
-    size ≤ 8 → budget ≤ 1000000 → length source ≤ most_source → IsProgramOf tables source p →
-    r ≡ rewritten tables size budget p → verdicts ≡ verdicts_of (all_tried tables size budget p) → entries ≡ entries_for tables size budget p →
-    ArePruned may.drops may.keeps size (all_tried tables size budget p) dropped →
-    IsWellTyped tables (read_by tables) r → Keeps p r tables → StandAsTried (all_tried tables size budget p) r →
-    plan ≡ plan_with (bundle_text entries) (flat_map verdict_line verdicts ++ pruned_line dropped) →
-    Proves may tables size budget p plan
-proved may tables size budget source p r entries verdicts dropped plan few_formulas few short read is said bundled counted well keeps standing due =
+pub proves_by : (may : May) (tables : Schema) (size budget : ℕ) (p : PlainProgram) (r : Proven) (plan : Plan) → IsProven may tables size budget p r →
+    plan ≡ plan_with r.bundle (flat_map verdict_line r.verdicts ++ pruned_line r.dropped) → Proves may tables size budget p plan
+proves_by may tables size budget p r plan is due =
     record {
-      rewriting = is_rewriting tables size budget p r is well keeps standing;
-      member = (refl, entries_written tables source p read size budget few short);
-      accepted = bundle_accepted tables size budget p few_formulas (loops_apart tables source p read);
-      pruned = dropped;
-      counted = counted;
+      pruned = r.dropped;
+      evidence = is.evidence;
       written = due
-          ∙ ap (λ (es : List Entry). plan_with (bundle_text es) (flat_map verdict_line verdicts ++ pruned_line dropped)) bundled
-          ∙ ap (λ (vs : List LoopVerdict). plan_with (bundle_text (entries_for tables size budget p)) (flat_map verdict_line vs ++ pruned_line dropped)) said;
+          ∙ ap (λ (text : List ℕ). plan_with text (flat_map verdict_line r.verdicts ++ pruned_line r.dropped)) is.bundle
+          ∙ ap (λ (vs : List LoopVerdict). plan_with (bundle_text (entries_for tables size budget p)) (flat_map verdict_line vs ++ pruned_line r.dropped)) is.verdicts;
     }
-
--- the same for the numbers that options stand for
-pub proved_as : (may : May) (tables : Schema) (size size_in budget budget_in : ℕ) (source : List ℕ) (p r : PlainProgram) (entries : List Entry) (verdicts : List LoopVerdict) (dropped : ℕ) (plan : Plan) →
-    size ≡ size_in → budget ≡ budget_in →
-    size ≤ 8 → budget ≤ 1000000 → length source ≤ most_source → IsProgramOf tables source p →
-    r ≡ rewritten tables size budget p → verdicts ≡ verdicts_of (all_tried tables size budget p) → entries ≡ bundle_of (all_tried tables size budget p) →
-    ArePruned may.drops may.keeps size (all_tried tables size budget p) dropped →
-    IsWellTyped tables (read_by tables) r → Keeps p r tables → StandAsTried (all_tried tables size budget p) r →
-    plan ≡ plan_with (bundle_text entries) (flat_map verdict_line verdicts ++ pruned_line dropped) →
-    Proves may tables size_in budget_in p plan
-proved_as may tables size size_in budget budget_in source p r entries verdicts dropped plan same_size same_budget few_formulas few short read is said bundled counted well keeps standing due =
-    subst (λ (s : ℕ). Proves may tables s budget_in p plan) same_size
-    (subst (λ (b : ℕ). Proves may tables size b p plan) same_budget
-    (proved may tables size budget source p r entries verdicts dropped plan few_formulas few short read is said bundled counted well keeps standing due))

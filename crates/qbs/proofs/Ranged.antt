@@ -20,6 +20,7 @@ set_within (Sets.view e) h = record { size = h.size; candidates = h.candidates }
 set_within (has.tables e) h = record { size = h.size; candidates = h.candidates }
 set_within (has.columns e) h = record { size = h.size; candidates = h.candidates }
 set_within (Sets.check e) h = record { size = h.size; candidates = h.candidates }
+set_within (Sets.schema e) h = record { size = h.size; candidates = h.candidates }
 
 all_within : {verb : Verb} {os : List (List ℕ)} {o p : Options} → HasOptions verb os o p → AreWithin o → AreWithin p
 all_within none h = h
@@ -36,10 +37,12 @@ named_within has.unnest h = h
 named_within has.inline h = tt
 named_within has.gather h = h
 named_within has.narrow h = tt
-named_within has.schema h = tt
+named_within Names.schema h = tt
 named_within Names.view h = tt
-named_within (has.map other) h = tt
-named_within (has.check_map asked) h = tt
+named_within (has.map unchecked unflagged) h = tt
+named_within (has.map_schema unchecked flagged) h = tt
+named_within (has.check_map checked unflagged) h = tt
+named_within (has.check_map_in checked unflagged) h = tt
 
 words_within : {words : List (List ℕ)} {c : Command} → HasWords words c → IsWithin c
 words_within (plainly options others names) = named_within names (all_within options (record { size = tt; candidates = tt }))

@@ -3,7 +3,6 @@ use Rattle.std.proofs.Common.{◌≡◌, ℕ, ◌<◌, ◌≤◌, ◌^◌, Bool,
 use Rattle.qbs_base.specs.declared.status.Status.{Status}
 use Rattle.words.specs.declared.command.Command.{Command}
 use Rattle.words.specs.declared.command.Command.TheVariants as commands
-use Rattle.words.specs.declared.command.Options.{Options}
 use Rattle.words.specs.Plain.{HasWords}
 use Rattle.words.specs.Reading.{plain}
 use Rattle.words.proofs.Exact.{reads_plain_words}
@@ -11,14 +10,14 @@ use Rattle.deliveries.specs.declared.plan.Plan.{Plan}
 use Rattle.deliveries.specs.declared.fetch.Stop.{Stop}
 use Rattle.deliveries.specs.Code.{OrMemory, StopsFor}
 use Rattle.deliveries.specs.Deliver.{Change, Delivers}
-use Rattle.deliveries.specs.Plan.{Given, not_yet}
-use Rattle.deliveries.specs.Steps.{ends}
+use Rattle.deliveries.specs.Plan.{Given}
 use Rattle.deliveries.specs.Reads.{Looks}
 use Rattle.deliveries.proofs.Reading.{reads_none}
-use Rattle.qbs.specs.Commands.{is_built, built, where_built, command, HasNoWords, AreRefused, program}
+use Rattle.qbs.specs.Commands.{is_built, built, where_built, command, HasNoWords, EndsUnbuilt, program}
+use Rattle.qbs.specs.Maps.{source_names}
 use Rattle.qbs.specs.Pruners.{May}
 use Rattle.qbs.specs.Store.{store_names}
-use Rattle.qbs.specs.Top.{IsDone, ReadsBuilt, ReadsWhere, ReadsInOrder, ReadsAsNamed}
+use Rattle.qbs.specs.Top.{IsDone, with_map, ReadsBuilt, ReadsWhere, ReadsInOrder, ReadsAsNamed}
 use Rattle.qbs.specs.Within.{IsWithin}
 use Rattle.qbs.proofs.Going.{goes_on}
 use Rattle.qbs.proofs.Ranged.{within}
@@ -36,7 +35,7 @@ has_no_words : (words : List (List ℕ)) → None ≡ plain words → HasNoWords
 has_no_words words e c has = none_plain (plain words) c e ((reads_plain_words words c).1 has)
 
 pub command_due : (files : Given) (may : May) (words : List (List ℕ)) (c : Command) (result : Result Plan Stop) → Some c ≡ plain words → OrMemory result (command files may c) → OrMemory result (program files may words)
-command_due files may words c result e h = goes_on (HasWords words) (AreRefused words) (command files may) c result (has_words words c e) h
+command_due files may words c result e h = goes_on (HasWords words) (EndsUnbuilt words) (command files may) c result (has_words words c e) h
 
 pub words_due : (files : Given) (may : May) (words : List (List ℕ)) (stop : Stop) → None ≡ plain words → StopsFor Status.Words (codes "qbs: words") [] stop → OrMemory (Err stop) (program files may words)
 words_due files may words (Stop.Due plan) e due = inl (has_no_words words e, due)
@@ -83,7 +82,8 @@ only_stays l (commands.Gather o s t) old new h = (h.held, h.later)
 only_stays l (commands.Schema o d) old new h = (h.held, h.later)
 only_stays l (commands.View m s t) old new h = (h.held, h.later)
 only_stays l (commands.Map es) old new h = (h.held, h.later)
-only_stays l (commands.CheckMap m s) old new h = (h.held, h.later)
+only_stays l (commands.MapSchema es) old new h = (h.held, h.later)
+only_stays l (commands.CheckMap m s t) old new h = (h.held, h.later)
 
 where_stays : {D : Type 0} (l : Looks D) (is : Bool) (c : Command) (old new : D) → ReadsWhere is l c old new → (l.told new ≡ l.told old) × (l.faults old ≤ l.faults new)
 where_stays l true c old new h = only_stays l c old new h
@@ -108,9 +108,9 @@ make_within c n is h = let few : n ≤ 100000 = subst IsWithin is h in omega ari
 
 -- nothing is read where a command stops before its first file
 pub none_read : {D : Type 0} (l : Looks D) (c : Command) (files : D) → ReadsBuilt l c files files
-none_read l (commands.Rewrite o s t) files = reads_none l (s ∷ t ∷ store_names o.store) files
-none_read l (commands.Prove o s t) files = reads_none l (s ∷ t ∷ store_names o.store) files
-none_read l (commands.Check o s t b) files = reads_none l (s ∷ t ∷ b ∷ []) files
+none_read l (commands.Rewrite o s t) files = reads_none l (with_map o.view (s ∷ t ∷ store_names o.store)) files
+none_read l (commands.Prove o s t) files = reads_none l (with_map o.view (s ∷ t ∷ store_names o.store)) files
+none_read l (commands.Check o s t b) files = reads_none l (with_map o.view (s ∷ t ∷ b ∷ [])) files
 none_read l (commands.Run o s t d method words) files = record { tables = []; of_schema = inl refl; reads = reads_none l (s ∷ t ∷ []) files }
 none_read l (commands.Sql s d q) files = record { tables = []; of_schema = inl refl; reads = reads_none l (s ∷ []) files }
 none_read l (commands.Make n) files = reads_none l [] files
@@ -120,8 +120,9 @@ none_read l (commands.Inline s t) files = reads_none l (s ∷ t ∷ []) files
 none_read l (commands.Gather o s t) files = reads_none l (s ∷ t ∷ []) files
 none_read l (commands.Schema o d) files = reads_none l (d ∷ []) files
 none_read l (commands.View m s t) files = reads_none l (m ∷ s ∷ t ∷ []) files
-none_read l (commands.Map es) files = reads_none l [] files
-none_read l (commands.CheckMap m s) files = reads_none l [] files
+none_read l (commands.Map es) files = reads_none l es files
+none_read l (commands.MapSchema es) files = reads_none l es files
+none_read l (commands.CheckMap m s t) files = reads_none l (m ∷ s ∷ source_names t) files
 
 where_none : {D : Type 0} (l : Looks D) (is : Bool) (c : Command) (files : D) → ReadsWhere is l c files files
 where_none l true c files = none_read l c files
@@ -129,40 +130,6 @@ where_none l false c files = reads_none l [] files
 
 pub none_in_order : {D : Type 0} (l : Looks D) (c : Command) (files : D) → ReadsInOrder l c files files
 none_in_order l c files = where_none l (is_built c) c files
-
--- of a command that none of the built ones is
-refused_due : (stop : Stop) → StopsFor Status.NotYet (codes "qbs: not yet") [] stop → OrMemory (Err stop) (ends not_yet)
-refused_due (Stop.Due plan) due = due
-refused_due Stop.Memory due = tt
-
-pub other_due : (files : Given) (may : May) (c : Command) (stop : Stop) →
-    ((o : Options) (s t : List ℕ) → c ≡ commands.Rewrite o s t → ⊥) →
-    ((o : Options) (s t : List ℕ) → c ≡ commands.Prove o s t → ⊥) →
-    ((o : Options) (s t b : List ℕ) → c ≡ commands.Check o s t b → ⊥) →
-    ((o : Options) (s t d m : List ℕ) (ws : List (List ℕ)) → c ≡ commands.Run o s t d m ws → ⊥) →
-    ((s d q : List ℕ) → c ≡ commands.Sql s d q → ⊥) →
-    ((n : ℕ) → c ≡ commands.Make n → ⊥) →
-    ((o : Options) (d : List ℕ) → c ≡ commands.Schema o d → ⊥) →
-    ((s t : List ℕ) → c ≡ commands.Inline s t → ⊥) →
-    ((o : Options) (s t : List ℕ) → c ≡ commands.Narrow o s t → ⊥) →
-    ((o : Options) (s t : List ℕ) → c ≡ commands.Unnest o s t → ⊥) →
-    ((o : Options) (s t : List ℕ) → c ≡ commands.Gather o s t → ⊥) →
-    ((m s t : List ℕ) → c ≡ commands.View m s t → ⊥) →
-    StopsFor Status.NotYet (codes "qbs: not yet") [] stop → OrMemory (Err stop) (built files may c)
-other_due files may (commands.Rewrite o s t) stop rewrite prove check run sql make schema inline narrow unnest gather view due = absurd (rewrite o s t refl)
-other_due files may (commands.Prove o s t) stop rewrite prove check run sql make schema inline narrow unnest gather view due = absurd (prove o s t refl)
-other_due files may (commands.Check o s t b) stop rewrite prove check run sql make schema inline narrow unnest gather view due = absurd (check o s t b refl)
-other_due files may (commands.Run o s t d method words) stop rewrite prove check run sql make schema inline narrow unnest gather view due = absurd (run o s t d method words refl)
-other_due files may (commands.Sql s d q) stop rewrite prove check run sql make schema inline narrow unnest gather view due = absurd (sql s d q refl)
-other_due files may (commands.Make n) stop rewrite prove check run sql make schema inline narrow unnest gather view due = absurd (make n refl)
-other_due files may (commands.Unnest o s t) stop rewrite prove check run sql make schema inline narrow unnest gather view due = absurd (unnest o s t refl)
-other_due files may (commands.Narrow o s t) stop rewrite prove check run sql make schema inline narrow unnest gather view due = absurd (narrow o s t refl)
-other_due files may (commands.Inline s t) stop rewrite prove check run sql make schema inline narrow unnest gather view due = absurd (inline s t refl)
-other_due files may (commands.Gather o s t) stop rewrite prove check run sql make schema inline narrow unnest gather view due = absurd (gather o s t refl)
-other_due files may (commands.Schema o d) stop rewrite prove check run sql make schema inline narrow unnest gather view due = absurd (schema o d refl)
-other_due files may (commands.View m s t) stop rewrite prove check run sql make schema inline narrow unnest gather view due = absurd (view m s t refl)
-other_due files may (commands.Map es) stop rewrite prove check run sql make schema inline narrow unnest gather view due = refused_due stop due
-other_due files may (commands.CheckMap m s) stop rewrite prove check run sql make schema inline narrow unnest gather view due = refused_due stop due
 
 -- a plan that is due and delivered
 pub done_by : (files : Given) (may : May) (words : List (List ℕ)) (out rep : Change) (status : Status) (result : Result Plan Stop) (plan : Plan) →

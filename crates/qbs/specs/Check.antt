@@ -44,7 +44,11 @@ abbrev pub check_of : List ℕ → List ℕ → List ℕ → Ends
 check_of schema source bundle =
     has_schema schema (λ tables. has_program tables source (λ p. has_bundle bundle (λ entries. checks tables p entries)))
 
-abbrev pub check : Given → List ℕ → List ℕ → List ℕ → Ends
-check files schema source bundle =
+-- the files of a schema, a source and a bundle are read in this order
+abbrev pub reads_evidence : Given → List ℕ → List ℕ → List ℕ → (List ℕ → List ℕ → List ℕ → Ends) → Ends
+reads_evidence files schema source bundle next =
     reads files schema most_schema (codes "schema") (λ s. reads files source most_source (codes "source") (λ t.
-    reads files bundle most_bundle (codes "bundle") (λ b. check_of s t b)))
+    reads files bundle most_bundle (codes "bundle") (λ b. next s t b)))
+
+abbrev pub check : Given → List ℕ → List ℕ → List ℕ → Ends
+check files schema source bundle = reads_evidence files schema source bundle (λ s t b. check_of s t b)

@@ -2,6 +2,7 @@
 use Rattle.std.specs.Prelude.{◌≡◌, ℕ, List, [], length}
 use Rattle.std.specs.Io.KnownBytes.{Appends}
 use Rattle.std.specs.declared.option.Option.{Option}
+use Rattle.std.specs.declared.option.Option.TheVariants.{None}
 use Rattle.qbs_base.specs.declared.status.Status.{Status}
 use Rattle.qbs_base.specs.Values.{Schema}
 use Rattle.java_ast.specs.Tree.{PlainProgram}
@@ -25,7 +26,8 @@ use Rattle.qbs.specs.Reports.{report_text}
 use Rattle.qbs.specs.Pruners.{May, with_bank}
 use Rattle.qbs.specs.Prove.{entries_for}
 use Rattle.qbs.specs.Rewrite.{size_of, budget_of}
-use Rattle.qbs.specs.Store.{IsStoreRead, IsBankOf}
+use Rattle.qbs.specs.Store.{IsBankOf}
+use Rattle.qbs.specs.Written.{HasWrittenBeside}
 
 -- ---- `prove`
 
@@ -50,22 +52,13 @@ pub record IsProved (may : May) (size budget : ℕ) (schema source : List ℕ) (
   pub standing : StandAsTried (all_tried tables size budget program) (rewritten tables size budget program)
 
 -- the files were read, and both sinks have grown by what is written
-pub record IsProof (files : Given) (may : May) (o : Options) (schema source : List ℕ) (out rep : Change) : Type 0 where
-  pub schema_read : List ℕ
-  pub source_read : List ℕ
-  pub store_read : Option (List ℕ)
-  pub text : List ℕ
-  pub lines : List ℕ
-  pub read_schema : IsRead files schema most_schema schema_read
-  pub read_source : IsRead files source most_source source_read
-  pub read_store : IsStoreRead files o.store store_read
-  pub is : IsProved may (size_of o) (budget_of o) schema_read source_read store_read text lines
-  pub wrote_text : Appends out.old out.new text
-  pub wrote_lines : Appends rep.old rep.new lines
+abbrev pub IsProof : Given → May → Options → List ℕ → List ℕ → Change → Change → Type 0
+IsProof files may o schema source out rep = HasWrittenBeside files schema source o.store (IsProved may (size_of o) (budget_of o)) out rep
 
+-- without a view
 abbrev pub HasProof : Given → May → List (List ℕ) → Change → Change → Status → Type 0
 HasProof files may words out rep result =
-    (o : Options) (schema source : List ℕ) → HasWords words (commands.Prove o schema source) → result ≡ Status.Ok → IsProof files may o schema source out rep
+    (o : Options) (schema source : List ℕ) → HasWords words (commands.Prove o schema source) → o.view ≡ None → result ≡ Status.Ok → IsProof files may o schema source out rep
 
 -- ---- `check`
 
@@ -111,6 +104,7 @@ pub record SaysRightly (files : Given) (schema source bundle : List ℕ) (out re
   pub well : result ≡ Status.Ok → IsCheck files IsAccepted schema source bundle out rep
   pub refuses : result ≡ Status.Refused → IsCheck files IsRefused schema source bundle out rep
 
+-- without a view
 abbrev pub HasCheck : Given → List (List ℕ) → Change → Change → Status → Type 0
 HasCheck files words out rep result =
-    (o : Options) (schema source bundle : List ℕ) → HasWords words (commands.Check o schema source bundle) → SaysRightly files schema source bundle out rep result
+    (o : Options) (schema source bundle : List ℕ) → HasWords words (commands.Check o schema source bundle) → o.view ≡ None → SaysRightly files schema source bundle out rep result

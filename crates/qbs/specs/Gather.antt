@@ -1,6 +1,5 @@
 -- The command `gather`: the small databases that refute candidates of a program's loops are written as a store.
 use Rattle.std.specs.Prelude.{◌≡◌, ℕ, List, [], ◌∷◌, codes, take}
-use Rattle.std.specs.Io.KnownBytes.{Appends}
 use Rattle.qbs_base.specs.declared.status.Status.{Status}
 use Rattle.qbs_base.specs.Values.{Schema}
 use Rattle.java_ast.specs.Tree.{PlainProgram}
@@ -18,10 +17,11 @@ use Rattle.deliveries.specs.declared.plan.Plan.{Plan}
 use Rattle.deliveries.specs.Deliver.{Change}
 use Rattle.deliveries.specs.Limits.{most_schema, most_source}
 use Rattle.deliveries.specs.Plan.{Given}
-use Rattle.deliveries.specs.Steps.{Ends, IsRead, reads}
+use Rattle.deliveries.specs.Steps.{Ends, reads}
 use Rattle.plans.specs.Opening.{IsSchemaOf, IsProgramOf, has_schema, has_program}
 use Rattle.qbs.specs.Reports.{report_text}
 use Rattle.qbs.specs.Rewrite.{size_of, budget_of, rewriting_plan}
+use Rattle.qbs.specs.Written.{HasWritten}
 
 -- ---- What is gathered
 
@@ -84,16 +84,8 @@ pub record IsGathering (size budget : ℕ) (schema source out rep : List ℕ) : 
   pub report : rep ≡ report_text tries 0
 
 -- both files were read, and both sinks have grown by what is written
-pub record IsGatheredText (files : Given) (o : Options) (schema source : List ℕ) (out rep : Change) : Type 0 where
-  pub schema_read : List ℕ
-  pub source_read : List ℕ
-  pub text : List ℕ
-  pub lines : List ℕ
-  pub read_schema : IsRead files schema most_schema schema_read
-  pub read_source : IsRead files source most_source source_read
-  pub is : IsGathering (size_of o) (budget_of o) schema_read source_read text lines
-  pub wrote_text : Appends out.old out.new text
-  pub wrote_lines : Appends rep.old rep.new lines
+abbrev pub IsGatheredText : Given → Options → List ℕ → List ℕ → Change → Change → Type 0
+IsGatheredText files o schema source out rep = HasWritten files schema source (IsGathering (size_of o) (budget_of o)) out rep
 
 abbrev pub HasGathering : Given → List (List ℕ) → Change → Change → Status → Type 0
 HasGathering files words out rep result =

@@ -17,15 +17,14 @@ use Rattle.words.specs.declared.command.Command.TheVariants as commands
 use Rattle.words.specs.declared.command.Options.{Options}
 use Rattle.words.specs.Plain.{HasWords}
 use Rattle.deliveries.specs.Deliver.{Change}
-use Rattle.deliveries.specs.Limits.{most_schema, most_source}
 use Rattle.deliveries.specs.Plan.{Given}
-use Rattle.deliveries.specs.Steps.{IsRead}
 use Rattle.plans.specs.Opening.{IsSchemaOf, IsProgramOf}
 use Rattle.verdicts.specs.Reports.{pruned_line}
 use Rattle.qbs.specs.Reports.{report_text}
 use Rattle.qbs.specs.Pruners.{May, with_bank}
 use Rattle.qbs.specs.Rewrite.{size_of, budget_of}
-use Rattle.qbs.specs.Store.{IsStoreRead, IsBankOf}
+use Rattle.qbs.specs.Store.{IsBankOf}
+use Rattle.qbs.specs.Written.{HasWrittenBeside}
 
 -- What `rewrite` read, as `schema` and `source`, and as `store` where the words name one, and what it wrote, as `out` and `rep`.
 pub record IsRewritten (may : May) (size budget : ℕ) (schema source : List ℕ) (store : Option (List ℕ)) (out rep : List ℕ) : Type 0 where
@@ -56,22 +55,13 @@ pub record IsRewritten (may : May) (size budget : ℕ) (schema source : List ℕ
   pub standing : StandAsTried tries left
 
 -- the files were read, and both sinks have grown by what is written
-pub record IsHeadline (files : Given) (may : May) (o : Options) (schema source : List ℕ) (out rep : Change) : Type 0 where
-  pub schema_read : List ℕ
-  pub source_read : List ℕ
-  pub store_read : Option (List ℕ)
-  pub text : List ℕ
-  pub lines : List ℕ
-  pub read_schema : IsRead files schema most_schema schema_read
-  pub read_source : IsRead files source most_source source_read
-  pub read_store : IsStoreRead files o.store store_read
-  pub is : IsRewritten may (size_of o) (budget_of o) schema_read source_read store_read text lines
-  pub wrote_text : Appends out.old out.new text
-  pub wrote_lines : Appends rep.old rep.new lines
+abbrev pub IsHeadline : Given → May → Options → List ℕ → List ℕ → Change → Change → Type 0
+IsHeadline files may o schema source out rep = HasWrittenBeside files schema source o.store (IsRewritten may (size_of o) (budget_of o)) out rep
 
+-- without a view
 abbrev pub HasHeadline : Given → May → List (List ℕ) → Change → Change → Status → Type 0
 HasHeadline files may words out rep result =
-    (o : Options) (schema source : List ℕ) → HasWords words (commands.Rewrite o schema source) → result ≡ Status.Ok → IsHeadline files may o schema source out rep
+    (o : Options) (schema source : List ℕ) → HasWords words (commands.Rewrite o schema source) → o.view ≡ None → result ≡ Status.Ok → IsHeadline files may o schema source out rep
 
 -- the report of `rewrite`, or of `prove`, says last that no candidate was dropped, where the words name no store
 abbrev pub DropsNone : List (List ℕ) → Change → Status → Type 0

@@ -1,6 +1,5 @@
 -- The command `narrow`: walks over tables ask for the rows that they want, and what is promised of the bytes written.
 use Rattle.std.specs.Prelude.{◌≡◌, ℕ, List, [], ◌∷◌, codes}
-use Rattle.std.specs.Io.KnownBytes.{Appends}
 use Rattle.std.specs.List.{flat_map}
 use Rattle.qbs_base.specs.declared.span.Span.{Span}
 use Rattle.qbs_base.specs.declared.status.Status.{Status}
@@ -25,9 +24,10 @@ use Rattle.deliveries.specs.declared.plan.Plan.{Plan}
 use Rattle.deliveries.specs.Deliver.{Change}
 use Rattle.deliveries.specs.Limits.{most_schema, most_source}
 use Rattle.deliveries.specs.Plan.{Given}
-use Rattle.deliveries.specs.Steps.{Ends, IsRead, reads}
+use Rattle.deliveries.specs.Steps.{Ends, reads}
 use Rattle.plans.specs.Opening.{IsSchemaOf, IsProgramOf, has_schema, has_program}
 use Rattle.qbs.specs.Again.{IsReadAgain}
+use Rattle.qbs.specs.Written.{HasWritten}
 
 -- ---- Loops that a query stands for
 
@@ -92,16 +92,8 @@ pub record IsNarrowing (schema source out rep : List ℕ) : Type 0 where
   pub report : rep ≡ reports.report_text (narrowed tables program).walks
 
 -- both files were read, and both sinks have grown by what is written
-pub record IsNarrowedText (files : Given) (schema source : List ℕ) (out rep : Change) : Type 0 where
-  pub schema_read : List ℕ
-  pub source_read : List ℕ
-  pub text : List ℕ
-  pub lines : List ℕ
-  pub read_schema : IsRead files schema most_schema schema_read
-  pub read_source : IsRead files source most_source source_read
-  pub is : IsNarrowing schema_read source_read text lines
-  pub wrote_text : Appends out.old out.new text
-  pub wrote_lines : Appends rep.old rep.new lines
+abbrev pub IsNarrowedText : Given → List ℕ → List ℕ → Change → Change → Type 0
+IsNarrowedText files schema source out rep = HasWritten files schema source IsNarrowing out rep
 
 abbrev pub HasNarrowing : Given → List (List ℕ) → Change → Change → Status → Type 0
 HasNarrowing files words out rep result =

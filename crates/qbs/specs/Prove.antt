@@ -22,14 +22,17 @@ use Rattle.qbs.specs.Rewrite.{size_of, budget_of, IsRewriting, rewriting_plan}
 abbrev pub entries_for : Schema → ℕ → ℕ → PlainProgram → List Entry
 entries_for tables size budget p = bundle_of (all_tried tables size budget p)
 
--- The text of the entries is written, and what is said of each loop. The text is read as those entries, of which each is accepted; they make
--- the rewritten program.
-pub record Proves (may : May) (tables : Schema) (size budget : ℕ) (p : PlainProgram) (plan : Plan) : Type 0 where
+-- The text of the entries is read as those entries, of which each is accepted; they make the rewritten program. So many candidates were dropped.
+pub record HasEvidence (may : May) (tables : Schema) (size budget : ℕ) (p : PlainProgram) (pruned : ℕ) : Type 0 where
   pub rewriting : IsRewriting tables size budget p
   pub member : HasBundle (bundle_text (entries_for tables size budget p)) (entries_for tables size budget p)
   pub accepted : checked_from tables 0 (entries_for tables size budget p) p ≡ All (length (entries_for tables size budget p)) (rewritten tables size budget p)
-  pub pruned : ℕ
   pub counted : ArePruned may.drops may.keeps size (all_tried tables size budget p) pruned
+
+-- The text of the entries is written, and what is said of each loop.
+pub record Proves (may : May) (tables : Schema) (size budget : ℕ) (p : PlainProgram) (plan : Plan) : Type 0 where
+  pub pruned : ℕ
+  pub evidence : HasEvidence may tables size budget p pruned
   pub written : plan ≡ rewriting_plan tables size budget p (bundle_text (entries_for tables size budget p)) pruned
 
 -- ---- The command

@@ -1,7 +1,8 @@
 -- The plain form of what the code sees of a file.
-use Rattle.std.specs.Prelude.{◌≡◌, List, ℕ}
+use Rattle.std.specs.Prelude.{◌≡◌, ◌≤◌, List, ℕ, length}
 use Rattle.qbs_base.specs.Values.{Schema}
 use Rattle.java_ast.specs.Reading.{program as plain_program}
+use Rattle.deliveries.specs.Limits.{most_source}
 use Rattle.view_map.specs.declared.model.ViewMap.{ViewMap}
 use Rattle.view_slices.specs.Reading.{all_sliced, opened}
 use Rattle.view_slices.specs.Slices.{File}
@@ -14,10 +15,11 @@ use Rattle.qbs.specs.View.{Seen, Methods, Nothing, IsSeen, text_of, nothing_seen
 abbrev pub view_by : File → Viewed → View
 view_by file v = record { file = file; methods = all_sliced v.found.value.methods.items }
 
--- a view of a file, and the program of its text, which is kept too
+-- a view of a file, and the program of its text, which is kept too and isn't longer than a source may be
 pub record IsViewed (m : ViewMap) (tables : Schema) (source : List ℕ) (file : File) (v : Viewed) : Type 0 where
   pub seen : IsSeen m tables source (Methods (view_by file v) (plain_program v.typed.value.program))
   pub text : v.text ≡ text_of m tables (view_by file v)
+  pub short : length v.text ≤ most_source
 
 abbrev pub seen_by : code.Seen → Seen
 seen_by (found.Methods file viewed) = Methods (view_by (opened file) viewed.value) (plain_program viewed.value.typed.value.program)

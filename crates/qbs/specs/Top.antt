@@ -1,5 +1,5 @@
 -- What the top call promises: a plan that is due is written, and there is one.
-use Rattle.std.specs.Prelude.{◌≡◌, ◌≤◌, ◌⊎◌, ℕ, List, [], ◌∷◌, ◌++◌, IsSome, IfSome, Ok, Bool, true, false}
+use Rattle.std.specs.Prelude.{◌≡◌, ◌≤◌, ◌⊎◌, ℕ, List, [], ◌∷◌, ◌++◌, IsSome, IfSome, Ok, Bool, true, false, is_none}
 use Rattle.std.specs.declared.option.Option.{Option}
 use Rattle.std.specs.declared.option.Option.TheVariants.{Some, None}
 use Rattle.std.specs.Io.KnownBytes.{Appends}
@@ -11,12 +11,14 @@ use Rattle.words.specs.declared.command.Options.{Options}
 use Rattle.words.specs.Plain.{HasWords}
 use Rattle.deliveries.specs.declared.plan.Plan.{Plan}
 use Rattle.deliveries.specs.Deliver.{Change, Delivers, IsCut}
+use Rattle.deliveries.specs.Named.{IsNamed}
 use Rattle.deliveries.specs.Plan.{Given, read_fault}
 use Rattle.deliveries.specs.Reads.{Looks, OnlyReads}
 use Rattle.plans.specs.Tables.{IsTableFile, table_files}
 use Rattle.schema.specs.Schemas.{schema_of}
 use Rattle.qbs.specs.Commands.{is_built, HasNoWords, program, IsDue}
 use Rattle.verdicts.specs.Reports.{pruned_line}
+use Rattle.qbs.specs.Maps.{source_names}
 use Rattle.qbs.specs.Pruners.{May}
 use Rattle.qbs.specs.Store.{store_names, IsStoreName}
 
@@ -34,11 +36,16 @@ pub record CutShort (files : Given) (may : May) (words : List (List ℕ)) (out r
 
 -- ---- One plan
 
+-- it is the map that words may name
+abbrev pub IsMapName : Option (List ℕ) → List ℕ → Type 0
+IsMapName None name = ⊥
+IsMapName (Some map) name = name ≡ map
+
 -- the files that a command may read
 abbrev pub MayRead : (List ℕ → Option (List ℕ)) → Command → List ℕ → Type 0
-MayRead told (commands.Rewrite o schema source) name = (name ≡ schema) ⊎ (name ≡ source) ⊎ IsStoreName o.store name
-MayRead told (commands.Prove o schema source) name = (name ≡ schema) ⊎ (name ≡ source) ⊎ IsStoreName o.store name
-MayRead told (commands.Check o schema source bundle) name = (name ≡ schema) ⊎ (name ≡ source) ⊎ (name ≡ bundle)
+MayRead told (commands.Rewrite o schema source) name = IsMapName o.view name ⊎ (name ≡ schema) ⊎ (name ≡ source) ⊎ IsStoreName o.store name
+MayRead told (commands.Prove o schema source) name = IsMapName o.view name ⊎ (name ≡ schema) ⊎ (name ≡ source) ⊎ IsStoreName o.store name
+MayRead told (commands.Check o schema source bundle) name = IsMapName o.view name ⊎ (name ≡ schema) ⊎ (name ≡ source) ⊎ (name ≡ bundle)
 MayRead told (commands.Run o schema source folder method words) name = (name ≡ schema) ⊎ (name ≡ source) ⊎ IsTableFile told schema folder name
 MayRead told (commands.Sql schema folder query) name = (name ≡ schema) ⊎ IsTableFile told schema folder name
 MayRead told (commands.Schema o dump) name = name ≡ dump
@@ -47,6 +54,9 @@ MayRead told (commands.Narrow o schema source) name = (name ≡ schema) ⊎ (nam
 MayRead told (commands.Unnest o schema source) name = (name ≡ schema) ⊎ (name ≡ source)
 MayRead told (commands.Gather o schema source) name = (name ≡ schema) ⊎ (name ≡ source)
 MayRead told (commands.View map schema source) name = (name ≡ map) ⊎ (name ≡ schema) ⊎ (name ≡ source)
+MayRead told (commands.Map entities) name = IsNamed entities name
+MayRead told (commands.MapSchema entities) name = IsNamed entities name
+MayRead told (commands.CheckMap map schema source) name = (name ≡ map) ⊎ (name ≡ schema) ⊎ IsNamed (source_names source) name
 MayRead told _ name = ⊥
 
 -- they are told, and none of the reads failed
@@ -67,9 +77,16 @@ pub record AreAlike (p q : Plan) : Type 0 where
 abbrev pub Alike : Plan → Plan → Type 0
 Alike p q = (p ≡ q) ⊎ AreAlike p q
 
--- what is due doesn't hang on how it is found: of what may be seen of a file one view is as good as another
+-- What is due doesn't hang on how it is found. Of what may be seen of a file one view is as good as another, and by a view one spelling too; and no
+-- definition says what is drawn of entities or checks a map.
 abbrev pub is_fixed : Command → Bool
 is_fixed (commands.View map schema source) = false
+is_fixed (commands.Rewrite o schema source) = is_none o.view
+is_fixed (commands.Prove o schema source) = is_none o.view
+is_fixed (commands.Check o schema source bundle) = is_none o.view
+is_fixed (commands.Map entities) = false
+is_fixed (commands.MapSchema entities) = false
+is_fixed (commands.CheckMap map schema source) = false
 is_fixed _ = true
 
 abbrev pub AreFixed : List (List ℕ) → Type 0
@@ -81,10 +98,11 @@ HasOnePlan files may words = AreTold files words → AreFixed words → (p q : P
 
 -- ---- A store
 
--- The words are those of `rewrite` or of `prove` with a store, and others those of the same command without it.
+-- The words are those of `rewrite` or of `prove` with a store, and others those of the same command without it. By a view two calls may see a file in
+-- two ways, with a store or without one: so none of them is named here.
 pub data AreWithout : Command → Command → Type 0 where
-  rewrite : (o : Options) (schema source name : List ℕ) → o.store ≡ Some name → AreWithout (commands.Rewrite o schema source) (commands.Rewrite (record o { store = None }) schema source)
-  prove : (o : Options) (schema source name : List ℕ) → o.store ≡ Some name → AreWithout (commands.Prove o schema source) (commands.Prove (record o { store = None }) schema source)
+  rewrite : (o : Options) (schema source name : List ℕ) → o.store ≡ Some name → o.view ≡ None → AreWithout (commands.Rewrite o schema source) (commands.Rewrite (record o { store = None }) schema source)
+  prove : (o : Options) (schema source name : List ℕ) → o.store ≡ Some name → o.view ≡ None → AreWithout (commands.Prove o schema source) (commands.Prove (record o { store = None }) schema source)
 
 -- Where all that is read is told and a plan with a store is due that ends well, the plan that is due without the store is one with it but for
 -- the number of dropped candidates.
@@ -97,7 +115,7 @@ HasNeutralStore files may words =
 -- ---- The words
 
 -- Words that aren't plain are refused as such, unless memory runs out or the write fails, and no file is read; and no others are.
-pub record Refuses {D : Type 0} (words : List (List ℕ)) (old new : D) (result : Status) : Type 0 where
+pub record LeavesUnread {D : Type 0} (words : List (List ℕ)) (old new : D) (result : Status) : Type 0 where
   pub only : result ≡ Status.Words → HasNoWords words
   pub all : HasNoWords words → (result ≡ Status.Words) ⊎ (result ≡ Status.NoMemory) ⊎ (result ≡ Status.WriteFault)
   pub unread : HasNoWords words → new ≡ old
@@ -128,11 +146,16 @@ pub record ReadsTablesOf {D : Type 0} (l : Looks D) (folder bytes : List ℕ) (o
   pub of_schema : (tables ≡ []) ⊎ (schema_of bytes ≡ Ok tables)
   pub reads : OnlyReads l (table_files folder tables) old new
 
+-- the names of files, before which the map is read that words may name
+abbrev pub with_map : Option (List ℕ) → List (List ℕ) → List (List ℕ)
+with_map None names = names
+with_map (Some map) names = map ∷ names
+
 -- the files that a command that is built reads, in this order, each once
 abbrev pub ReadsBuilt : {D : Type 0} → Looks D → Command → D → D → Type 0
-ReadsBuilt l (commands.Rewrite o schema source) old new = OnlyReads l (schema ∷ source ∷ store_names o.store) old new
-ReadsBuilt l (commands.Prove o schema source) old new = OnlyReads l (schema ∷ source ∷ store_names o.store) old new
-ReadsBuilt l (commands.Check o schema source bundle) old new = OnlyReads l (schema ∷ source ∷ bundle ∷ []) old new
+ReadsBuilt l (commands.Rewrite o schema source) old new = OnlyReads l (with_map o.view (schema ∷ source ∷ store_names o.store)) old new
+ReadsBuilt l (commands.Prove o schema source) old new = OnlyReads l (with_map o.view (schema ∷ source ∷ store_names o.store)) old new
+ReadsBuilt l (commands.Check o schema source bundle) old new = OnlyReads l (with_map o.view (schema ∷ source ∷ bundle ∷ [])) old new
 ReadsBuilt l (commands.Run o schema source folder method words) old new = ReadsTables l (schema ∷ source ∷ []) folder schema old new
 ReadsBuilt l (commands.Sql schema folder query) old new = ReadsTables l (schema ∷ []) folder schema old new
 ReadsBuilt l (commands.Schema o dump) old new = OnlyReads l (dump ∷ []) old new
@@ -141,6 +164,9 @@ ReadsBuilt l (commands.Narrow o schema source) old new = OnlyReads l (schema ∷
 ReadsBuilt l (commands.Unnest o schema source) old new = OnlyReads l (schema ∷ source ∷ []) old new
 ReadsBuilt l (commands.Gather o schema source) old new = OnlyReads l (schema ∷ source ∷ []) old new
 ReadsBuilt l (commands.View map schema source) old new = OnlyReads l (map ∷ schema ∷ source ∷ []) old new
+ReadsBuilt l (commands.Map entities) old new = OnlyReads l entities old new
+ReadsBuilt l (commands.MapSchema entities) old new = OnlyReads l entities old new
+ReadsBuilt l (commands.CheckMap map schema source) old new = OnlyReads l (map ∷ schema ∷ source_names source) old new
 ReadsBuilt l _ old new = OnlyReads l [] old new
 
 -- none are read for what isn't built

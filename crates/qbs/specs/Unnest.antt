@@ -1,6 +1,5 @@
 -- The command `unnest`: loops that ask for rows in each turn give way to one query, and what is promised of the bytes written.
 use Rattle.std.specs.Prelude.{◌≡◌, ℕ, List, codes}
-use Rattle.std.specs.Io.KnownBytes.{Appends}
 use Rattle.qbs_base.specs.declared.status.Status.{Status}
 use Rattle.qbs_base.specs.Values.{Schema}
 use Rattle.java_ast.specs.Tree.{PlainProgram}
@@ -17,10 +16,11 @@ use Rattle.deliveries.specs.declared.plan.Plan.{Plan}
 use Rattle.deliveries.specs.Deliver.{Change}
 use Rattle.deliveries.specs.Limits.{most_schema, most_source}
 use Rattle.deliveries.specs.Plan.{Given}
-use Rattle.deliveries.specs.Steps.{Ends, IsRead, reads}
+use Rattle.deliveries.specs.Steps.{Ends, reads}
 use Rattle.plans.specs.Opening.{IsSchemaOf, IsProgramOf, has_schema, has_program}
 use Rattle.qbs.specs.Again.{IsReadAgain}
 use Rattle.qbs.specs.Rewrite.{size_of, budget_of}
+use Rattle.qbs.specs.Written.{HasWritten}
 
 -- ---- What is written
 
@@ -70,16 +70,8 @@ pub record IsUnnested (size budget : ℕ) (schema source out rep : List ℕ) : T
   pub report : rep ≡ unnest_report tries
 
 -- both files were read, and both sinks have grown by what is written
-pub record IsUnnestedText (files : Given) (o : Options) (schema source : List ℕ) (out rep : Change) : Type 0 where
-  pub schema_read : List ℕ
-  pub source_read : List ℕ
-  pub text : List ℕ
-  pub lines : List ℕ
-  pub read_schema : IsRead files schema most_schema schema_read
-  pub read_source : IsRead files source most_source source_read
-  pub is : IsUnnested (size_of o) (budget_of o) schema_read source_read text lines
-  pub wrote_text : Appends out.old out.new text
-  pub wrote_lines : Appends rep.old rep.new lines
+abbrev pub IsUnnestedText : Given → Options → List ℕ → List ℕ → Change → Change → Type 0
+IsUnnestedText files o schema source out rep = HasWritten files schema source (IsUnnested (size_of o) (budget_of o)) out rep
 
 abbrev pub HasUnnesting : Given → List (List ℕ) → Change → Change → Status → Type 0
 HasUnnesting files words out rep result =

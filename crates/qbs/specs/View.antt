@@ -1,12 +1,11 @@
 -- The command `view`: what is seen of a Java file by a map, as a program that has a method for each slice.
-use Rattle.std.specs.Prelude.{◌≡◌, ℕ, ◌+◌, ◌<◌, List, [], ◌∷◌, length, codes, map, filter, Bool, true, false, Option, Some, None, slice_get}
+use Rattle.std.specs.Prelude.{◌≡◌, ℕ, ◌+◌, ◌<◌, List, [], ◌∷◌, length, codes, map, filter, Bool, true, false, slice_get}
 use Rattle.std.specs.Io.KnownBytes.{Appends}
 use Rattle.std.specs.List.{flat_map}
 use Rattle.qbs_base.specs.declared.status.Status.{Status}
 use Rattle.qbs_base.specs.Values.{Schema}
 use Rattle.java_ast.specs.Tree.{PlainProgram}
 use Rattle.text_places.specs.Places.{span_in}
-use Rattle.view_items.specs.declared.item.Item.{Item}
 use Rattle.view_map.specs.declared.model.ViewMap.{ViewMap}
 use Rattle.view_slices.specs.Slices.{File, PlainSlice}
 use Rattle.view_slices.specs.Views.{View, PlainSliced, IsView, class_cells}
@@ -22,13 +21,9 @@ use Rattle.deliveries.specs.Limits.{most_map, most_schema, most_source}
 use Rattle.deliveries.specs.Plan.{Given, too_long}
 use Rattle.deliveries.specs.Steps.{Ends, IsRead, reads, step}
 use Rattle.plans.specs.Opening.{IsSchemaOf, IsMapOf, IsProgramOf, has_schema, has_map}
+pub use Rattle.qbs.specs.ItemBytes.{begins_at}
 
 -- ---- What is seen
-
--- the byte of the source at which an item begins
-abbrev pub begins_at : Option Item → ℕ
-begins_at None = 0
-begins_at (Some i) = i.from
 
 abbrev pub slice_start : File → PlainSlice → ℕ
 slice_start file s = begins_at (slice_get file.items s.from)
@@ -80,7 +75,7 @@ seen_starts Nothing = []
 
 abbrev pub is_slice_line : ViewLine → Bool
 is_slice_line (says.Slice k at) = true
-is_slice_line (says.Unseen at rule because) = false
+is_slice_line _ = false
 
 -- a line for each slice, the first of which has a number
 abbrev pub slice_lines : List ℕ → ℕ → List ℕ → List ViewLine

@@ -2,16 +2,25 @@
 #![tactic(auto)]
 
 mod again;
+mod alone;
+mod by_view;
+mod by_view_lines;
 mod check;
+mod check_by_view;
 mod clean;
 mod draw;
 mod gather;
 mod inline;
 pub mod laws;
+mod looks;
 mod make;
+mod map;
 mod narrow;
 mod opened;
+mod opened_by_view;
+mod places;
 mod prove;
+mod prove_by_view;
 mod rewrite;
 mod run;
 mod seen;
@@ -20,6 +29,7 @@ mod stored;
 mod top;
 mod unnest;
 mod view;
+mod written;
 
 pub use clean::qbs_main_over_clean_ends;
 pub use deliveries::fetch::MOST_SCHEMA;

@@ -120,7 +120,11 @@ fn open_bank(alloc: Global, schema: &Schema, bytes: &[u8]) -> Result<Bank, Stop>
 }
 
 // The bank of a store, where there is one.
-fn open_store(alloc: Global, schema: &Schema, bytes: &Option<Bytes>) -> Result<Option<Bank>, Stop>
+pub fn open_store(
+    alloc: Global,
+    schema: &Schema,
+    bytes: &Option<Bytes>,
+) -> Result<Option<Bank>, Stop>
     ensures { Goes result (IsBankOf schema.now bytes.now) (HasNoBank schema.now bytes.now) }
 {
     match bytes {

@@ -1,5 +1,5 @@
 // What is seen of a file: a view that is one, and the program of its text.
-ghost use Rattle.std.specs.Prelude.{◌≡◌, ◌<◌, IfOk, IfSome, Some, length, codes};
+ghost use Rattle.std.specs.Prelude.{◌≡◌, ◌<◌, ◌≤◌, IfOk, IfSome, Some, length, codes};
 ghost use Rattle.java_ast.specs.Reading.{program as plain_program};
 ghost use Rattle.deliveries.specs.Code.{Goes};
 ghost use Rattle.deliveries.specs.Limits.{most_source};
@@ -48,7 +48,8 @@ pub enum Seen {
 
 /// The well-typed program of a text, if it has one, and the refusal of a text that is longer than a source may be.
 fn typed_in(alloc: Global, schema: &Schema, text: &[u8]) -> Result<Option<Box<Typed>>, Stop>
-    ensures { Goes result
+    ensures short { IfOk result (λ found. IfSome found (λ t. length text.now ≤ most_source)) }
+    ensures typed { Goes result
         (λ found. IfSome found (λ t. IsProgramOf schema.now text.now (plain_program t.value.program)))
         (λ plan. (most_source < length text.now) × (plan ≡ too_long_plan (codes "view"))) }
 {

@@ -16,7 +16,7 @@ use java_types::Typed;
 use kernel_lang::{Candidate, KFragment, PruneAnswer};
 use proof_store::{AskedBank, Bank, Held};
 use qbs_base::NoMemory;
-use query_search::{Extra, Pruner};
+use query_search::{FurtherPruner, Pruner};
 use rewrite_core::{Rewritten, rewrite, rewrite_with};
 use schema::Schema;
 use std::alloc::Global;
@@ -31,7 +31,7 @@ fn rewrite_stored<F: Fn(&KFragment, &Candidate) -> PruneAnswer>(
     size: u32,
     budget: u64,
     pruners: &[Pruner],
-    extra: &Extra<F>,
+    extra: &FurtherPruner<F>,
     bank: &Bank,
 ) -> Result<Rewritten, NoMemory>
     requires typed { IsWellTyped schema.now (read_by schema.now) (plain_program typed.now.program) }
@@ -81,7 +81,7 @@ fn rewrite_by_bank<B: Held>(
         ensures exact { IsAnswered (fragment_of asked.now) cand.now B.items result }
         ensures justified { result ≡ answers.Drop → ∥ IsRefuted (fragment_of asked.now) cand.now ∥₁ }
     { own.answer(alloc, asked, cand) };
-    let extra = Extra::new(ask);
+    let extra = FurtherPruner::new(ask);
     rewrite_stored(
         alloc, schema, typed, source, size, budget, pruners, &extra, bank,
     )

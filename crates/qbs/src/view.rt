@@ -56,7 +56,7 @@ fn plan_texts(alloc: Global, map: &[u8], schema: &[u8], source: &[u8]) -> Result
 // ---- What is written
 
 /// The byte of the source at which an item begins.
-fn start_of(items: &[Item], number: usize) -> usize
+pub fn start_of(items: &[Item], number: usize) -> usize
     ensures { result ≡ specs.begins_at (slice_get items.now number) }
 {
     match items.get(number) {

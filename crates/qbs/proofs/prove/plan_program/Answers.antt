@@ -1,17 +1,6 @@
 use Rattle.java_ast.specs.Reading.{program as plain_program}
-use Rattle.deriv_check.specs.Bundles.{entries_of}
-use Rattle.qbs.proofs.Proved.{proved_as}
-use Rattle.qbs.proofs.Rewrote.{is_source}
+use Rattle.qbs.proofs.Proved.{proves_by}
 use Rattle.qbs.proofs.prove.plan_program.Goals as goal
 
-pub rewrite_past_store-requires-clause-source : goal.rewrite_past_store-requires-clause-source
-rewrite_past_store-requires-clause-source g c = is_source c.args.schema.now c.args.source.now (plain_program c.args.typed.now.program) c.requires.program
-
 pub returns : goal.returns
-returns g c =
-    let r = c.in_ok-rewritten.ensures in
-    let done = c.in_ok-rewritten.rewritten in
-    proved_as _ c.args.schema.now c.size_of-size.result _ c.budget_of-budget.result _ c.args.source.now (plain_program c.args.typed.now.program) (plain_program done.program) (entries_of done.bundle) done.verdicts done.dropped _
-    c.size_of-size.ensures.is c.budget_of-budget.ensures.is c.size_of-size.ensures.within c.budget_of-budget.ensures.within
-    c.requires.short c.requires.program
-    r.exact r.verdicts r.bundle r.dropped r.typed r.keeps r.standing c.in_ok-plan_entries.ensures
+returns g c = proves_by _ c.args.schema.now _ _ (plain_program c.args.typed.now.program) c.in_ok-proven.proven _ c.in_ok-proven.ensures c.in_ok-plan_proven.ensures

@@ -1,25 +1,24 @@
-use Rattle.deliveries.specs.Plan.{given}
 use Rattle.deliveries.specs.Reads.{looks}
-use Rattle.qbs.proofs.Worded.{as_due, as_read, none_read, other_due}
+use Rattle.qbs.proofs.Worded.{as_due, as_read, none_read}
 use Rattle.qbs.proofs.top.plan_built.Goals as goal
 
 pub returns-in-Rewrite-clause-due : goal.returns-in-Rewrite-clause-due
-returns-in-Rewrite-clause-due g c = as_due _ _ c.args.command.now _ c.plan_rewrite.result c.in-Rewrite.is c.plan_rewrite.ensures.due
+returns-in-Rewrite-clause-due g c = as_due _ _ c.args.command.now _ c.plan_rewriting.result c.in-Rewrite.is c.plan_rewriting.ensures.due
 
 pub returns-in-Rewrite-clause-reads : goal.returns-in-Rewrite-clause-reads
-returns-in-Rewrite-clause-reads g c = as_read _ c.args.command.now _ _ _ c.in-Rewrite.is c.plan_rewrite.ensures.reads
+returns-in-Rewrite-clause-reads g c = as_read _ c.args.command.now _ _ _ c.in-Rewrite.is c.plan_rewriting.ensures.reads
 
 pub returns-in-Prove-clause-due : goal.returns-in-Prove-clause-due
-returns-in-Prove-clause-due g c = as_due _ _ c.args.command.now _ c.plan_prove.result c.in-Prove.is c.plan_prove.ensures.due
+returns-in-Prove-clause-due g c = as_due _ _ c.args.command.now _ c.plan_proving.result c.in-Prove.is c.plan_proving.ensures.due
 
 pub returns-in-Prove-clause-reads : goal.returns-in-Prove-clause-reads
-returns-in-Prove-clause-reads g c = as_read _ c.args.command.now _ _ _ c.in-Prove.is c.plan_prove.ensures.reads
+returns-in-Prove-clause-reads g c = as_read _ c.args.command.now _ _ _ c.in-Prove.is c.plan_proving.ensures.reads
 
 pub returns-in-Check-clause-due : goal.returns-in-Check-clause-due
-returns-in-Check-clause-due g c = as_due _ _ c.args.command.now _ c.plan_check.result c.in-Check.is c.plan_check.ensures.due
+returns-in-Check-clause-due g c = as_due _ _ c.args.command.now _ c.plan_checking.result c.in-Check.is c.plan_checking.ensures.due
 
 pub returns-in-Check-clause-reads : goal.returns-in-Check-clause-reads
-returns-in-Check-clause-reads g c = as_read _ c.args.command.now _ _ _ c.in-Check.is c.plan_check.ensures.reads
+returns-in-Check-clause-reads g c = as_read _ c.args.command.now _ _ _ c.in-Check.is c.plan_checking.ensures.reads
 
 pub returns-in-Sql-clause-due : goal.returns-in-Sql-clause-due
 returns-in-Sql-clause-due g c = as_due _ _ c.args.command.now _ c.plan_sql.result c.in-Sql.is c.plan_sql.ensures.due
@@ -75,8 +74,20 @@ returns-in-View-clause-due g c = as_due _ _ c.args.command.now _ c.plan_view.res
 pub returns-in-View-clause-reads : goal.returns-in-View-clause-reads
 returns-in-View-clause-reads g c = as_read _ c.args.command.now _ _ _ c.in-View.is c.plan_view.ensures.reads
 
-pub returns-in_default : goal.returns-in_default
-returns-in_default g c = record {
-  due = other_due (given g.F.Files.told g.F.Files.faults g.F.Files.may_fail c.args.files.now c.args.files.now) _ c.args.command.now c.refused.result c.in_default.not-Rewrite c.in_default.not-Prove c.in_default.not-Check c.in_default.not-Run c.in_default.not-Sql c.in_default.not-Make c.in_default.not-Schema c.in_default.not-Inline c.in_default.not-Narrow c.in_default.not-Unnest c.in_default.not-Gather c.in_default.not-View c.refused.ensures;
-  reads = none_read (looks g.F.Files.told g.F.Files.faults g.F.Files.may_fail g.F.Files.by_read) c.args.command.now c.args.files.now;
-}
+pub returns-in-Map-clause-due : goal.returns-in-Map-clause-due
+returns-in-Map-clause-due g c = as_due _ _ c.args.command.now _ c.plan_map.result c.in-Map.is c.plan_map.ensures.due
+
+pub returns-in-Map-clause-reads : goal.returns-in-Map-clause-reads
+returns-in-Map-clause-reads g c = as_read _ c.args.command.now _ _ _ c.in-Map.is c.plan_map.ensures.reads
+
+pub returns-in-MapSchema-clause-due : goal.returns-in-MapSchema-clause-due
+returns-in-MapSchema-clause-due g c = as_due _ _ c.args.command.now _ c.plan_map-in-MapSchema.result c.in-MapSchema.is c.plan_map-in-MapSchema.ensures.due
+
+pub returns-in-MapSchema-clause-reads : goal.returns-in-MapSchema-clause-reads
+returns-in-MapSchema-clause-reads g c = as_read _ c.args.command.now _ _ _ c.in-MapSchema.is c.plan_map-in-MapSchema.ensures.reads
+
+pub returns-in-CheckMap-clause-due : goal.returns-in-CheckMap-clause-due
+returns-in-CheckMap-clause-due g c = as_due _ _ c.args.command.now _ c.plan_check_map.result c.in-CheckMap.is c.plan_check_map.ensures.due
+
+pub returns-in-CheckMap-clause-reads : goal.returns-in-CheckMap-clause-reads
+returns-in-CheckMap-clause-reads g c = as_read _ c.args.command.now _ _ _ c.in-CheckMap.is c.plan_check_map.ensures.reads

@@ -9,8 +9,8 @@ returns-in-Some-clause-unread g c = words_read _ _ c.args.words.now c.in-Some.co
 pub returns-in-Some-clause-reads : goal.returns-in-Some-clause-reads
 returns-in-Some-clause-reads g c = words_read_so _ c.args.words.now c.in-Some.command _ _ (sym c.in-Some.is ∙ c.in_ok-command.ensures.read) c.plan_command.ensures.reads
 
-pub returns-in-Some-clause-held : goal.returns-in-Some-clause-held
-returns-in-Some-clause-held g c = (stays _ c.in-Some.command _ _ c.plan_command.ensures.reads).0
+pub returns-in-Some-clause-same : goal.returns-in-Some-clause-same
+returns-in-Some-clause-same g c = (stays _ c.in-Some.command _ _ c.plan_command.ensures.reads).0
 
 pub returns-in-Some-clause-later : goal.returns-in-Some-clause-later
 returns-in-Some-clause-later g c = (stays _ c.in-Some.command _ _ c.plan_command.ensures.reads).1

@@ -1,4 +1,5 @@
-use Rattle.qbs.proofs.Evident.{proved, checked, drops_none}
+use Rattle.qbs.proofs.Evident.{proved, checked}
+use Rattle.qbs.proofs.CheckingByView.{checked_by_view}
 use Rattle.qbs.proofs.Completing.{complete}
 use Rattle.qbs.proofs.Drawn.{drawn}
 use Rattle.qbs.proofs.Inlining.{inlined}
@@ -7,7 +8,10 @@ use Rattle.qbs.proofs.OnePlan.{one_plan}
 use Rattle.qbs.proofs.Promised.{promised, headline, no_one}
 use Rattle.qbs.proofs.Gathering.{gathered}
 use Rattle.qbs.proofs.Neutral.{neutral}
+use Rattle.qbs.proofs.ProvingByView.{proved_by_view}
+use Rattle.qbs.proofs.RewritingByView.{rewritten_by_view}
 use Rattle.qbs.proofs.Unnesting.{unnested}
+use Rattle.qbs.proofs.Unpruned.{drops_none}
 use Rattle.qbs.proofs.Viewing.{viewed}
 use Rattle.qbs.proofs.top.qbs_main.Goals as goal
 
@@ -17,11 +21,20 @@ returns-clause-one_plan g c = one_plan _ _ _
 pub returns-clause-headline : goal.returns-clause-headline
 returns-clause-headline g c = headline _ _ _ _ _ _ c.carry_out.ensures.done
 
+pub returns-clause-rewritten_by_view : goal.returns-clause-rewritten_by_view
+returns-clause-rewritten_by_view g c = rewritten_by_view _ _ _ _ _ _ c.carry_out.ensures.done
+
 pub returns-clause-proved : goal.returns-clause-proved
 returns-clause-proved g c = proved _ _ _ _ _ _ c.carry_out.ensures.done
 
 pub returns-clause-checked : goal.returns-clause-checked
 returns-clause-checked g c = checked _ _ _ _ _ _ c.carry_out.ensures.done
+
+pub returns-clause-proved_by_view : goal.returns-clause-proved_by_view
+returns-clause-proved_by_view g c = proved_by_view _ _ _ _ _ _ c.carry_out.ensures.done
+
+pub returns-clause-checked_by_view : goal.returns-clause-checked_by_view
+returns-clause-checked_by_view g c = checked_by_view _ _ _ _ _ _ c.carry_out.ensures.done
 
 pub returns-clause-drawn : goal.returns-clause-drawn
 returns-clause-drawn g c = drawn _ _ _ _ _ _ c.carry_out.ensures.done
@@ -58,7 +71,7 @@ pub returns-clause-cut_short : goal.returns-clause-cut_short
 returns-clause-cut_short g c = (promised _ _ _ _ _ _ c.carry_out.ensures.done).cut_short
 
 pub returns-clause-same : goal.returns-clause-same
-returns-clause-same g c = record { held = c.carry_out.ensures.held; later = c.carry_out.ensures.later }
+returns-clause-same g c = record { held = c.carry_out.ensures.same; later = c.carry_out.ensures.later }
 
 pub returns-clause-unpruned : goal.returns-clause-unpruned
 returns-clause-unpruned g c empty = drops_none _ _ _ _ _ _ c.carry_out.ensures.done (λ f k d. no_one _ _ empty d)
