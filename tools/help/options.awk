@@ -2,7 +2,7 @@
 BEGIN { FS = "\t" }
 /^#/ || index(" " $3 " ", " " verb " ") == 0 { next }
 {
-    if (!options++) print "\nOptions, which stand before " (verb == "schema" ? "DUMP" : "SCHEMA") ":\n"
+    if (!options++) print "\nOptions, which stand before " (verb == "schema" ? "DUMP" : verb == "map" ? "the files" : "SCHEMA") ":\n"
     head = "  " $1 ($2 == "" ? "" : "=" $2)
     if (length(head) > 22) {
         print head

@@ -1,6 +1,7 @@
 # What stands in Java at the place of a fault: a name of tools/cures.tsv, or nothing where no name is known. With java.awk, over a source of which class_members() is known.
 function construct(kind, rule, at, line, column) {
     if (kind == "schema") return of_schema(rule, toupper(substr(source[line], 1, column - 1)), toupper(substr(source[line], column, 8)))
+    if (kind == "map") return ""
     if (kind == "lex") return of_lex(rule, at, substr(source[line], column, 1))
     if (kind == "types") return of_types(rule, at)
     if (rule !~ /Unexpected/ || at > total) return ""

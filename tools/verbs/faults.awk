@@ -14,7 +14,7 @@ FILENAME == ARGV[2] {
     next
 }
 FILENAME == ARGV[3] {
-    if (!match($0, /(schema|types|lex|parse|helpers):? [0-9]+ [A-Za-z0-9]+ at [0-9]+:[0-9]+$/)) next
+    if (!match($0, /(schema|map|types|lex|parse|helpers):? [0-9]+ [A-Za-z0-9]+ at [0-9]+:[0-9]+$/)) next
     text = substr($0, RSTART)
     gsub(/:? +/, " ", text)
     split(text, field, " ")

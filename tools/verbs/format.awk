@@ -8,7 +8,7 @@ BEGIN {
     says = $7
     if ($3 ~ /^(found|unnested)$/) said = $3 ($11 ? ", and javac wants a long" : "") ": " says going()
     else if ($3 == "error") said = "error: " says " [" $4 "]"
-    else if ($3 == "outside") said = "outside " $4 " at " $5 ":" $6 ": " says
+    else if ($3 ~ /^(outside|unseen)$/) said = $3 " " $4 " at " $5 ":" $6 ": " says
     else if ($3 == "narrowed") said = "narrowed: " says
     else if ($3 == "stays") said = "stays " substr($4, 10) ": " says
     else said = $3 == "none" ? says : $3 ": " says

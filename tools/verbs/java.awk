@@ -9,8 +9,10 @@ function whole() {
     source[lines] = substr(source[lines], 1, length(source[lines]) - 1)
 }
 
-# The column behind what `mark` closes, from this column of the line `at_line` on, which goes down the lines as need be; the end of the text where nothing closes it.
+# The column behind what `mark` closes, from this column of the line `at_line` on, which goes down the lines as need be; 0 where nothing closes it, and then nothing closes
+# what is opened so behind it on the same line, or in the same file.
 function behind(mark, column, escapes,    size, rest) {
+    if (open_at[mark] == (escapes == "line" ? at_line : "file")) return 0
     for (; at_line <= lines; at_line++) {
         while (column <= length(source[at_line])) {
             rest = substr(source[at_line], column, 64)
@@ -24,8 +26,8 @@ function behind(mark, column, escapes,    size, rest) {
         column = 1
         if (escapes == "line") break
     }
-    if (at_line > lines) at_line = lines
-    return length(source[at_line]) + 1
+    open_at[mark] = escapes == "line" ? at_line : "file"
+    return 0
 }
 
 function add_token(text, line, column, end) {
@@ -43,7 +45,8 @@ function add_comment(line, column, end) {
     comment_next[comments] = total + 1
 }
 
-function tokens(    at, size, text, begins) {
+function tokens(    at, size, text, begins, mark) {
+    split("", open_at)
     at = 1
     for (at_line = 1; at_line <= lines; ) {
         text = substr(source[at_line], at, 64)
@@ -57,11 +60,16 @@ function tokens(    at, size, text, begins) {
             at = size
         } else if (text ~ /^\/\*/ || text ~ /^"""/ || text ~ /^["']/) {
             begins = at_line
-            if (text ~ /^\//) size = behind("*/", at + 2)
-            else if (text ~ /^"""/) size = behind("\"\"\"", at + 3, "text")
-            else size = behind(substr(text, 1, 1), at + 1, "line")
-            if (text ~ /^\//) add_comment(begins, at, size)
-            else add_token(text ~ /^"""/ ? "\"\"\"" : substr(text, 1, 1), begins, at, size)
+            mark = text ~ /^\// ? "*/" : text ~ /^"""/ ? "\"\"\"" : substr(text, 1, 1)
+            size = behind(mark, at + length(mark), mark == "*/" ? "" : length(mark) == 1 ? "line" : "text")
+            # (what nothing closes is a sign; in front of a third quote two are an empty text)
+            if (!size) {
+                at_line = begins
+                size = at + (length(mark) == 3 ? 2 : 1)
+                mark = substr(text, 1, 1)
+            }
+            if (mark == "*/") add_comment(begins, at, size)
+            else add_token(mark, begins, at, size)
             at = size
         } else {
             size = 1
@@ -127,12 +135,14 @@ function class_members(    number, depth, equals) {
     class_close = number
 }
 
-# The statements of a source that qbs reads. Statement s has its tokens first[s] to last[s], its kind (run, loop or other), its block and its place there, the
-# statement `up` that it stands in, and its member; statement_of[block, place] has its number, and loop_at[token] that of a loop.
+# The statements of a source, lambdas and nested classes aside. Statement s has its tokens first[s] to last[s], its kind (run, loop or other), its block and its place
+# there, the statement `up` that it stands in, and its member; statement_of[block, place] has its number, and loop_at[token] that of a loop, whose body goes from the token
+# body_of[s] to body_last[s].
 function statements(    number, member, block) {
     class_members()
     for (member = 1; member <= members; member++) {
-        for (number = member_first[member]; number < member_last[member] && token[number] != "{"; number++) continue
+        for (number = member_first[member]; number < member_last[member] && token[number] !~ /^[{=]$/; number++) if (token[number] == "(") number = closing(number)
+        if (token[number] == "=") continue
         block = ++blocks
         number++
         while (number < member_last[member]) number = statement(number, block, 0, member)
@@ -154,28 +164,63 @@ function statement(number, block, above, member,    self, head) {
         number = closing(number + 1) + 1
         body_of[self] = number
         number = body(number, self, member)
+        body_last[self] = number - 1
+    } else if (head == "do") {
+        kind_of[self] = "loop"
+        loop_at[number] = self
+        body_of[self] = number + 1
+        number = body(number + 1, self, member)
+        body_last[self] = number - 1
+        if (token[number] == "while") number = closing(number + 1) + 1
+        if (token[number] == ";") number++
+    } else if (head == "{") number = body(number, self, member)
+    else if (head == "try") {
+        if (token[number + 1] == "(") number = closing(number + 1)
+        number = body(number + 1, self, member)
+        while (token[number] ~ /^(catch|finally)$/) {
+            if (token[number + 1] == "(") number = closing(number + 1)
+            number = body(number + 1, self, member)
+        }
+    } else if (head ~ /^(switch|synchronized)$/ && token[number + 1] == "(") number = body(closing(number + 1) + 1, self, member)
+    else if (head ~ /^(case|default)$/) {
+        while (number < total && token[number] !~ /^(:|->|;)$/) number = opens(number) ? closing(number) + 1 : number + 1
+        number++
+    } else if (head ~ /^[A-Za-z_$]/ && token[number + 1] == ":") number = body(number + 2, self, member)
+    else if (head ~ /^(class|interface|enum)$/ || head ~ /^(final|abstract|static)$/ && token[number + 1] == "class") {
+        while (number < total && token[number] != "{") number++
+        number = closing(number) + 1
     } else if (head == "if") {
         number = body(closing(number + 1) + 1, self, member)
         if (token[number] == "else") number = body(number + 1, self, member)
     } else {
         if (runs(number)) kind_of[self] = "run"
-        while (number < total && token[number] != ";") number++
-        number++
+        while (number < total && token[number] != ";" && !closes(number)) number = opens(number) ? closing(number) + 1 : number + 1
+        if (token[number] == ";" || number == first[self]) number++
     }
     last[self] = number - 1
     return number
 }
 function body(number, above, member,    block) {
+    # (deeper than this no source goes that qbs reads, and some awk has no room for more calls)
+    if (nested >= 78) {
+        while (number < total && token[number] !~ /^[;{]$/) number = opens(number) ? closing(number) + 1 : number + 1
+        return (token[number] == "{" ? closing(number) : number) + 1
+    }
+    nested++
     block = ++blocks
-    if (token[number] != "{") return statement(number, block, above, member)
-    number++
-    while (number < total && token[number] != "}") number = statement(number, block, above, member)
-    return number + 1
+    if (token[number] != "{") number = statement(number, block, above, member)
+    else {
+        number++
+        while (number < total && token[number] != "}") number = statement(number, block, above, member)
+        number++
+    }
+    nested--
+    return number
 }
 # Whether a statement is a declaration, an assignment or a sort.
 function runs(number) {
-    if (token[number] == "return" || token[number] == "break") return 0
-    if (token[number + 1] == ".") return token[number + 2] == "sort"
+    if (token[number] ~ /^(return|break|continue|throw|yield|assert)$/ || token[number + 1] == "(") return 0
+    if (token[number + 1] == ".") return token[number + 2] == "sort" || token[number] == "Collections"
     return 1
 }
 

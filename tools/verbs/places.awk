@@ -2,6 +2,7 @@
 # the program read it, the text that came, and the source as it stands in its file (each source as take_line() wants it).
 FILENAME == ARGV[1] {
     split($0, field, "\t")
+    if (field[1] == "view") sentence["V" field[2]] = field[4]
     if (field[1] != "kernel" && field[1] != "narrow") next
     sentence[field[3]] = field[4]
     id_of[field[3]] = field[1] == "kernel" ? field[3] : field[1] " " field[2] " " field[3]
@@ -14,7 +15,7 @@ FILENAME == ARGV[2] {
     said_line[loops] = part[1]
     said_column[loops] = part[2]
     kind[loops] = $3
-    if ($3 == "outside") {
+    if ($3 ~ /^(outside|unseen)$/) {
         rule[loops] = $4
         split($6, part, ":")
         message[loops] = sentence[$4]
@@ -22,6 +23,8 @@ FILENAME == ARGV[2] {
         rule[loops] = id_of[$4]
         message[loops] = sentence[$4]
     } else if ($3 == "none") message[loops] = "none of " $5 " candidates does what the loop does" further("")
+    else if ($3 == "shared") message[loops] = "a query would give other objects than those that the method or its callers hold; \"by value\" in the map says that none can tell"
+    else if ($3 == "unlike") message[loops] = "what would be written isn't seen as the method that is left"
     else if ($3 == "budget") message[loops] = $4 " of " $6 " candidates were tried" further($6)
     where_line[loops] = part[1]
     where_column[loops] = part[2]
@@ -74,7 +77,7 @@ function read_shifts(    line) {
 }
 
 # Which statement each loop of the report is.
-function find_loops(    number) {
+function find_loops(    number, at) {
     whole()
     if (originals) original[originals] = substr(original[originals], 1, length(original[originals]) - 1)
     if (texts && text[texts] !~ /x$/) exit 2
@@ -83,13 +86,21 @@ function find_loops(    number) {
     statements()
     read_shifts()
     for (number = 1; number <= loops; number++) {
-        loop[number] = loop_at[token_at(said_line[number], said_column[number])]
+        at = token_at(said_line[number], said_column[number])
+        # (a loop in a lambda or a nested class, of which a view says that it isn't seen)
+        if (!(at in loop_at) && ENVIRON["FETCHES"] != "" && token[at] ~ /^(for|while|do)$/) statement(at, ++blocks, 0, member_at(at))
+        loop[number] = loop_at[at]
         if (!loop[number]) exit 2
     }
+}
+function member_at(at,    member) {
+    for (member = 1; member < members && member_last[member] < at; member++) continue
+    return member
 }
 
 # Whether what a loop walks may be a table: it is a fetch, or a variable that is given one somewhere before it in its method.
 function over_table(self,    at) {
+    if (ENVIRON["FETCHES"] != "") return asks(self)
     at = first[self]
     if (token[at] == "for") {
         for (at += 2; token[at] != ":"; at++) continue
@@ -120,7 +131,7 @@ function find_silence(    number, text, from, to, on, member, block, place) {
         text = between(comment_line[number], comment_column[number], comment_last[number], comment_end[number])
         if (!match(text, /(^|[^A-Za-z0-9_:-])qbs:off([^A-Za-z0-9_-]|$)/)) continue
         text = substr(text, RSTART + RLENGTH - 1)
-        off_rules[++offs] = match(text, /^([ ,]*K[1-9])+/) ? substr(text, 1, RLENGTH) : ""
+        off_rules[++offs] = match(text, /^([ ,]*(K[1-9]|V1[0-2]|V[1-9]))+/) ? substr(text, 1, RLENGTH) " " : ""
         from = comment_next[number]
         on = from > 1 && token_last[from - 1] == comment_line[number] ? comment_line[number] : 0
         off_line[offs] = on
@@ -151,13 +162,51 @@ function find_silence(    number, text, from, to, on, member, block, place) {
 function is_silent(number,    off, at, self) {
     at = first[loop[number]]
     for (off = 1; off <= offs; off++) {
-        if (off_rules[off] != "" && (rule[number] == "" || !index(off_rules[off], rule[number]))) continue
+        if (off_rules[off] != "" && (rule[number] == "" || off_rules[off] !~ rule[number] "[ ,KV]")) continue
         if (off_last[off] && at >= off_first[off] && at <= off_last[off]) return 1
         if (off_line[off] && rule[number] != "" && where_line[number] == off_line[off]) return 1
         for (self = loop[number]; self && off_line[off]; self = up[self]) if (kind_of[self] == "loop" && token_line[first[self]] == off_line[off]) return 1
     }
     return 0
 }
+# Whether a loop of a real file has to do with the database: a fetch of the map, or the beginning of a question, stands in it, or its head names a variable that is given one,
+# or something of such a variable. The file FETCHES has a line of tokens for each.
+function asks(self,    at, to, member) {
+    if (!fetched) find_fetches()
+    if (fetches_to[last[self]] > fetches_to[first[self] - 1]) return 1
+    member = member_of[self]
+    to = closing(first[self] + 1)
+    if (token[first[self]] != "do") for (at = first[self] + 2; at < to; at++) if ((member, token[at]) in fetch_of && fetch_of[member, token[at]] < first[self]) return 1
+    return 0
+}
+function find_fetches(    line, number, at, part, size, member, target) {
+    fetched = 1
+    while ((getline line <ENVIRON["FETCHES"]) > 0) {
+        fetch[++fetches] = line
+        split(line, part, " ")
+        begin_with[part[1]] = begin_with[part[1]] " " fetches
+    }
+    member = 1
+    for (at = 1; at <= total; at++) {
+        fetches_to[at] = fetches_to[at - 1]
+        while (member < members && member_last[member] < at) member++
+        if (token[at] ~ /^[;{}]$/) target = ""
+        else if (token[at] == "=") target = token[at - 1]
+        if (target != "" && (member, token[at]) in fetch_of && !((member, target) in fetch_of)) fetch_of[member, target] = at
+        if (!(token[at] in begin_with)) continue
+        size = split(begin_with[token[at]], part, " ")
+        for (number = 1; number <= size; number++) if (stands_at(fetch[part[number]], at)) break
+        if (number > size) continue
+        fetches_to[at]++
+        if (target != "" && !((member, target) in fetch_of)) fetch_of[member, target] = at
+    }
+}
+function stands_at(tokens_of, at,    number, part, size) {
+    size = split(tokens_of, part, " ")
+    for (number = 1; number <= size; number++) if (token[at + number - 1] != part[number]) return 0
+    return 1
+}
+
 # Whether the loop of this number is silenced; it counts those over a table that stand in no other one. To be asked once for each loop, in the order of the file.
 function passed_over(number,    self) {
     if (!is_silent(number)) return 0

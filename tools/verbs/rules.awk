@@ -10,6 +10,10 @@ FILENAME == ARGV[1] {
     if (/^### /) {
         name = substr($0, 5)
         sub(/: .*/, "", name)
+        if (name ~ /^view [0-9]+ /) {
+            split(name, part, " ")
+            name = "V" part[2]
+        }
         inside = name in wanted
         if (inside) {
             if (!rules++) print "<h2 class=\"rules\">Rules</h2>"

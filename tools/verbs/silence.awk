@@ -30,7 +30,7 @@ function hold(self,    at) {
     if (token[at] == "{") before[at + 1] = ENVIRON["MARK"] before[at + 1]
     else {
         before[at] = "{/**/" ENVIRON["MARK"] before[at]
-        after[last[self]] = after[last[self]] "}" ENVIRON["END_MARK"]
+        after[body_last[self]] = after[body_last[self]] "}" ENVIRON["END_MARK"]
     }
 }
 function put(line, column, text) {

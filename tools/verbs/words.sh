@@ -30,7 +30,7 @@ begin() {
             ;;
         --all | --keep-comments | --inline) option "$1" yes ;;
         --*=*) option "${1%%=*}" "${1#*=}" ;;
-        --only | --size | --candidates | --format | --fail-on | --stdin-name | --schema)
+        --only | --size | --candidates | --format | --fail-on | --stdin-name | --schema | --view)
             [ "$#" -gt 1 ] || refuse "$1 has no value"
             option "$1" "$2"
             shift
@@ -51,6 +51,7 @@ begin() {
     fi
     [ "$#" -gt 0 ] || refuse "FILE.. is wanted"
     for word in "$@"; do add_files "$word"; done
+    fit_views
     # (for the page, which says what it was made with)
     schema=
     options=()
@@ -63,8 +64,21 @@ begin() {
         options+=("--candidates=$value")
         set_for 0 only ''
         [ -z "$value" ] || options+=("--only=$value")
+        set_for 0 view ''
+        [ -z "$value" ] || options+=("--view=$value")
     fi
     [ "$left_out" = 0 ] || say "$verb: files that qbs.conf leaves out: $left_out"
+}
+# fit_views: with a map no more than rewrite is used, so what asks for something else is refused.
+fit_views() {
+    local number value
+    for number in "${!files[@]}"; do
+        set_for "$number" view ''
+        [ -n "$value" ] || continue
+        [ -z "${says['0 inline']:-}" ] || refuse "--inline doesn't go with --view"
+        set_for "$number" only rewrite
+        case ,$value, in *,rewrite,*) ;; *) refuse "--view goes with rewrite alone, and --only leaves it out" ;; esac
+    done
 }
 is_source() { [ "$1" = - ] || [ -d "$1" ] || [[ $1 == *.java ]]; }
 
@@ -72,7 +86,7 @@ is_source() { [ "$1" = - ] || [ -d "$1" ] || [[ $1 == *.java ]]; }
 option() {
     local name=${1#--}
     case $verb,$name in
-    *,only | *,size | *,candidates | *,stdin-name | *,schema | *,keep-comments) ;;
+    *,only | *,size | *,candidates | *,stdin-name | *,schema | *,view | *,keep-comments) ;;
     lint,format | lint,fail-on | lint,all | lint,inline | diff,inline | apply,inline) ;;
     *,format | *,fail-on | *,all | *,inline) refuse "$1 is no option of it" ;;
     *) refuse "an option that it doesn't have" ;;
@@ -90,12 +104,12 @@ fits() {
     candidates) number "$2" 1 1000000 || why="--candidates is a number from 1 to 1000000" ;;
     format) case $2 in text | github | json | sarif) ;; *) why="--format is text, github, json or sarif" ;; esac ;;
     keep-comments) case $2 in yes | no) ;; *) why="--keep-comments is yes or no" ;; esac ;;
-    schema | stdin-name) [ -n "$2" ] || why="--$1 names a file" ;;
+    schema | stdin-name | view) [ -n "$2" ] || why="--$1 names a file" ;;
     fail-on)
         for kind in ${2//,/ }; do
-            case $kind in found | unnested | narrowed | outside | none | budget | stays | error) ;; *) why="--fail-on has found, unnested, narrowed, outside, none, budget, stays and error, parted by commas" ;; esac
+            case $kind in found | unnested | narrowed | outside | none | budget | stays | unseen | shared | unlike | error | [KV][1-9] | V1[0-2]) ;; *) why=$fails ;; esac
         done
-        case $2 in *[!a-z,]*) why="--fail-on has found, unnested, narrowed, outside, none, budget, stays and error, parted by commas" ;; esac
+        case $2 in *[!a-zKV0-9,]*) why=$fails ;; esac
         ;;
     all | inline) [ "$2" = yes ] || why="--$1 has no value" ;;
     only)
@@ -108,6 +122,7 @@ fits() {
     esac
     [ -z "$why" ]
 }
+fails='--fail-on has found, unnested, narrowed, outside, none, budget, stays, unseen, shared, unlike, error and rules as K4 and V7, parted by commas'
 number() {
     case $1 in '' | *[!0-9]* | ????????*) return 1 ;; esac
     [ "$((10#$1))" -ge "$2" ] && [ "$((10#$1))" -le "$3" ]
@@ -217,13 +232,13 @@ read_conf() {
             says["$confs leave-out"]=${says["$confs leave-out"]:-}$value$'\n'
             continue
             ;;
-        schema | size | candidates | only | fail-on | keep-comments) ;;
-        *) wrong_conf "$1/qbs.conf:$at: its names are schema, size, candidates, only, fail-on, keep-comments and leave-out" ;;
+        schema | view | size | candidates | only | fail-on | keep-comments) ;;
+        *) wrong_conf "$1/qbs.conf:$at: its names are schema, view, size, candidates, only, fail-on, keep-comments and leave-out" ;;
         esac
         case $name in fail-on | only) value=${value//[$blank]/} ;; esac
         [ -z "${says["$confs $name"]+x}" ] || wrong_conf "$1/qbs.conf:$at: $name stands twice"
         fits "$name" "$value" || wrong_conf "$1/qbs.conf:$at: ${why#--}"
-        [ "$name" != schema ] || case $value in /*) ;; *) value=$1/$value ;; esac
+        case $name,$value in schema,/* | view,/*) ;; schema,* | view,*) value=$1/$value ;; esac
         says["$confs $name"]=$value
     done <"$1/qbs.conf"
 }

@@ -10,6 +10,7 @@ take() {
 outputs() {
     local limits=()
     case $pass in rewrite | unnest) limits=("--size=$size" "--candidates=$candidates") ;; esac
+    [ -z "$map_read" ] || limits+=("--view=$map_read")
     "$program" "$pass" ${limits[@]+"${limits[@]}"} -- "$schema_read" "$2" >"$1.made" 2>"$1.report"
     status=$?
     echo "$status" >"$1.status"
@@ -18,6 +19,18 @@ outputs() {
 knows() {
     "$program" "$1" -- /dev/null /dev/null >/dev/null 2>&1
     [ $? != 14 ]
+}
+# probe_views: whether the program rewrites by a map, where a file wants that.
+probe_views() {
+    local number value
+    for number in "${!files[@]}"; do
+        set_for "$number" view ''
+        [ -n "$value" ] || continue
+        "$program" rewrite --view=/dev/null -- /dev/null /dev/null >/dev/null 2>&1
+        [ $? = 14 ] || return 0
+        say "$verb: the program has no rewrite --view"
+        exit 2
+    done
 }
 # probe_passes: which of unnest and narrow the program has, asked once for all files that use them, in `known`.
 probe_passes() {
@@ -28,6 +41,8 @@ probe_passes() {
         exit 2
     fi
     for number in "${!files[@]}"; do
+        set_for "$number" view ''
+        [ -z "$value" ] || continue
         set_for "$number" only rewrite,unnest,narrow
         for kind in unnest narrow; do
             case ,$value, in *,"$kind",*) ;; *) continue ;; esac
@@ -37,6 +52,8 @@ probe_passes() {
         done
     done
     for number in "${!files[@]}"; do
+        set_for "$number" view ''
+        [ -z "$value" ] || continue
         set_for "$number" only ''
         for kind in unnest narrow; do
             case ,$value, in *,"$kind",*) ;; *) continue ;; esac
@@ -67,7 +84,7 @@ whole() {
 
 # try NUMBER: takes one file, and leaves its new text (.text), what there is to say of it (.findings), and the diff of both (.diff).
 try() {
-    local at=$room/$1 name=${files[$1]} size candidates keep value schema_read passes passes_said
+    local at=$room/$1 name=${files[$1]} size candidates keep value schema_read map_read passes passes_said
     [ "$1" != "${stdin_number:-}" ] || name=$room/stdin
     if ! take "$name" 1048577 "$at.java"; then
         echo read >"$at.status"
@@ -82,6 +99,10 @@ try() {
     schema_of "$1"
     passes_of "$1"
     # (each copy has to be whole: a disk may be full)
+    if [ -n "$map_read" ]; then
+        if ! { : >"$at.findings" && : >"$at.diff" && go_by_view "$at"; }; then echo broken >"$at.status"; fi
+        return
+    fi
     if ! { : >"$at.findings" && : >"$at.diff" && cp "$at.java" "$at.text" && go_through "$at"; }; then echo broken >"$at.status"; fi
 }
 # go_through AT: the passes, each on what the one before it wrote (.before), with what it did (.PASS.moves). One that ends with another status than 0 is the last.
@@ -99,6 +120,31 @@ go_through() {
     done
     [ "${passes[*]}" = rewrite ] || joined "$1" || return
     diff -a "$1.java" "$1.text" >"$1.diff" || [ $? = 1 ]
+}
+# go_by_view AT: the same of a real file, which goes through rewrite alone. What the program writes is the text.
+go_by_view() {
+    local pass=rewrite status mark=
+    outputs "$1" "$1.java"
+    case $status in
+    0) ;;
+    5 | 16)
+        faults "$1"
+        return
+        ;;
+    *) return 0 ;;
+    esac
+    if [[ $(<"$1.report") == loop* ]]; then
+        export FETCHES=$map_read.fetches
+        if has -aqF 'qbs:off' "$1.java"; then
+            cp "$1.java" "$1.read" && silence "$1" || return
+            [ "$(<"$1.status")" = 0 ] || return 0
+        fi
+        MARK=${mark:+"System.out.println(\"$mark\");"} END_MARK=${mark:+"/*$mark*/"} SHIFTS=${mark:+"$1.shifts"} TO=$1.new SILENCED=$1.silenced SIZE=$size CANDIDATES=$candidates \
+            awk -f "$verbs/java.awk" -f "$verbs/places.awk" -f "$verbs/viewed.awk" "$rules" "$1.report" <(whole "$1.java") <(whole "$1.made") >"$1.findings" || return
+        [ -z "$mark" ] || tr '\377' '\000' <"$1.new" >"$1.made" || return
+    fi
+    mv "$1.made" "$1.text" || return
+    alike "$1.java" "$1.text" || diff -a "$1.java" "$1.text" >"$1.diff" || [ $? = 1 ]
 }
 
 # as_read AT: the (int) that stand where apply writes them are blank to the program.
@@ -181,22 +227,33 @@ faults() {
         left=$1.left
         outputs "$1" "$left"
     done
-    [ "$first" != 5 ] || cp "$1.report" "$1.faults" || return
+    case $first in 5 | 16) cp "$1.report" "$1.faults" || return ;; esac
     echo "$first" >"$1.status" || return
-    if [ "$first" = 5 ]; then left=$schema_read; else left=$1.java; fi
+    case $first in 5) left=$schema_read ;; 16) left=$map_read ;; *) left=$1.java ;; esac
     INLINE=$by_inline CHARACTERS=yes awk -f "$verbs/java.awk" -f "$verbs/faults.awk" -f "$verbs/constructs.awk" "$rules" "$verbs/../cures.tsv" "$1.faults" <(whole "$left") >"$1.findings"
 }
 
-# schema_of N: the copy of the schema of a file, in `schema_read`.
+# schema_of N: the copies of the schema and of the map of a file, in `schema_read` and `map_read`, which is empty where there is none.
 schema_of() {
     schema_read=$room/schema.${conf[$1]}.sql
     [ -z "${says['0 schema']+x}" ] || schema_read=$room/schema.0.sql
+    map_read=
+    [ -z "${says["${conf[$1]} view"]+x}" ] || map_read=$room/view.${conf[$1]}.map
+    [ -z "${says['0 view']+x}" ] || map_read=$room/view.0.map
 }
-# take_schemas: a copy of each schema there is.
+# take_schemas: a copy of each schema and each map there is, and of a map what it asks by.
 take_schemas() {
-    local number schema_read
+    local number schema_read map_read
     for number in "${!files[@]}"; do
         schema_of "$number"
+        if [ -n "$map_read" ] && [ ! -e "$map_read" ]; then
+            set_for "$number" view ''
+            if ! take "$value" 262145 "$map_read"; then
+                say "$verb: read $value"
+                exit 2
+            fi
+            whole "$map_read" | awk -f "$verbs/java.awk" -f "$verbs/fetches.awk" >"$map_read.fetches" || broken awk
+        fi
         set_for "$number" schema ''
         [ -n "$value" ] || refuse "no schema for ${files[$number]}"
         [ ! -e "$schema_read" ] || continue
@@ -240,6 +297,7 @@ draw_named() {
 try_all() {
     local number running=0 most
     take_schemas
+    probe_views
     probe_passes
     most=$(nproc 2>/dev/null || echo 2)
     if [ -t 2 ]; then
@@ -316,6 +374,7 @@ judged() {
     case $status in
     0) return 0 ;;
     5) fault=schema ;;
+    16) fault=map ;;
     6 | 7) fault=source ;;
     read) say "$verb: read ${files[$1]}" ;;
     2) refuse "a number out of range, or an option twice" ;;
@@ -325,11 +384,11 @@ judged() {
         say "$verb: memory, for ${files[$1]}$(too_deep "$at")"
         ;;
     13)
-        if has -q schema "$at.report"; then
-            say "$verb: limit: schema"
+        if has -qE 'schema|map' "$at.report"; then
+            say "$verb: $(sed 's/^qbs: //' "$at.report")"
             exit 2
         fi
-        say "$verb: limit: source, more than 1 MiB in ${files[$1]}"
+        if has -q view "$at.report"; then say "$verb: limit: view, more than 1 MiB is seen of ${files[$1]}"; else say "$verb: limit: source, more than 1 MiB in ${files[$1]}"; fi
         ;;
     *) say "$verb: the program ended with status ${status:-none} for ${files[$1]}" ;;
     esac
@@ -341,19 +400,22 @@ judged() {
 # lines NUMBER FORMAT [COLOUR]: the findings of a file as lines. Where the schema has the fault, they are of it.
 lines() {
     local file=${files[$1]} value
-    if [ "$fault" = schema ]; then
-        set_for "$1" schema ''
+    case $fault in schema | map)
+        set_for "$1" "${fault/map/view}" ''
         file=$value
-    fi
+        ;;
+    esac
     FILE=$file awk -v format="$2" -v colour="${3:-}" -f "$verbs/bytes.awk" -f "$verbs/format.awk" "$room/$1.findings" || broken awk
 }
 # in_colour FD: whether what is written there may have colours.
 in_colour() { [ -t "$1" ] && [ -z "${NO_COLOR:-}" ] && [ "${TERM:-dumb}" != dumb ]; }
-# say_faults NUMBER: the lines of a file that isn't read, on standard error. A fault of the schema is an end.
+# of_all: whether the fault is one of the schema or the map, so of every file.
+of_all() { [ "$fault" = schema ] || [ "$fault" = map ]; }
+# say_faults NUMBER: the lines of a file that isn't read, on standard error. A fault of the schema or the map is an end.
 say_faults() {
     local colour=
     ! in_colour 2 || colour=yes
     lines "$1" text "$colour" >&2
     unread=1
-    [ "$fault" != schema ] || exit 2
+    ! of_all || exit 2
 }
